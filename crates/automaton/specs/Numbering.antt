@@ -1,0 +1,124 @@
+-- The numbered Thompson tree automaton of a rule, word by word (document 01, "Numbered automaton"; document 000, section
+-- 3). Assumes nothing.
+use Prim.Native.Nat.{ℕ, zero, suc, _+_, _-_}
+use mathlib.Core.List.{List, [], _∷_, _++_, map, flatMap, reverse}
+use mathlib.Core.Bool.{Bool, true, false, not, cond}
+use lib.ListN.{length, getD, take, drop}
+use lib.Dec.{eqb}
+use Rattle.words.specs.Word.{symbolKind, unionKind, productKind, closureKind, hasKind, lowByte}
+use Rattle.words.specs.Alphabet.{constantsOf}
+use Rattle.words.specs.Postfix.{arity}
+use Rattle.automaton.specs.Transition.{Transition, Automaton, onSymbol, epsilon, tableWords}
+
+-- a word's states: its exit, and its entries, each a constant with the state for it
+pub record Port : Type 0 where
+  pub exit : ℕ
+  pub entries : List (ℕ × ℕ)
+
+-- the constants, each with a state, from state n on
+abbrev pub numbered : ℕ → List ℕ → List (ℕ × ℕ)
+numbered n [] = []
+numbered n (c ∷ cs) = (c, n) ∷ numbered (suc n) cs
+
+-- a word with entries: any but a constant and the empty language
+unfoldable pub hasEntries : List ℕ → ℕ → Bool
+hasEntries a w = not (eqb (arity a w) 0)
+
+-- "A constant or empty word gets one, its exit. Any other word gets its exit, then one entry for each constant"
+unfoldable pub statesOf : List ℕ → ℕ → ℕ
+statesOf a w = suc (cond (hasEntries a w) (length (constantsOf a)) 0)
+
+-- "A constant's exit is also its entry for itself; it has no other entry, and the empty word has none."
+abbrev pub ownEntry : ℕ → ℕ → List (ℕ × ℕ)
+ownEntry n w = cond (hasKind symbolKind w) ((lowByte w, n) ∷ []) []
+
+-- the states of word w, of which n is the first
+unfoldable pub portOf : List ℕ → ℕ → ℕ → Port
+portOf a n w = record {
+  exit = n;
+  entries = cond (hasEntries a w) (numbered (suc n) (constantsOf a)) (ownEntry n w);
+}
+
+-- the entry for a constant, or none
+abbrev pub lookup : List (ℕ × ℕ) → ℕ → List ℕ
+lookup [] c = []
+lookup (e ∷ es) c = let rest = lookup es c in cond (eqb (e .0) c) (e .1 ∷ rest) rest
+
+abbrev pub entryFor : Port → ℕ → List ℕ
+entryFor P c = lookup (P .entries) c
+
+-- empty moves from p to each state of a list; a move that names a missing entry is omitted
+abbrev pub epsilons : ℕ → List ℕ → List Transition
+epsilons p qs = map (λ q. epsilon p q) qs
+
+-- empty moves from each entry to the states that `targets` gives for its constant
+abbrev pub fan : List (ℕ × ℕ) → (ℕ → List ℕ) → List Transition
+fan [] targets = []
+fan (e ∷ es) targets = epsilons (e .1) (targets (e .0)) ++ fan es targets
+
+-- the transitions of a word with states E over its children's states, "ordered by from and then by to"
+
+-- "Symbol: E's entry for each constant to that entry of each part."
+abbrev pub symbolTransitions : ℕ → Port → List Port → List Transition
+symbolTransitions f E Ps = onSymbol f (map (λ P. P .exit) Ps) (E .exit) ∷ fan (E .entries) (λ c. flatMap (λ P. entryFor P c) Ps)
+
+-- "Union: the same to both parts; both exits to E's exit."
+abbrev pub unionTransitions : Port → Port → Port → List Transition
+unionTransitions E F G =
+    epsilon (F .exit) (E .exit) ∷ epsilon (G .exit) (E .exit) ∷ fan (E .entries) (λ c. entryFor F c ++ entryFor G c)
+
+-- "Product: each entry to G's; each but c's to F's; G's exit to F's entry for c; F's exit to E's exit."
+abbrev pub productTransitions : ℕ → Port → Port → Port → List Transition
+productTransitions c E F G =
+    epsilon (F .exit) (E .exit) ∷ (epsilons (G .exit) (entryFor F c)
+    ++ fan (E .entries) (λ b. cond (eqb b c) [] (entryFor F b) ++ entryFor G b))
+
+-- "Closure: each entry to F's; E's entry for c to E's exit; F's exit to F's entry for c and to E's exit."
+abbrev pub closureTransitions : ℕ → Port → Port → List Transition
+closureTransitions c E F =
+    epsilons (F .exit) (entryFor F c ++ (E .exit ∷ []))
+    ++ fan (E .entries) (λ b. entryFor F b ++ cond (eqb b c) (E .exit ∷ []) [])
+
+-- child i, where there is one
+abbrev pub childPort : List Port → ℕ → Port
+childPort Ps i = getD Ps i (record { exit = 0; entries = [] })
+
+-- the own transitions of word w; a constant and the empty language have none
+unfoldable pub ownTransitions : ℕ → Port → List Port → List Transition
+ownTransitions w E [] = []
+ownTransitions w E (P ∷ Ps) =
+    cond (hasKind symbolKind w) (symbolTransitions (lowByte w) E (P ∷ Ps))
+    (cond (hasKind unionKind w) (unionTransitions E P (childPort Ps 0))
+    (cond (hasKind productKind w) (productTransitions (lowByte w) E P (childPort Ps 0))
+    (cond (hasKind closureKind w) (closureTransitions (lowByte w) E P)
+    [])))
+
+-- "Rule words in order get consecutive states from 0": the states of the words, from state n on
+unfoldable pub portsFrom : List ℕ → ℕ → List ℕ → List Port
+portsFrom a n [] = []
+portsFrom a n (w ∷ ws) = portOf a n w ∷ portsFrom a (n + statesOf a w) ws
+
+-- the first state behind those of the words
+unfoldable pub statesAfter : List ℕ → ℕ → List ℕ → ℕ
+statesAfter a n [] = n
+statesAfter a n (w ∷ ws) = statesAfter a (n + statesOf a w) ws
+
+-- the own transitions of the words in order, from state n on, over a stack of their children's states
+unfoldable pub transitionsFrom : List ℕ → ℕ → List ℕ → List Port → List Transition
+transitionsFrom a n [] stack = []
+transitionsFrom a n (w ∷ ws) stack =
+    ownTransitions w (portOf a n w) (reverse (take (arity a w) stack))
+    ++ transitionsFrom a (n + statesOf a w) ws (portOf a n w ∷ drop (arity a w) stack)
+
+-- the states of the last word
+abbrev pub lastPort : List ℕ → List ℕ → Port
+lastPort a e = childPort (portsFrom a 0 e) (length e - 1)
+
+-- "The table is the head, with the last word's exit as final state; the symbol moves of the constants into the last word's
+-- entries, in symbol order; then for each rule word its symbol move .. and its empty moves"
+unfoldable pub compiled : List ℕ → List ℕ → Automaton
+compiled a e = record {
+  states = statesAfter a 0 e;
+  final = lastPort a e .exit;
+  transitions = map (λ c. onSymbol (c .0) [] (c .1)) (lastPort a e .entries) ++ transitionsFrom a 0 e [];
+}

@@ -1,0 +1,60 @@
+-- State sets (document 01's marks of one element): a node's set from its children's. Assumes nothing.
+use Prim.Native.Nat.{ℕ, zero, suc, _+_, _/_, _%_, _^_}
+use mathlib.Core.List.{List, [], _∷_}
+use mathlib.Core.Bool.{Bool, true, false, cond, _&&_}
+use lib.ListN.{getD, set, replicate}
+use lib.Dec.{eqb}
+use lib.Bits.{bitOr}
+use Rattle.automaton.specs.Transition.{Transition, Automaton, onSymbol, epsilon}
+
+-- the words of one state set
+abbrev pub StateSet : Type 0
+StateSet = List ℕ
+
+-- "S is the state count divided by 32, rounded up."
+unfoldable pub sizeFor : ℕ → ℕ
+sizeFor states = (states + 31) / 32
+
+-- "bit s mod 32 (bit 0 lowest) of word s / 32 is set"
+unfoldable pub contains : StateSet → ℕ → Bool
+contains r s = eqb (getD r (s / 32) 0 / 2 ^ (s % 32) % 2) 1
+
+unfoldable pub insert : StateSet → ℕ → StateSet
+insert r s = set r (s / 32) (bitOr (getD r (s / 32) 0) (2 ^ (s % 32)))
+
+-- the part states are all in the children's sets
+unfoldable pub allContained : List ℕ → List StateSet → Bool
+allContained [] [] = true
+allContained [] (r ∷ rs) = false
+allContained (p ∷ ps) [] = false
+allContained (p ∷ ps) (r ∷ rs) = contains r p && allContained ps rs
+
+-- the set with the target of a symbol move on f "whose part states are all marked in its parts"
+abbrev pub moved : ℕ → List StateSet → Transition → StateSet → StateSet
+moved f rs (onSymbol g ps q) r = cond (eqb g f && allContained ps rs) (insert r q) r
+moved f rs (epsilon p q) r = r
+
+-- the set with the target of an empty move from one of its states
+abbrev pub swept : Transition → StateSet → StateSet
+swept (onSymbol g ps q) r = r
+swept (epsilon p q) r = cond (contains r p) (insert r q) r
+
+unfoldable pub move : ℕ → List StateSet → List Transition → StateSet → StateSet
+move f rs [] r = r
+move f rs (t ∷ ts) r = move f rs ts (moved f rs t r)
+
+-- one pass over the empty moves
+unfoldable pub sweep : List Transition → StateSet → StateSet
+sweep [] r = r
+sweep (t ∷ ts) r = sweep ts (swept t r)
+
+unfoldable pub sweeps : ℕ → List Transition → StateSet → StateSet
+sweeps zero ts r = r
+sweeps (suc n) ts r = sweeps n ts (sweep ts r)
+
+-- "for every state s, bit s mod 32 of word s / 32 is set exactly if s is reached": by symbol moves, and then by empty
+-- moves. As many passes as there are states reach every state: the law `stateSet-reached` says that a state is in this
+-- set exactly if it is `Reached`.
+unfoldable pub stateSet : Automaton → ℕ → List StateSet → StateSet
+stateSet A f rs =
+    sweeps (A .states) (A .transitions) (move f rs (A .transitions) (replicate (sizeFor (A .states)) 0))

@@ -1,0 +1,41 @@
+-- Tables (document 01, kinds 8 to 11): which words are a table for an alphabet, refusal 8. Assumes nothing.
+use Prim.Native.Nat.{ℕ, zero, suc, _+_, _/_}
+use mathlib.Core.List.{List, [], _∷_}
+use mathlib.Core.Bool.{Bool, true, false, not, cond, _&&_, _||_}
+use lib.ListN.{length}
+use lib.Dec.{ltb, leb, eqb}
+use Rattle.words.specs.Word.{headKind, transitionKind, epsilonKind, sourceKind, hasKind, isOf, symbolAbove, countAbove, stateAbove, stateBelow}
+use Rattle.words.specs.Alphabet.{isSymbol, rankOf}
+
+-- "head wrong, state count 0 or over 1,024, a state not below it"
+unfoldable pub isHead : ℕ → Bool
+isHead w = isOf headKind w && ltb 0 (countAbove w) && leb (countAbove w) 1024 && ltb (stateBelow w) (countAbove w)
+
+-- a symbol move or an empty move over n states: a known symbol, and states below n
+abbrev pub isTransition : List ℕ → ℕ → ℕ → Bool
+isTransition a n w =
+    isOf transitionKind w && isSymbol a (symbolAbove w) && ltb (stateBelow w) n
+    || isOf epsilonKind w && ltb (stateAbove w) n && ltb (stateBelow w) n
+
+-- the word may stand where k part states are still to come
+unfoldable pub isTableWord : List ℕ → ℕ → ℕ → ℕ → Bool
+isTableWord a n zero w = isTransition a n w
+isTableWord a n (suc k) w = isOf sourceKind w && ltb (stateBelow w) n
+
+-- how many part states are to come behind it: a symbol move is followed by rank-many
+unfoldable pub sourcesLeft : List ℕ → ℕ → ℕ → ℕ
+sourcesLeft a zero w = cond (hasKind transitionKind w) (rankOf a (symbolAbove w)) 0
+sourcesLeft a (suc k) w = k
+
+unfoldable pub areTransitions : List ℕ → ℕ → ℕ → List ℕ → Bool
+areTransitions a n k [] = eqb k 0
+areTransitions a n k (w ∷ ws) = isTableWord a n k w && areTransitions a n (sourcesLeft a k w) ws
+
+unfoldable pub isTable : List ℕ → List ℕ → Bool
+isTable a [] = false
+isTable a (h ∷ ws) = leb (length (h ∷ ws)) 2048 && isHead h && areTransitions a (countAbove h) 0 ws
+
+-- 8: "table empty or over 2,048 words, head wrong, state count 0 or over 1,024, a state not below it, unknown symbol,
+-- wrong following words, spare bits set or any other kind"
+unfoldable pub noTable : List ℕ → List ℕ → Bool
+noTable a table = not (isTable a table)

@@ -1,0 +1,56 @@
+-- Bottom-up tree automata with epsilon transitions, and their words (document 01's table, kinds 8 to 11): the encoder and
+-- the decoder. Assumes nothing.
+use Prim.Native.Nat.{ℕ, _+_, _*_}
+use mathlib.Core.List.{List, [], _∷_, _++_, map}
+use mathlib.Core.Bool.{cond}
+use lib.ListN.{getD, drop}
+use Rattle.words.specs.Word.{headKind, transitionKind, epsilonKind, sourceKind, hasKind, wordOf, symbolAbove, countAbove, stateAbove, stateBelow}
+
+-- a symbol move: on this symbol, from these states of the children, to a state; an empty move: from a state to a state
+pub data Transition : Type 0 where
+  onSymbol : ℕ → List ℕ → ℕ → Transition
+  epsilon : ℕ → ℕ → Transition
+
+-- states are numbered from 0
+pub record Automaton : Type 0 where
+  pub states : ℕ
+  pub final : ℕ
+  pub transitions : List Transition
+
+-- "symbol move, followed by rank-many words of kind 11": bits 17..10 symbol, bits 9..0 target; a part state: bits 9..0.
+-- "empty move": bits 19..10 from, bits 9..0 to.
+abbrev pub transitionWords : Transition → List ℕ
+transitionWords (onSymbol f ps q) = wordOf transitionKind (f * 1024 + q) ∷ map (λ p. wordOf sourceKind p) ps
+transitionWords (epsilon p q) = wordOf epsilonKind (p * 1024 + q) ∷ []
+
+abbrev pub transitionsWords : List Transition → List ℕ
+transitionsWords [] = []
+transitionsWords (t ∷ ts) = transitionWords t ++ transitionsWords ts
+
+-- "table head": bits 20..10 state count, bits 9..0 final state
+abbrev pub headWord : Automaton → ℕ
+headWord A = wordOf headKind (A .states * 1024 + A .final)
+
+-- the table of an automaton: its head, and its transitions in order
+abbrev pub tableWords : Automaton → List ℕ
+tableWords A = headWord A ∷ transitionsWords (A .transitions)
+
+-- The decoder: a symbol move takes the part states that follow it.
+abbrev pub sourcesAt : List ℕ → List ℕ
+sourcesAt [] = []
+sourcesAt (w ∷ ws) = let rest = sourcesAt ws in cond (hasKind sourceKind w) (stateBelow w ∷ rest) []
+
+unfoldable pub transitionsAt : List ℕ → List Transition
+transitionsAt [] = []
+transitionsAt (w ∷ ws) =
+    let rest = transitionsAt ws in
+    cond (hasKind transitionKind w) (onSymbol (symbolAbove w) (sourcesAt ws) (stateBelow w) ∷ rest)
+    (cond (hasKind epsilonKind w) (epsilon (stateAbove w) (stateBelow w) ∷ rest) rest)
+
+-- the automaton of a table's words
+unfoldable pub automatonOf : List ℕ → Automaton
+automatonOf table = record {
+  states = countAbove (getD table 0 0);
+  final = stateBelow (getD table 0 0);
+  transitions = transitionsAt (drop 1 table);
+}

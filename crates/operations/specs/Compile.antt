@@ -1,0 +1,40 @@
+-- Compile: refusals 1 to 7, the answer, and the table slice at exit. Assumes nothing.
+use Prim.Native.Nat.{ℕ}
+use mathlib.Core.List.{List, [], _∷_, _++_}
+use mathlib.Core.Bool.{Bool}
+use lib.ListN.{length, drop}
+use lib.Dec.{ltb}
+use Rattle.words.specs.Refusal.{Refusals, refusal}
+use Rattle.words.specs.Alphabet.{alphabetRefusals}
+use Rattle.words.specs.Expression.{expressionRefusals}
+use Rattle.automaton.specs.Transition.{tableWords}
+use Rattle.automaton.specs.Numbering.{compiled}
+use Rattle.operations.specs.Answer.{Answer, answerOf, exitOf}
+
+-- the table of a rule
+abbrev pub compiledTable : List ℕ → List ℕ → List ℕ
+compiledTable a e = tableWords (compiled a e)
+
+-- 6: "over 1,024 states"
+unfoldable pub tooManyStates : List ℕ → List ℕ → Bool
+tooManyStates a e = ltb 1024 (compiled a e .states)
+
+-- 7: "table slice shorter than the table"; `room` is the slice's length
+unfoldable pub tableTooLong : List ℕ → List ℕ → ℕ → Bool
+tableTooLong a e room = ltb room (length (compiledTable a e))
+
+abbrev pub compileRefusals : List ℕ → List ℕ → ℕ → Refusals
+compileRefusals a e room =
+    alphabetRefusals a ++ (expressionRefusals a e ++ ((6, tooManyStates a e) ∷ (7, tableTooLong a e room) ∷ []))
+
+abbrev pub compileFault : List ℕ → List ℕ → ℕ → ℕ
+compileFault a e room = refusal (compileRefusals a e room)
+
+-- Compile "answers its word count"
+unfoldable pub compileAnswer : List ℕ → List ℕ → List ℕ → Answer
+compileAnswer a e slice = answerOf (compileFault a e (length slice)) (length (compiledTable a e) ∷ [])
+
+-- the table slice at exit: "Words of the slice behind the table are untouched."
+unfoldable pub compileExit : List ℕ → List ℕ → List ℕ → List ℕ
+compileExit a e slice =
+    exitOf (compileFault a e (length slice)) (compiledTable a e ++ drop (length (compiledTable a e)) slice) slice

@@ -1,0 +1,124 @@
+-- Exchange: refusals 1 2 8 9 10 11 12 14 15 16, which nodes are recomputed (document 01's worked out) and from what, the
+-- answer, and both slices at exit. Nothing is assumed of the stored marks.
+use Prim.Native.Nat.{ℕ, zero, suc, _+_, _*_}
+use mathlib.Core.List.{List, [], _∷_, _++_, flatten, map}
+use mathlib.Core.Bool.{Bool, not, cond, _&&_, _||_}
+use lib.ListN.{length, getD, take, drop}
+use lib.Dec.{eqb, ltb}
+use Rattle.words.specs.Lists.{all, listFrom}
+use Rattle.words.specs.Refusal.{Refusals, refusal}
+use Rattle.words.specs.Alphabet.{alphabetRefusals}
+use Rattle.words.specs.Chapter.{isNode, treeRefusals}
+use Rattle.words.specs.Postfix.{arity, oneTree, startOf, isAncestor, splice, valueOn, stackAfter, stackGiven}
+use Rattle.automaton.specs.Table.{noTable}
+use Rattle.automaton.specs.StateSet.{StateSet}
+use Rattle.operations.specs.Answer.{Answer, answerOf, exitOf}
+use Rattle.operations.specs.Marks.{sizeOf, nodeSet, nodeSets, storedSet, sameWords, refit}
+use Rattle.operations.specs.Run.{wrongCount, fewMarks}
+
+-- 9: "also if the used count exceeds the chapter slice"
+unfoldable pub wrongUse : ℕ → ℕ → Bool
+wrongUse n chapterRoom = wrongCount n || ltb chapterRoom n
+
+-- 14: "no such element"
+unfoldable pub noElement : ℕ → ℕ → Bool
+noElement n e = not (ltb e n)
+
+-- 15: "replacement of 0 or over 4,096 words, or no tree over the alphabet"
+unfoldable pub noReplacement : List ℕ → List ℕ → Bool
+noReplacement a xs = wrongCount (length xs) || not (all (isNode a) xs && oneTree a xs)
+
+-- 16: "result over 4,096 elements, the chapter slice or the marks slice", for a result of n elements
+unfoldable pub resultTooLong : List ℕ → ℕ → ℕ → ℕ → Bool
+resultTooLong table n chapterRoom marksRoom = ltb 4096 n || ltb chapterRoom n || fewMarks table n marksRoom
+
+-- of a call with this used count n and these used elements, slices of these lengths, an element and a replacement
+abbrev pub exchangeRefusals : List ℕ → List ℕ → ℕ → List ℕ → ℕ → ℕ → ℕ → List ℕ → Refusals
+exchangeRefusals a table n used chapterRoom marksRoom e xs =
+    alphabetRefusals a ++ ((8, noTable a table) ∷ (9, wrongUse n chapterRoom)
+    ∷ (treeRefusals a used
+    ++ ((12, fewMarks table n marksRoom) ∷ (14, noElement n e) ∷ (15, noReplacement a xs)
+    ∷ (16, resultTooLong table (length (splice a used e xs)) chapterRoom marksRoom) ∷ [])))
+
+abbrev pub exchangeFault : List ℕ → List ℕ → ℕ → List ℕ → ℕ → ℕ → ℕ → List ℕ → ℕ
+exchangeFault a table n used chapterRoom marksRoom e xs = refusal (exchangeRefusals a table n used chapterRoom marksRoom e xs)
+
+-- a node behind an exchange: its stored state set is kept, or its state set is recomputed
+pub data Outcome : Type 0 where
+  kept recomputed : StateSet → Outcome
+
+abbrev pub setIn : Outcome → StateSet
+setIn (kept r) = r
+setIn (recomputed r) = r
+
+abbrev pub isRecomputed : Outcome → ℕ
+isRecomputed (kept r) = 0
+isRecomputed (recomputed r) = 1
+
+-- "the number worked out"
+unfoldable pub recomputedIn : List Outcome → ℕ
+recomputedIn [] = 0
+recomputedIn (o ∷ os) = isRecomputed o + recomputedIn os
+
+-- n nodes from j on that are not recomputed
+abbrev pub keptFrom : (ℕ → StateSet) → ℕ → ℕ → List Outcome
+keptFrom stored j n = listFrom (λ i. kept (stored i)) j n
+
+-- The nodes from j on, behind the replaced subtree, where `above` tells its ancestors. The stack holds the state sets of
+-- the roots so far: those just recomputed, otherwise those stored. A node that is no ancestor keeps its state set. An
+-- ancestor is recomputed; if its state set is as stored, work ends there, otherwise it goes on.
+unfoldable pub climb : List ℕ → List ℕ → (ℕ → StateSet) → (ℕ → Bool) → ℕ → List ℕ → List StateSet → List Outcome
+climb a table stored above j [] stack = []
+climb a table stored above j (w ∷ ws) stack =
+    let beside = kept (stored j) ∷ climb a table stored above (suc j) ws (stored j ∷ drop (arity a w) stack) in
+    let new = valueOn a (nodeSet table) w stack in
+    let last = recomputed new ∷ keptFrom stored (suc j) (length ws) in
+    let onward = recomputed new ∷ climb a table stored above (suc j) ws (new ∷ drop (arity a w) stack) in
+    let ancestor = cond (sameWords new (stored j)) last onward in
+    cond (above j) ancestor beside
+
+-- the state set of a tree's root: the only one that is left on the stack
+unfoldable pub rootSet : List ℕ → List ℕ → List ℕ → StateSet
+rootSet a table xs = getD (stackAfter a (nodeSet table) xs []) 0 []
+
+-- "If the replacement root's marks equal the old element's, no ancestor is worked out"
+unfoldable pub outcomesBehind : List ℕ → List ℕ → (ℕ → StateSet) → List ℕ → ℕ → List ℕ → List Outcome
+outcomesBehind a table stored used e xs =
+    let unchanged = keptFrom stored (e + 1) (length (drop (e + 1) used)) in
+    let changed =
+    climb a table stored (isAncestor a used e) (e + 1) (drop (e + 1) used)
+    (rootSet a table xs ∷ stackGiven a stored 0 (take (startOf a used e) used) []) in
+    cond (sameWords (rootSet a table xs) (stored e)) unchanged changed
+
+-- all nodes of the new tree, where `stored` gives each used element's stored state set
+unfoldable pub outcomesAfter : List ℕ → List ℕ → (ℕ → StateSet) → List ℕ → ℕ → List ℕ → List Outcome
+outcomesAfter a table stored used e xs =
+    keptFrom stored 0 (startOf a used e) ++ (map recomputed (nodeSets a table xs) ++ outcomesBehind a table stored used e xs)
+
+-- A call: alphabet and table, the chapter slice and the marks slice, the used element count, an element and a replacement
+module _ (a table chapter marks : List ℕ) (n e : ℕ) (xs : List ℕ) where
+  -- the used elements
+  abbrev pub used : List ℕ
+  used = take n chapter
+
+  unfoldable pub fault : ℕ
+  fault = exchangeFault a table n used (length chapter) (length marks) e xs
+
+  unfoldable pub newTree : List ℕ
+  newTree = splice a used e xs
+
+  -- "Stored marks count as they stand"
+  unfoldable pub outcomes : List Outcome
+  outcomes = outcomesAfter a table (storedSet (sizeOf table) marks) used e xs
+
+  -- "The answer is the new element count and the number worked out"
+  unfoldable pub exchangeAnswer : Answer
+  exchangeAnswer = answerOf fault (length newTree ∷ recomputedIn outcomes ∷ [])
+
+  -- the chapter slice at exit
+  unfoldable pub exchangeChapter : List ℕ
+  exchangeChapter = exitOf fault (refit n newTree chapter) chapter
+
+  -- the marks slice at exit
+  unfoldable pub exchangeMarks : List ℕ
+  exchangeMarks = exitOf fault (refit (n * sizeOf table) (flatten (map setIn outcomes)) marks) marks

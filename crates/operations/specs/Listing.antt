@@ -1,0 +1,46 @@
+-- List: refusals 1 2 8 9 12 13, the answer, and the list slice at exit. Assumes nothing.
+use Prim.Native.Nat.{ℕ, zero, suc}
+use mathlib.Core.List.{List, [], _∷_, _++_}
+use mathlib.Core.Bool.{Bool, cond}
+use lib.ListN.{length, drop}
+use lib.Dec.{ltb}
+use Rattle.words.specs.Lists.{listFrom}
+use Rattle.words.specs.Refusal.{Refusals, refusal}
+use Rattle.words.specs.Alphabet.{alphabetRefusals}
+use Rattle.automaton.specs.Table.{noTable}
+use Rattle.automaton.specs.StateSet.{StateSet, contains}
+use Rattle.operations.specs.Answer.{Answer, answerOf, exitOf}
+use Rattle.operations.specs.Marks.{sizeOf, finalOf, storedSet}
+use Rattle.operations.specs.Run.{wrongCount, fewMarks}
+
+-- 13: "list slice shorter than the element count"
+unfoldable pub listTooShort : ℕ → ℕ → Bool
+listTooShort n listRoom = ltb listRoom n
+
+-- `room` and `listRoom` are the lengths of the marks and of the list slice
+abbrev pub listRefusals : List ℕ → List ℕ → ℕ → ℕ → ℕ → Refusals
+listRefusals a table n room listRoom =
+    alphabetRefusals a ++ ((8, noTable a table) ∷ (9, wrongCount n) ∷ (12, fewMarks table n room) ∷ (13, listTooShort n listRoom) ∷ [])
+
+abbrev pub listFault : List ℕ → List ℕ → ℕ → ℕ → ℕ → ℕ
+listFault a table n room listRoom = refusal (listRefusals a table n room listRoom)
+
+-- the numbers, from i on, of the state sets that hold the final state: "A hit is an element whose final state is marked."
+unfoldable pub matchesIn : ℕ → ℕ → List StateSet → List ℕ
+matchesIn final i [] = []
+matchesIn final i (r ∷ rs) = let rest = matchesIn final (suc i) rs in cond (contains r final) (i ∷ rest) rest
+
+-- "hit numbers ascending" of n elements with these marks
+unfoldable pub matchesOf : List ℕ → ℕ → List ℕ → List ℕ
+matchesOf table n marks = matchesIn (finalOf table) 0 (listFrom (storedSet (sizeOf table) marks) 0 n)
+
+-- "answers how many"
+unfoldable pub listAnswer : List ℕ → List ℕ → ℕ → List ℕ → List ℕ → Answer
+listAnswer a table n marks slice =
+    answerOf (listFault a table n (length marks) (length slice)) (length (matchesOf table n marks) ∷ [])
+
+-- the list slice at exit: "leaves the rest untouched"
+unfoldable pub listExit : List ℕ → List ℕ → ℕ → List ℕ → List ℕ → List ℕ
+listExit a table n marks slice =
+    exitOf (listFault a table n (length marks) (length slice))
+    (matchesOf table n marks ++ drop (length (matchesOf table n marks)) slice) slice

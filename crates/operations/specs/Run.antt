@@ -1,0 +1,47 @@
+-- Run: refusals 1 2 8 9 10 11 12, the answer, and the marks slice at exit. Assumes nothing.
+use Prim.Native.Nat.{ℕ, zero, suc, _+_, _*_}
+use mathlib.Core.List.{List, [], _∷_, _++_, flatten}
+use mathlib.Core.Bool.{Bool, _||_}
+use lib.ListN.{length, drop}
+use lib.Dec.{eqb, ltb}
+use lib.Count.{ones}
+use Rattle.words.specs.Refusal.{Refusals, refusal}
+use Rattle.words.specs.Alphabet.{alphabetRefusals}
+use Rattle.words.specs.Chapter.{treeRefusals}
+use Rattle.automaton.specs.Table.{noTable}
+use Rattle.operations.specs.Answer.{Answer, answerOf, exitOf}
+use Rattle.operations.specs.Marks.{sizeOf, nodeSets}
+
+-- 9: "chapter of 0 or over 4,096 elements"
+unfoldable pub wrongCount : ℕ → Bool
+wrongCount n = eqb n 0 || ltb 4096 n
+
+-- 12: "fewer marks than elements × S"; `room` is the length of the marks slice
+unfoldable pub fewMarks : List ℕ → ℕ → ℕ → Bool
+fewMarks table n room = ltb room (n * sizeOf table)
+
+abbrev pub runRefusals : List ℕ → List ℕ → List ℕ → ℕ → Refusals
+runRefusals a table ch room =
+    alphabetRefusals a ++ ((8, noTable a table) ∷ (9, wrongCount (length ch))
+    ∷ (treeRefusals a ch ++ ((12, fewMarks table (length ch) room) ∷ [])))
+
+abbrev pub runFault : List ℕ → List ℕ → List ℕ → ℕ → ℕ
+runFault a table ch room = refusal (runRefusals a table ch room)
+
+-- the marks that an accepted Run leaves: "Marks beyond the chapter are untouched."
+unfoldable pub runMarks : List ℕ → List ℕ → List ℕ → List ℕ → List ℕ
+runMarks a table ch marks = flatten (nodeSets a table ch) ++ drop (length ch * sizeOf table) marks
+
+-- "the cells, the number of ones in all marks of the chapter"
+unfoldable pub cellsIn : List ℕ → ℕ
+cellsIn [] = 0
+cellsIn (w ∷ ws) = ones w + cellsIn ws
+
+-- "Run answers the element count and the cells"
+unfoldable pub runAnswer : List ℕ → List ℕ → List ℕ → List ℕ → Answer
+runAnswer a table ch marks =
+    answerOf (runFault a table ch (length marks)) (length ch ∷ cellsIn (flatten (nodeSets a table ch)) ∷ [])
+
+-- the marks slice at exit
+unfoldable pub runExit : List ℕ → List ℕ → List ℕ → List ℕ → List ℕ
+runExit a table ch marks = exitOf (runFault a table ch (length marks)) (runMarks a table ch marks) marks

@@ -1,0 +1,29 @@
+-- The words of a chapter (document 01, kind 7) and refusals 10 and 11. Assumes nothing.
+use Prim.Native.Nat.{ℕ}
+use mathlib.Core.List.{List, [], _∷_}
+use mathlib.Core.Bool.{Bool, not, _&&_}
+use Rattle.words.specs.Lists.{all}
+use Rattle.words.specs.Refusal.{Refusals, refusal}
+use Rattle.words.specs.Word.{nodeKind, isOf, lowByte}
+use Rattle.words.specs.Alphabet.{isSymbol}
+use Rattle.words.specs.Postfix.{notOneTree}
+
+-- the symbol of a node: bits 7..0
+abbrev pub symbolOf : ℕ → ℕ
+symbolOf w = lowByte w
+
+-- a node (document 01's chapter element) with a symbol that the alphabet has
+unfoldable pub isNode : List ℕ → ℕ → Bool
+isNode a w = isOf nodeKind w && isSymbol a (symbolOf w)
+
+-- 10: "a word that is no element or an unknown symbol"
+unfoldable pub noNodes : List ℕ → List ℕ → Bool
+noNodes a ch = not (all (isNode a) ch)
+
+-- 10 is judged over the whole slice before 11
+abbrev pub treeRefusals : List ℕ → List ℕ → Refusals
+treeRefusals a ch = (10, noNodes a ch) ∷ (11, notOneTree a ch) ∷ []
+
+-- 10 or 11, the first that applies, or 0
+abbrev pub treeFault : List ℕ → List ℕ → ℕ
+treeFault a ch = refusal (treeRefusals a ch)

@@ -1,0 +1,46 @@
+-- The words of a rule (document 01, kinds 2 to 6) and refusals 3, 4 and 5. Assumes nothing.
+use Prim.Native.Nat.{ℕ}
+use mathlib.Core.List.{List, [], _∷_}
+use mathlib.Core.Bool.{Bool, true, false, not, _&&_, _||_}
+use lib.ListN.{length}
+use lib.Dec.{ltb, eqb}
+use Rattle.words.specs.Lists.{all}
+use Rattle.words.specs.Refusal.{Refusals, refusal}
+use Rattle.words.specs.Word.{Kind, entryKind, symbolKind, emptyKind, unionKind, productKind, closureKind, nodeKind, headKind, transitionKind, epsilonKind, sourceKind, noKind, kindOf, spareBitsClear, lowByte}
+use Rattle.words.specs.Alphabet.{isSymbol, isConstant}
+use Rattle.words.specs.Postfix.{notOneTree}
+
+-- whether the low byte of a rule word of a kind is in order: a symbol that the alphabet has; a c that is a constant
+abbrev pub namesAt : List ℕ → ℕ → Kind → Bool
+namesAt a s symbolKind = isSymbol a s
+namesAt a s emptyKind = true
+namesAt a s unionKind = true
+namesAt a s productKind = isConstant a s
+namesAt a s closureKind = isConstant a s
+namesAt a s nodeKind = false
+namesAt a s entryKind = false
+namesAt a s headKind = false
+namesAt a s transitionKind = false
+namesAt a s epsilonKind = false
+namesAt a s sourceKind = false
+namesAt a s noKind = false
+
+-- a rule word over the alphabet
+unfoldable pub isExpressionWord : List ℕ → ℕ → Bool
+isExpressionWord a w = spareBitsClear w && namesAt a (lowByte w) (kindOf w)
+
+-- 3: "rule of 0 or over 64 words"
+unfoldable pub wrongLength : List ℕ → Bool
+wrongLength e = eqb (length e) 0 || ltb 64 (length e)
+
+-- 4: "a word that is no rule word, an unknown symbol, or a c that is no constant"
+unfoldable pub noExpressionWords : List ℕ → List ℕ → Bool
+noExpressionWords a e = not (all (isExpressionWord a) e)
+
+-- 4 is judged over the whole slice before 5
+abbrev pub expressionRefusals : List ℕ → List ℕ → Refusals
+expressionRefusals a e = (3, wrongLength e) ∷ (4, noExpressionWords a e) ∷ (5, notOneTree a e) ∷ []
+
+-- 3, 4 or 5, the first that applies, or 0
+abbrev pub expressionFault : List ℕ → List ℕ → ℕ
+expressionFault a e = refusal (expressionRefusals a e)

@@ -1,0 +1,19 @@
+-- Tests over a list, and lists by their index. Assumes nothing.
+use Prim.Native.Nat.{ℕ, zero, suc, _+_}
+use mathlib.Core.List.{List, [], _∷_}
+use mathlib.Core.Bool.{Bool, true, false, cond, _&&_}
+
+-- the test holds of every number of the list
+abbrev pub all : (ℕ → Bool) → List ℕ → Bool
+all f [] = true
+all f (x ∷ xs) = f x && all f xs
+
+-- how many numbers of the list pass the test
+abbrev pub count : (ℕ → Bool) → List ℕ → ℕ
+count f [] = 0
+count f (x ∷ xs) = cond (f x) 1 0 + count f xs
+
+-- f j, f (j + 1), .., n values
+abbrev pub listFrom : {A : Type 0} → (ℕ → A) → ℕ → ℕ → List A
+listFrom f j zero = []
+listFrom f j (suc n) = f j ∷ listFrom f (suc j) n

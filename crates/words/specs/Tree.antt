@@ -1,0 +1,42 @@
+-- Ordered trees whose nodes carry a number: a symbol in a subject tree, a word in the tree that postfix words make.
+-- Assumes nothing.
+use Prim.Native.Nat.{ℕ, zero, suc}
+use mathlib.Core.List.{List, [], _∷_, _++_}
+
+mutual
+  pub data Tree : Type 0 where
+    node : ℕ → Trees → Tree
+
+  -- a node's children (document 01's parts), from left to right
+  pub data Trees : Type 0 where
+    none : Trees
+    more : Tree → Trees → Trees
+
+abbrev pub label : Tree → ℕ
+label (node n ts) = n
+
+abbrev pub children : Tree → Trees
+children (node n ts) = ts
+
+abbrev pub number : Trees → ℕ
+number none = 0
+number (more t ts) = suc (number ts)
+
+-- the numbers in postfix order, "parts first and from left to right"
+abbrev mutual
+  pub postfix : Tree → List ℕ
+  postfix (node n ts) = postfixAll ts ++ (n ∷ [])
+
+  pub postfixAll : Trees → List ℕ
+  postfixAll none = []
+  postfixAll (more t ts) = postfix t ++ postfixAll ts
+
+-- a value for each node from its number and its children's values, from left to right
+module _ {A : Type 0} (value : ℕ → List A → A) where
+  abbrev mutual
+    pub fold : Tree → A
+    fold (node n ts) = value n (foldAll ts)
+
+    pub foldAll : Trees → List A
+    foldAll none = []
+    foldAll (more t ts) = fold t ∷ foldAll ts

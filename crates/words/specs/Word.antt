@@ -1,0 +1,97 @@
+-- Words of 32 bits (document 01, "Words"): their kinds, which bits each kind names, and its fields. Assumes nothing.
+use Prim.Native.Nat.{ℕ, _+_, _*_, _/_, _%_}
+use mathlib.Core.List.{List, [], _∷_}
+use mathlib.Core.Bool.{Bool, _&&_}
+use lib.ListN.{getD}
+use lib.Dec.{ltb, eqb}
+
+-- document 01's kinds: alphabet entry; the rule words symbol, empty language, union, product, closure; chapter element;
+-- table head, symbol move, empty move, part state of a move; and no kind of document 01
+pub data Kind : Type 0 where
+  entryKind symbolKind emptyKind unionKind productKind closureKind nodeKind : Kind
+  headKind transitionKind epsilonKind sourceKind noKind : Kind
+
+abbrev kinds : List Kind
+kinds =
+    noKind ∷ entryKind ∷ symbolKind ∷ emptyKind ∷ unionKind ∷ productKind ∷ closureKind ∷ nodeKind
+    ∷ headKind ∷ transitionKind ∷ epsilonKind ∷ sourceKind ∷ []
+
+-- the kind of a kind number
+unfoldable pub kindAt : ℕ → Kind
+kindAt n = getD kinds n noKind
+
+-- the number of a kind; 0 is no kind of document 01
+abbrev pub kindNumber : Kind → ℕ
+kindNumber noKind = 0
+kindNumber entryKind = 1
+kindNumber symbolKind = 2
+kindNumber emptyKind = 3
+kindNumber unionKind = 4
+kindNumber productKind = 5
+kindNumber closureKind = 6
+kindNumber nodeKind = 7
+kindNumber headKind = 8
+kindNumber transitionKind = 9
+kindNumber epsilonKind = 10
+kindNumber sourceKind = 11
+
+-- "bits 31..28 are the kind"
+abbrev pub numberOf : ℕ → ℕ
+numberOf w = w / 0x1000_0000
+
+abbrev pub kindOf : ℕ → Kind
+kindOf w = kindAt (numberOf w)
+
+abbrev pub hasKind : Kind → ℕ → Bool
+hasKind k w = eqb (numberOf w) (kindNumber k)
+
+-- the other 28 bits
+abbrev pub bodyOf : ℕ → ℕ
+bodyOf w = w % 0x1000_0000
+
+-- The named bits of each kind are its lowest ones: a word's other 28 bits stay below this number.
+abbrev pub fieldRange : Kind → ℕ
+fieldRange entryKind = 256
+fieldRange symbolKind = 256
+fieldRange emptyKind = 1
+fieldRange unionKind = 1
+fieldRange productKind = 256
+fieldRange closureKind = 256
+fieldRange nodeKind = 256
+fieldRange headKind = 2097152
+fieldRange transitionKind = 262144
+fieldRange epsilonKind = 1048576
+fieldRange sourceKind = 1024
+fieldRange noKind = 0
+
+-- "Bits not named are zero."
+unfoldable pub spareBitsClear : ℕ → Bool
+spareBitsClear w = ltb (bodyOf w) (fieldRange (kindOf w))
+
+-- a word of that kind, its other bits zero
+unfoldable pub isOf : Kind → ℕ → Bool
+isOf k w = hasKind k w && spareBitsClear w
+
+-- the word of a kind with these named bits
+abbrev pub wordOf : Kind → ℕ → ℕ
+wordOf k body = kindNumber k * 0x1000_0000 + body
+
+-- bits 7..0: a rank, a symbol or a substitution symbol (document 01's c)
+abbrev pub lowByte : ℕ → ℕ
+lowByte w = w % 256
+
+-- bits 17..10: the symbol of a transition (a symbol move)
+abbrev pub symbolAbove : ℕ → ℕ
+symbolAbove w = w / 1024 % 256
+
+-- bits 20..10: the state count of a head
+abbrev pub countAbove : ℕ → ℕ
+countAbove w = w / 1024 % 2048
+
+-- bits 19..10: the from state of an epsilon transition (an empty move)
+abbrev pub stateAbove : ℕ → ℕ
+stateAbove w = w / 1024 % 1024
+
+-- bits 9..0: a state
+abbrev pub stateBelow : ℕ → ℕ
+stateBelow w = w % 1024
