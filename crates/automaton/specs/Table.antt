@@ -1,11 +1,13 @@
 -- Tables (document 01, kinds 8 to 11): which words are a table for an alphabet, refusal 8. Assumes nothing.
-use Prim.Native.Nat.{ℕ, zero, suc, _+_, _/_}
+use Prim.Native.Nat.{ℕ, zero, suc, _<_, _≤_}
+use mathlib.Core.Path.{_≡_}
 use mathlib.Core.List.{List, [], _∷_}
-use mathlib.Core.Bool.{Bool, true, false, not, cond, _&&_, _||_}
+use mathlib.Core.Bool.{Bool, false, not, cond, _&&_, _||_}
 use lib.ListN.{length}
 use lib.Dec.{ltb, leb, eqb}
 use Rattle.words.specs.Word.{headKind, transitionKind, epsilonKind, sourceKind, hasKind, isOf, symbolAbove, countAbove, stateAbove, stateBelow}
 use Rattle.words.specs.Alphabet.{isSymbol, rankOf}
+use Rattle.automaton.specs.Transition.{Transition, Automaton, onSymbol, epsilon}
 
 -- "head wrong, state count 0 or over 1,024, a state not below it"
 unfoldable pub isHead : ℕ → Bool
@@ -39,3 +41,23 @@ isTable a (h ∷ ws) = leb (length (h ∷ ws)) 2048 && isHead h && areTransition
 -- wrong following words, spare bits set or any other kind"
 unfoldable pub noTable : List ℕ → List ℕ → Bool
 noTable a table = not (isTable a table)
+
+-- The same of automata, whose tables are exactly the words that 8 does not refuse (law `isTable-tables`): each symbol is
+-- known, stands over rank-many part states, and each state is below the state count.
+abbrev pub AllBelow : ℕ → List ℕ → Type 0
+AllBelow n [] = Unit {0}
+AllBelow n (p ∷ ps) = (p < n) × AllBelow n ps
+
+abbrev pub TransitionOver : List ℕ → ℕ → Transition → Type 0
+TransitionOver a n (onSymbol f ps q) = (f < length a) × (rankOf a f ≡ length ps) × AllBelow n ps × (q < n)
+TransitionOver a n (epsilon p q) = (p < n) × (q < n)
+
+abbrev pub TransitionsOver : List ℕ → ℕ → List Transition → Type 0
+TransitionsOver a n [] = Unit {0}
+TransitionsOver a n (t ∷ ts) = TransitionOver a n t × TransitionsOver a n ts
+
+pub record AutomatonOver (a : List ℕ) (A : Automaton) : Type 0 where
+  pub some : 0 < A .states
+  pub most : A .states ≤ 1024
+  pub final : A .final < A .states
+  pub transitions : TransitionsOver a (A .states) (A .transitions)

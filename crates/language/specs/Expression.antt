@@ -1,8 +1,12 @@
 -- Regular tree expressions (document 01's rules), and expressions and subject trees as postfix words. Assumes nothing.
-use Prim.Native.Nat.{ℕ, zero, suc}
+use Prim.Native.Nat.{ℕ, zero, suc, _<_}
+use mathlib.Core.Path.{_≡_}
+use mathlib.Core.Bool.{true}
 use mathlib.Core.List.{List, map}
+use lib.ListN.{length}
+use Rattle.words.specs.Alphabet.{isConstant, rankOf}
 use Rattle.words.specs.Word.{symbolKind, emptyKind, unionKind, productKind, closureKind, nodeKind, wordOf}
-use Rattle.words.specs.Tree.{Tree, Trees, node, none, more, postfix}
+use Rattle.words.specs.Tree.{Tree, Trees, node, none, more, number, postfix}
 
 -- a symbol over expressions; the empty language; a union; the product F by G over c; the closure of F over c
 mutual
@@ -37,3 +41,29 @@ expressionWords e = postfix (syntaxTree e)
 -- the words of a subject tree (document 01's chapter), whose nodes carry symbols
 abbrev pub treeWords : Tree → List ℕ
 treeWords t = map (λ s. wordOf nodeKind s) (postfix t)
+
+-- a tree over the alphabet: each symbol is known and stands over as many children as its rank
+abbrev mutual
+  pub TreeOver : List ℕ → Tree → Type 0
+  TreeOver a (node f ts) = (f < length a) × (rankOf a f ≡ number ts) × TreesOver a ts
+
+  pub TreesOver : List ℕ → Trees → Type 0
+  TreesOver a none = Unit {0}
+  TreesOver a (more t ts) = TreeOver a t × TreesOver a ts
+
+abbrev pub numberᵉ : Expressions → ℕ
+numberᵉ noneᵉ = 0
+numberᵉ (moreᵉ e es) = suc (numberᵉ es)
+
+-- an expression over the alphabet: each symbol as in a tree, and "c must be one", a constant
+abbrev mutual
+  pub ExpressionOver : List ℕ → Expression → Type 0
+  ExpressionOver a (symbol f es) = (f < length a) × (rankOf a f ≡ numberᵉ es) × ExpressionsOver a es
+  ExpressionOver a empty = Unit {0}
+  ExpressionOver a (union F G) = ExpressionOver a F × ExpressionOver a G
+  ExpressionOver a (product c F G) = (isConstant a c ≡ true) × ExpressionOver a F × ExpressionOver a G
+  ExpressionOver a (closure c F) = (isConstant a c ≡ true) × ExpressionOver a F
+
+  pub ExpressionsOver : List ℕ → Expressions → Type 0
+  ExpressionsOver a noneᵉ = Unit {0}
+  ExpressionsOver a (moreᵉ e es) = ExpressionOver a e × ExpressionsOver a es
