@@ -1,2 +1,4 @@
 pub mod PostfixLaws
 pub mod StackLaws
+pub mod TestLaws
+pub mod RefusalLaws

@@ -1,0 +1,60 @@
+-- Laws of refusals: a call is accepted exactly if no condition holds, and otherwise the first condition that holds gives the
+-- number. Assumes nothing.
+use mathlib.Core.Path.{_≡_, refl, _∙_, sym, subst}
+use mathlib.Core.Bool.{Bool, true, false, cond, _&&_}
+use mathlib.Core.List.{List, [], _∷_, _++_}
+use Prim.Native.Nat.{ℕ, zero, suc, _<_}
+use native.Mathlib.Omega.{arith}
+use lib.Dec.{ltb}
+use borrow.Author.Tests.{ltb-true}
+use Rattle.words.specs.Refusal.{Refusals, refusal}
+use Rattle.words.proofs.TestLaws.{and-true}
+
+-- no condition of the list holds
+abbrev pub NoneHolds : Refusals → Type 0
+NoneHolds [] = Unit {0}
+NoneHolds (r ∷ rs) = (r .1 ≡ false) × NoneHolds rs
+
+-- every number is above 0; of a list whose numbers are written out, `refl` proves it
+abbrev pub positive : Refusals → Bool
+positive [] = true
+positive (r ∷ rs) = ltb 0 (r .0) && positive rs
+
+-- ---- no refusal: both ways
+
+pub none-refusal : (rs : Refusals) → NoneHolds rs → refusal rs ≡ 0
+none-refusal [] h = refl
+none-refusal (r ∷ rs) h = rw (h .0) (none-refusal rs (h .1))
+
+pub refusal-none : (rs : Refusals) → positive rs ≡ true → refusal rs ≡ 0 → NoneHolds rs
+refusal-none [] p h = tt
+refusal-none ((n, true) ∷ rs) p h = let q = ltb-true 0 n (and-true (ltb 0 n) (positive rs) p .0) in absurd (omega arith)
+refusal-none ((n, false) ∷ rs) p h = (refl, refusal-none rs (and-true (ltb 0 n) (positive rs) p .1) h)
+
+-- ---- one condition after the other
+
+pub refusal-here : (n : ℕ) (b : Bool) (rs : Refusals) → b ≡ true → refusal ((n, b) ∷ rs) ≡ n
+refusal-here n b rs e = rw e
+
+pub refusal-next : (n : ℕ) (b : Bool) (rs : Refusals) → b ≡ false → refusal ((n, b) ∷ rs) ≡ refusal rs
+refusal-next n b rs e = rw e
+
+-- where no condition of the first list holds, the second decides
+pub refusal-behind : (rs ks : Refusals) → NoneHolds rs → refusal (rs ++ ks) ≡ refusal ks
+refusal-behind [] ks h = refl
+refusal-behind (r ∷ rs) ks h = rw (h .0) (refusal-behind rs ks (h .1))
+
+-- "Order is as written": the conditions before do not hold and this one does
+pub refusal-first : (before : Refusals) (n : ℕ) (b : Bool) (behind : Refusals) → NoneHolds before → b ≡ true
+    → refusal (before ++ (n, b) ∷ behind) ≡ n
+refusal-first before n b behind h e = refusal-behind before ((n, b) ∷ behind) h ∙ refusal-here n b behind e
+
+-- where the first list refuses, so does the whole, with the same number
+pub refusal-before : (rs ks : Refusals) → 0 < refusal rs → refusal (rs ++ ks) ≡ refusal rs
+refusal-before [] ks h = absurd (omega arith)
+refusal-before ((n, true) ∷ rs) ks h = refl
+refusal-before ((n, false) ∷ rs) ks h = refusal-before rs ks h
+
+-- where the first list does not refuse, the second decides
+pub refusal-rest : (rs ks : Refusals) → positive rs ≡ true → refusal rs ≡ 0 → refusal (rs ++ ks) ≡ refusal ks
+refusal-rest rs ks p h = refusal-behind rs ks (refusal-none rs p h)

@@ -1,0 +1,46 @@
+-- Laws of tests: a test with its outcome, both and either of two tests, and a test of every word of a list. Assumes nothing.
+use mathlib.Core.Path.{_≡_, refl}
+use mathlib.Core.Bool.{Bool, true, false, _&&_, _||_, true≢false, false≢true}
+use mathlib.Core.List.{List, [], _∷_, _++_}
+use Prim.Native.Nat.{ℕ}
+use Rattle.words.specs.Lists.{all}
+
+-- a test with its outcome, to branch on
+pub data Tested (b : Bool) : Type 0 where
+  holds : b ≡ true → Tested b
+  fails : b ≡ false → Tested b
+
+pub tested : (b : Bool) → Tested b
+tested true = holds refl
+tested false = fails refl
+
+-- ---- both and either of two tests
+
+pub and-true : (b c : Bool) → b && c ≡ true → (b ≡ true) × (c ≡ true)
+and-true true c e = (refl, e)
+and-true false c e = absurd (false≢true e)
+
+pub true-and : (b c : Bool) → b ≡ true → c ≡ true → b && c ≡ true
+true-and b c e f = rw (e, f)
+
+pub or-false : (b c : Bool) → b || c ≡ false → (b ≡ false) × (c ≡ false)
+or-false true c e = absurd (true≢false e)
+or-false false c e = (refl, e)
+
+pub false-or : (b c : Bool) → b ≡ false → c ≡ false → b || c ≡ false
+false-or b c e f = rw (e, f)
+
+-- ---- every word of a list
+
+module _ (f : ℕ → Bool) where
+  pub all-left : (l k : List ℕ) → all f (l ++ k) ≡ true → all f l ≡ true
+  all-left [] k h = refl
+  all-left (x ∷ l) k h = let p = and-true (f x) (all f (l ++ k)) h in true-and (f x) (all f l) (p .0) (all-left l k (p .1))
+
+  pub all-right : (l k : List ℕ) → all f (l ++ k) ≡ true → all f k ≡ true
+  all-right [] k h = h
+  all-right (x ∷ l) k h = all-right l k (and-true (f x) (all f (l ++ k)) h .1)
+
+  pub all-append : (l k : List ℕ) → all f l ≡ true → all f k ≡ true → all f (l ++ k) ≡ true
+  all-append [] k h g = g
+  all-append (x ∷ l) k h g = let p = and-true (f x) (all f l) h in true-and (f x) (all f (l ++ k)) (p .0) (all-append l k (p .1) g)
