@@ -2,3 +2,4 @@ pub mod PostfixLaws
 pub mod StackLaws
 pub mod TestLaws
 pub mod RefusalLaws
+pub mod ReadingLaws
