@@ -3,3 +3,4 @@ pub mod StackLaws
 pub mod TestLaws
 pub mod RefusalLaws
 pub mod ReadingLaws
+pub mod KindLaws

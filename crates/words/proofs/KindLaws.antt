@@ -1,0 +1,137 @@
+-- Laws of kinds: a kind and its number, the word of a kind with given fields, and what `isOf` says of a word. Assumes
+-- nothing.
+use mathlib.Core.Path.{_≡_, refl, ap, _∙_, sym}
+use mathlib.Core.Bool.{Bool, true, false, _&&_}
+use mathlib.Core.List.{List, [], _∷_}
+use Prim.Native.Nat.{ℕ, zero, suc, _+_, _-_, _*_, _/_, _%_, _<_, _≤_}
+use native.Mathlib.Omega.{arith}
+use native.Mathlib.Nat.{zero-add, add-zero, add-suc, suc-add}
+use lib.ListN.{length, getD, List·getD-eq-default}
+use lib.Dec.{ltb, eqb}
+use borrow.Author.Tests.{eq-eqb, ne-eqb, eqb-true, lt-ltb, ltb-true}
+use Rattle.words.proofs.TestLaws.{and-true, true-and}
+use Rattle.words.specs.Word.{Kind, entryKind, symbolKind, emptyKind, unionKind, productKind, closureKind, nodeKind, headKind, transitionKind, epsilonKind, sourceKind, noKind, kindAt, kindNumber, numberOf, kindOf, hasKind, bodyOf, fieldRange, spareBitsClear, isOf, wordOf, lowByte}
+
+-- ---- a kind and its number
+
+pub kindAt-number : (k : Kind) → kindAt (kindNumber k) ≡ k
+unfolding kindAt
+kindAt-number noKind = refl
+kindAt-number entryKind = refl
+kindAt-number symbolKind = refl
+kindAt-number emptyKind = refl
+kindAt-number unionKind = refl
+kindAt-number productKind = refl
+kindAt-number closureKind = refl
+kindAt-number nodeKind = refl
+kindAt-number headKind = refl
+kindAt-number transitionKind = refl
+kindAt-number epsilonKind = refl
+kindAt-number sourceKind = refl
+
+-- the kinds in the order of their numbers
+abbrev kinds : List Kind
+kinds =
+    noKind ∷ entryKind ∷ symbolKind ∷ emptyKind ∷ unionKind ∷ productKind ∷ closureKind ∷ nodeKind
+    ∷ headKind ∷ transitionKind ∷ epsilonKind ∷ sourceKind ∷ []
+
+-- document 01 has no kind above 11
+pub kindAt-above : (n : ℕ) → 12 ≤ n → kindAt n ≡ noKind
+unfolding kindAt
+kindAt-above n h = List·getD-eq-default kinds noKind h
+
+-- kinds whose numbers count up from j
+abbrev Consecutive : ℕ → List Kind → Type 0
+Consecutive j [] = Unit {0}
+Consecutive j (k ∷ ks) = (kindNumber k ≡ j) × Consecutive (suc j) ks
+
+number-getD : (ks : List Kind) (n j : ℕ) → Consecutive j ks → (getD ks n noKind ≡ noKind → ⊥) → kindNumber (getD ks n noKind) ≡ j + n
+number-getD [] n j h e = absurd (e refl)
+number-getD (k ∷ ks) zero j h e = h .0 ∙ sym (add-zero j)
+number-getD (k ∷ ks) (suc n) j h e = number-getD ks n (suc j) (h .1) e ∙ suc-add j n ∙ sym (add-suc j n)
+
+-- a number is that of its kind, unless it has none
+pub number-kindAt : (n : ℕ) → (kindAt n ≡ noKind → ⊥) → kindNumber (kindAt n) ≡ n
+unfolding kindAt
+number-kindAt n h =
+    number-getD kinds n 0 (refl, (refl, (refl, (refl, (refl, (refl, (refl, (refl, (refl, (refl, (refl, (refl, tt)))))))))))) h ∙ zero-add n
+
+-- ---- the word of a kind with given fields
+
+module _ (k : Kind) (b : ℕ) (h : b < 0x1000_0000) where
+  pub numberOf-wordOf : numberOf (wordOf k b) ≡ kindNumber k
+  numberOf-wordOf = omega arith
+
+  pub kindOf-wordOf : kindOf (wordOf k b) ≡ k
+  kindOf-wordOf = ap kindAt numberOf-wordOf ∙ kindAt-number k
+
+  pub bodyOf-wordOf : bodyOf (wordOf k b) ≡ b
+  bodyOf-wordOf = omega arith
+
+  pub hasKind-wordOf : hasKind k (wordOf k b) ≡ true
+  hasKind-wordOf = eq-eqb _ _ numberOf-wordOf
+
+  pub lowByte-wordOf : lowByte (wordOf k b) ≡ lowByte b
+  lowByte-wordOf = omega arith
+
+-- ---- `hasKind` and `kindOf` say the same, but of no kind
+
+module _ (k : Kind) (w : ℕ) where
+  pub hasKind-kindOf : hasKind k w ≡ true → kindOf w ≡ k
+  hasKind-kindOf h = ap kindAt (eqb-true (numberOf w) (kindNumber k) h) ∙ kindAt-number k
+
+  pub kindOf-hasKind : (k ≡ noKind → ⊥) → kindOf w ≡ k → hasKind k w ≡ true
+  kindOf-hasKind n e = eq-eqb (numberOf w) (kindNumber k) (sym (number-kindAt (numberOf w) (λ z. n (sym e ∙ z))) ∙ ap kindNumber e)
+
+  -- a word of another kind
+  pub kindOf-hasNot : (j : Kind) → kindOf w ≡ j → (j ≡ k → ⊥) → hasKind k w ≡ false
+  kindOf-hasNot j e n = ne-eqb (numberOf w) (kindNumber k) (λ q. n (sym e ∙ ap kindAt q ∙ kindAt-number k))
+
+  pub word-wordOf : hasKind k w ≡ true → w ≡ wordOf k (bodyOf w)
+  word-wordOf h = omega (arith, eqb-true (numberOf w) (kindNumber k) h)
+
+-- ---- a word of a kind whose spare bits are clear
+
+pub fieldRange-fits : (k : Kind) → fieldRange k ≤ 0x1000_0000
+fieldRange-fits noKind = omega arith
+fieldRange-fits entryKind = omega arith
+fieldRange-fits symbolKind = omega arith
+fieldRange-fits emptyKind = omega arith
+fieldRange-fits unionKind = omega arith
+fieldRange-fits productKind = omega arith
+fieldRange-fits closureKind = omega arith
+fieldRange-fits nodeKind = omega arith
+fieldRange-fits headKind = omega arith
+fieldRange-fits transitionKind = omega arith
+fieldRange-fits epsilonKind = omega arith
+fieldRange-fits sourceKind = omega arith
+
+-- what `isOf k w` says
+pub record IsOf (k : Kind) (w : ℕ) : Type 0 where
+  pub number : numberOf w ≡ kindNumber k
+  pub kind : kindOf w ≡ k
+  pub body : bodyOf w < fieldRange k
+  pub word : w ≡ wordOf k (bodyOf w)
+
+pub isOf-facts : (k : Kind) (w : ℕ) → isOf k w ≡ true → IsOf k w
+unfolding isOf spareBitsClear
+isOf-facts k w h =
+    let p = and-true (hasKind k w) (spareBitsClear w) h in
+    let e = hasKind-kindOf k w (p .0) in
+    record {
+      number = eqb-true (numberOf w) (kindNumber k) (p .0);
+      kind = e;
+      body = ltb-true (bodyOf w) (fieldRange k) (rw e at (p .1));
+      word = word-wordOf k w (p .0);
+    }
+
+pub isOf-from : (k : Kind) (w : ℕ) → numberOf w ≡ kindNumber k → bodyOf w < fieldRange k → isOf k w ≡ true
+unfolding isOf spareBitsClear
+isOf-from k w e h =
+    true-and (hasKind k w) (spareBitsClear w) (eq-eqb (numberOf w) (kindNumber k) e)
+    (rw (ap kindAt e ∙ kindAt-number k) (lt-ltb (bodyOf w) (fieldRange k) h))
+
+pub isOf-wordOf : (k : Kind) (b : ℕ) → b < fieldRange k → isOf k (wordOf k b) ≡ true
+isOf-wordOf k b h =
+    let l : b < 0x1000_0000 = omega (arith, fieldRange-fits k) in
+    isOf-from k (wordOf k b) (numberOf-wordOf k b l) (rw (bodyOf-wordOf k b l) h)
