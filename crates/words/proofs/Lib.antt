@@ -1,3 +1,4 @@
+pub mod AlphabetLaws
 pub mod PostfixLaws
 pub mod StackLaws
 pub mod TestLaws
