@@ -1,7 +1,9 @@
 pub mod AlphabetLaws
 pub mod PostfixLaws
 pub mod StackLaws
+pub mod ListLaws
 pub mod TestLaws
 pub mod RefusalLaws
 pub mod ReadingLaws
 pub mod KindLaws
+pub mod ChildLaws

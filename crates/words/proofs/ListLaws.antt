@@ -1,0 +1,97 @@
+-- Laws of lists: map over parts of a list, lists by their index, counts, and lists of numbers below a bound. Assumes nothing.
+use mathlib.Core.Path.{_≡_, refl, ap, ap₂, _∙_, sym}
+use mathlib.Core.Bool.{Bool, cond}
+use mathlib.Core.List.{List, [], _∷_, _++_, map, reverse, reverseAux}
+use Prim.Native.Nat.{ℕ, zero, suc, _+_, _<_, _≤_}
+use native.Mathlib.Omega.{arith}
+use native.Mathlib.Nat.{zero-add, add-zero, add-suc, suc-add, add-assoc}
+use lib.ListN.{length, getD, take, drop, set}
+use lib.Seq.{getD-set-other}
+use Rattle.words.specs.Lists.{count, listFrom}
+
+-- ---- map
+
+module _ {A B : Type 0} (f : A → B) where
+  pub map-append : (l k : List A) → map f (l ++ k) ≡ map f l ++ map f k
+  map-append [] k = refl
+  map-append (x ∷ l) k = ap (λ (t : List B). f x ∷ t) (map-append l k)
+
+  pub map-take : (n : ℕ) (l : List A) → map f (take n l) ≡ take n (map f l)
+  map-take zero l = refl
+  map-take (suc n) [] = refl
+  map-take (suc n) (x ∷ l) = ap (λ (t : List B). f x ∷ t) (map-take n l)
+
+  pub map-drop : (n : ℕ) (l : List A) → map f (drop n l) ≡ drop n (map f l)
+  map-drop zero l = refl
+  map-drop (suc n) [] = refl
+  map-drop (suc n) (x ∷ l) = map-drop n l
+
+  map-reverseAux : (l r : List A) → map f (reverseAux l r) ≡ reverseAux (map f l) (map f r)
+  map-reverseAux [] r = refl
+  map-reverseAux (x ∷ l) r = map-reverseAux l (x ∷ r)
+
+  pub map-reverse : (l : List A) → map f (reverse l) ≡ reverse (map f l)
+  map-reverse l = map-reverseAux l []
+
+-- ---- lists by their index
+
+module _ {A : Type 0} (f : ℕ → A) where
+  pub length-listFrom : (n j : ℕ) → length (listFrom f j n) ≡ n
+  length-listFrom zero j = refl
+  length-listFrom (suc n) j = ap suc (length-listFrom n (suc j))
+
+  pub listFrom-add : (m n j : ℕ) → listFrom f j (m + n) ≡ listFrom f j m ++ listFrom f (j + m) n
+  listFrom-add zero n j = rw (zero-add, add-zero)
+  listFrom-add (suc m) n j = rw (suc-add, add-suc, ← suc-add) (ap (λ (t : List A). f j ∷ t) (listFrom-add m n (suc j)))
+
+  pub getD-listFrom : (d : A) (n j k : ℕ) → k < n → getD (listFrom f j n) k d ≡ f (j + k)
+  getD-listFrom d zero j k h = absurd (omega arith)
+  getD-listFrom d (suc n) j zero h = ap f (sym (add-zero j))
+  getD-listFrom d (suc n) j (suc k) h = getD-listFrom d n (suc j) k (omega arith) ∙ ap f (suc-add j k ∙ sym (add-suc j k))
+
+  pub listFrom-shift : (g : ℕ → A) (n j : ℕ) → ((i : ℕ) → f (suc i) ≡ g i) → listFrom f (suc j) n ≡ listFrom g j n
+  listFrom-shift g zero j h = refl
+  listFrom-shift g (suc n) j h = ap₂ (λ (x : A) (y : List A). x ∷ y) (h j) (listFrom-shift g n (suc j) h)
+
+  pub map-listFrom : {B : Type 0} (g : A → B) (n j : ℕ) → map g (listFrom f j n) ≡ listFrom (λ i. g (f i)) j n
+  map-listFrom g zero j = refl
+  map-listFrom {B} g (suc n) j = ap (λ (t : List B). g (f j) ∷ t) (map-listFrom g n (suc j))
+
+-- a list is the list of its members by index
+pub listFrom-getD : {A : Type 0} (d : A) (l : List A) → listFrom (λ i. getD l i d) 0 (length l) ≡ l
+listFrom-getD d [] = refl
+listFrom-getD {A} d (x ∷ l) =
+    ap (λ (t : List A). x ∷ t)
+    (listFrom-shift (λ i. getD (x ∷ l) i d) (λ i. getD l i d) (length l) 0 (λ i. refl) ∙ listFrom-getD d l)
+
+-- ---- counts
+
+pub count-append : (f : ℕ → Bool) (l k : List ℕ) → count f (l ++ k) ≡ count f l + count f k
+count-append f [] k = sym (zero-add (count f k))
+count-append f (x ∷ l) k = ap (λ (i : ℕ). cond (f x) 1 0 + i) (count-append f l k) ∙ sym (add-assoc (cond (f x) 1 0) (count f l) (count f k))
+
+-- ---- numbers below a bound
+
+abbrev pub Below : ℕ → List ℕ → Type 0
+Below n [] = Unit {0}
+Below n (x ∷ xs) = (x < n) × Below n xs
+
+pub below-more : (n : ℕ) (l : List ℕ) → Below n l → Below (suc n) l
+below-more n [] h = tt
+below-more n (x ∷ l) h = (let g = h .0 in omega arith, below-more n l (h .1))
+
+pub below-drop : (n k : ℕ) (l : List ℕ) → Below n l → Below n (drop k l)
+below-drop n zero l h = h
+below-drop n (suc k) [] h = tt
+below-drop n (suc k) (x ∷ l) h = below-drop n k l (h .1)
+
+-- functions that agree below the bound
+pub map-below : {A : Type 0} (f g : ℕ → A) (n : ℕ) (ns : List ℕ) → Below n ns → ((k : ℕ) → k < n → f k ≡ g k) → map f ns ≡ map g ns
+map-below f g n [] b h = refl
+map-below {A} f g n (k ∷ ns) b h = ap₂ (λ (x : A) (y : List A). x ∷ y) (h k (b .0)) (map-below f g n ns (b .1) h)
+
+-- a member that is stored at index i changes none below it
+pub map-set-below : {A : Type 0} (rows : List A) (i : ℕ) (r d : A) (ns : List ℕ) → Below i ns
+    → map (λ k. getD (set rows i r) k d) ns ≡ map (λ k. getD rows k d) ns
+map-set-below rows i r d ns h =
+    map-below (λ k. getD (set rows i r) k d) (λ k. getD rows k d) i ns h (λ k l. getD-set-other rows i k r d (omega arith))
