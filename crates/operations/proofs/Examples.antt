@@ -1,44 +1,147 @@
--- Trial. Assumes nothing.
-use Prim.Native.Nat.{ℕ}
+-- The marked examples of document 01 about the operations, and rows beside them that a wrong Exchange would fail: one
+-- table of rows, one theorem. Assumes nothing.
+use Prim.Native.Nat.{ℕ, _+_, _-_}
 use mathlib.Core.Path.{_≡_, refl}
-use mathlib.Core.List.{List, [], _∷_, flatten, flatMap}
-use lib.ListN.{replicate, set}
+use mathlib.Core.List.{List, [], _∷_, _++_, flatten, flatMap, map}
+use lib.ListN.{length, getD, replicate, set}
+use lib.Count.{ones, onesIn}
 use Rattle.words.specs.Word.{kindAt, spareBitsClear, isOf}
 use Rattle.words.specs.Alphabet.{isEntry, rankOf, isConstant, constantsFrom, constantsOf, noAlphabet, wrongConstants}
-use Rattle.words.specs.Postfix.{arity, trees, notOneTree, startFrom, isAncestor, splice, valueOn, values, stackAfter, stackGiven}
+use Rattle.words.specs.Postfix.{arity, trees, notOneTree, startFrom, startOf, isAncestor, splice, valueOn, values, stackAfter, stackGiven}
 use Rattle.words.specs.Expression.{isExpressionWord, wrongLength, noExpressionWords}
-use Rattle.words.specs.Chapter.{isNode, noNodes}
-use Rattle.automaton.specs.Transition.{transitionsAt, automatonOf}
+use Rattle.words.specs.Chapter.{symbolOf, isNode, noNodes}
+use Rattle.automaton.specs.Transition.{transitionsAt, automatonOf, headWord}
 use Rattle.automaton.specs.Numbering.{hasEntries, statesOf, portOf, ownTransitions, portsFrom, statesAfter, transitionsFrom, compiled}
 use Rattle.automaton.specs.Table.{isHead, isTableWord, sourcesLeft, areTransitions, isTable, noTable}
 use Rattle.automaton.specs.StateSet.{sizeFor, contains, insert, allContained, move, sweep, sweeps, stateSet}
-use Rattle.operations.specs.Answer.{Answer, refused, accepted}
+use Rattle.operations.specs.Answer.{Answer, refused, accepted, firstValue}
 use Rattle.operations.specs.Compile.{compiledTable, compileFault, tooManyStates, tableTooLong}
 use Rattle.operations.specs.Marks.{sizeOf, finalOf, nodeSet, nodeSets, storedSet, sameWords, refit}
-use Rattle.operations.specs.Run.{wrongCount, fewMarks, runFault, runMarks}
+use Rattle.operations.specs.Run.{wrongCount, fewMarks, runFault, runMarks, cellsIn, runAnswer}
 use Rattle.operations.specs.Listing.{listTooShort, listFault, matchesIn, matchesOf, listExit}
+use Rattle.operations.specs.Exchange.{wrongUse, noElement, noReplacement, resultTooLong, recomputedIn, climb, rootSet, outcomesBehind, outcomesAfter, fault, newTree, outcomes, exchangeAnswer, exchangeChapter, exchangeMarks}
 
--- a b c d of rank 0, f of rank 2, g and h of rank 1
-alphabet : List ℕ
-alphabet = 268435456 ∷ 268435456 ∷ 268435456 ∷ 268435456 ∷ 268435458 ∷ 268435457 ∷ 268435457 ∷ []
+-- "Alphabet a, b, c, d of rank 0, f of rank 2, g and h of rank 1, numbered 0 to 6."
+abbrev alphabet : List ℕ
+alphabet = 0x1000_0000 ∷ 0x1000_0000 ∷ 0x1000_0000 ∷ 0x1000_0000 ∷ 0x1000_0002 ∷ 0x1000_0001 ∷ 0x1000_0001 ∷ []
 
-rule : List ℕ
-rule = 0x20000000 ∷ 0x20000001 ∷ 0x20000004 ∷ 0x20000002 ∷ 0x20000005 ∷ 0x20000003 ∷ 0x50000002 ∷ 0x40000000 ∷ 0x60000003 ∷ []
+-- "Rule a b f c g d (product over c) union (closure over d)"
+abbrev rule : List ℕ
+rule =
+    0x2000_0000 ∷ 0x2000_0001 ∷ 0x2000_0004 ∷ 0x2000_0002 ∷ 0x2000_0005 ∷ 0x2000_0003 ∷ 0x5000_0002 ∷ 0x4000_0000 ∷ 0x6000_0003 ∷ []
 
-table : List ℕ
-table = 2147513368 ∷ 2415919129 ∷ 2415920154 ∷ 2415921179 ∷ 2415922204 ∷ 2415923202 ∷ 2952790016 ∷ 2952790017 ∷ 2684357632 ∷ 2684358657 ∷ 2415924232 ∷ 2952790023 ∷ 2684365831 ∷ 2684362766 ∷ 2684367883 ∷ 2684369929 ∷ 2684370954 ∷ 2684373004 ∷ 2684373005 ∷ 2684356627 ∷ 2684368915 ∷ 2684375043 ∷ 2684375055 ∷ 2684376068 ∷ 2684376080 ∷ 2684377093 ∷ 2684377105 ∷ 2684378118 ∷ 2684378130 ∷ 2684374039 ∷ 2684374040 ∷ 2684380180 ∷ 2684381205 ∷ 2684382230 ∷ 2684383255 ∷ 2684383256 ∷ []
+-- nodes
+abbrev a : ℕ
+a = 0x7000_0000
 
--- a b f d g h f
-chapter : List ℕ
-chapter = 1879048192 ∷ 1879048193 ∷ 1879048196 ∷ 1879048195 ∷ 1879048197 ∷ 1879048198 ∷ 1879048196 ∷ []
+abbrev b : ℕ
+b = 0x7000_0001
 
-marks : List ℕ
+abbrev d : ℕ
+d = 0x7000_0003
+
+abbrev f : ℕ
+f = 0x7000_0004
+
+abbrev g : ℕ
+g = 0x7000_0005
+
+abbrev h : ℕ
+h = 0x7000_0006
+
+-- "Chapter a b f d g h f."
+abbrev chapter : List ℕ
+chapter = a ∷ b ∷ f ∷ d ∷ g ∷ h ∷ f ∷ []
+
+-- the marks of its seven nodes with the rule's table, one word each, before three words that are not in use
+abbrev marks : List ℕ
 marks = 34636297 ∷ 69272594 ∷ 25966788 ∷ 293877952 ∷ 25983424 ∷ 0 ∷ 0 ∷ 7 ∷ 7 ∷ 7 ∷ []
 
-compiles : (compileFault alphabet rule 36 ≡ 0) × (compiledTable alphabet rule ≡ table)
-unfolding alphabet rule table kindAt spareBitsClear isOf isEntry rankOf isConstant constantsFrom constantsOf noAlphabet wrongConstants arity trees notOneTree isExpressionWord wrongLength noExpressionWords hasEntries statesOf portOf ownTransitions portsFrom statesAfter transitionsFrom compiled tooManyStates tableTooLong flatMap flatten
-compiles = (refl, refl)
+-- what Compile, Run and List make of an alphabet, a rule and a chapter
+pub record Listed (al e ch : List ℕ) (states words head : ℕ) (lines : List (ℕ × ℕ × ℕ)) : Type 0 where
+  pub compiles : compileFault al e words ≡ 0
+  pub stateCount : compiled al e .states ≡ states
+  pub wordCount : length (compiledTable al e) ≡ words
+  pub headIs : headWord (compiled al e) ≡ head
+  pub runs : runFault al (compiledTable al e) ch (length ch) ≡ 0
+  -- each hit with its symbol and its subtree's element count
+  pub hits :
+      map (λ i. (i, symbolOf (getD ch i 0), i + 1 - startOf al ch i))
+      (matchesOf (compiledTable al e) (length ch) (runMarks al (compiledTable al e) ch (replicate (length ch) 0)))
+      ≡ lines
 
-ran : (runFault alphabet table chapter 10 ≡ 0) × (runMarks alphabet table chapter (replicate 10 7) ≡ marks)
-unfolding alphabet table chapter marks kindAt spareBitsClear isOf isEntry rankOf isConstant constantsFrom constantsOf noAlphabet wrongConstants arity trees notOneTree isNode noNodes isHead isTableWord sourcesLeft areTransitions isTable noTable wrongCount fewMarks transitionsAt automatonOf sizeFor contains insert allContained move sweep sweeps stateSet sizeOf nodeSet nodeSets values valueOn runMarks flatten
-ran = (refl, refl)
+-- what an Exchange of a node of the chapter answers and leaves, where these marks are stored; and what List then names.
+-- The chapter slice has three words more, 1, 2 and 3.
+pub record Exchanged (stored : List ℕ) (e : ℕ) (xs : List ℕ) (answer : Answer) (left : List ℕ) (leftMarks : List ℕ) (hits : List ℕ) : Type 0 where
+  pub answers : exchangeAnswer alphabet (compiledTable alphabet rule) (chapter ++ (1 ∷ 2 ∷ 3 ∷ [])) stored 7 e xs ≡ answer
+  pub chapterLeft : exchangeChapter alphabet (compiledTable alphabet rule) (chapter ++ (1 ∷ 2 ∷ 3 ∷ [])) stored 7 e xs ≡ left
+  pub marksLeft : exchangeMarks alphabet (compiledTable alphabet rule) (chapter ++ (1 ∷ 2 ∷ 3 ∷ [])) stored 7 e xs ≡ leftMarks
+  pub lists : matchesOf (compiledTable alphabet rule) (firstValue answer 7) leftMarks ≡ hits
+
+-- a row of the table
+pub data Row : Type 0 where
+  running : (al e ch : List ℕ) (answer : Answer) → Row
+  listing : (al e ch : List ℕ) (states words head : ℕ) (lines : List (ℕ × ℕ × ℕ)) → Row
+  exchanging : (stored : List ℕ) (e : ℕ) (xs : List ℕ) (answer : Answer) (left leftMarks hits : List ℕ) → Row
+
+abbrev pub Holds : Row → Type 0
+Holds (listing al e ch states words head lines) = Listed al e ch states words head lines
+Holds (running al e ch answer) = runAnswer al (compiledTable al e) ch (replicate (length ch) 0) ≡ answer
+Holds (exchanging stored e xs answer left leftMarks hits) = Exchanged stored e xs answer left leftMarks hits
+
+abbrev pub AllHold : List Row → Type 0
+AllHold [] = Unit {0}
+AllHold (r ∷ rs) = Holds r × AllHold rs
+
+abbrev pub rows : List Row
+rows =
+    -- the source's own example: "29 states, 36 table words, head 0x80007418" and the program's lines
+    listing alphabet rule chapter 29 36 0x8000_7418 ((2, 4, 3) ∷ (3, 3, 1) ∷ (4, 5, 2) ∷ [])
+    -- "Rule d alone, chapter d: one hit, one cell."
+    ∷ listing alphabet (0x2000_0003 ∷ []) (d ∷ []) 1 2 0x8000_0400 ((0, 3, 1) ∷ [])
+    ∷ running alphabet (0x2000_0003 ∷ []) (d ∷ []) (accepted (1 ∷ 1 ∷ []))
+    -- "Exchange element 4 for d: 6 elements, 2 worked out, hits 2 and 3."
+    ∷ exchanging marks 4 (d ∷ []) (accepted (6 ∷ 2 ∷ []))
+    (a ∷ b ∷ f ∷ d ∷ h ∷ f ∷ 0 ∷ 1 ∷ 2 ∷ 3 ∷ [])
+    (34636297 ∷ 69272594 ∷ 25966788 ∷ 293877952 ∷ 0 ∷ 0 ∷ 0 ∷ 7 ∷ 7 ∷ 7 ∷ [])
+    (2 ∷ 3 ∷ [])
+    -- "Instead for a b f g: 9 elements, 4 worked out, hits 2, 5, 6."
+    ∷ exchanging marks 4 (a ∷ b ∷ f ∷ g ∷ []) (accepted (9 ∷ 4 ∷ []))
+    (a ∷ b ∷ f ∷ a ∷ b ∷ f ∷ g ∷ h ∷ f ∷ 3 ∷ [])
+    (34636297 ∷ 69272594 ∷ 25966788 ∷ 34636297 ∷ 69272594 ∷ 25966788 ∷ 25983424 ∷ 0 ∷ 0 ∷ 7 ∷ [])
+    (2 ∷ 5 ∷ 6 ∷ [])
+    -- the same for the same: the root's marks are unchanged, no ancestor is worked out
+    ∷ exchanging marks 3 (d ∷ []) (accepted (7 ∷ 1 ∷ [])) (chapter ++ (1 ∷ 2 ∷ 3 ∷ [])) marks (2 ∷ 3 ∷ 4 ∷ [])
+    -- a false mark at the element itself: one ancestor is worked out, and comes out unchanged
+    ∷ exchanging (set marks 3 0) 3 (d ∷ []) (accepted (7 ∷ 2 ∷ [])) (chapter ++ (1 ∷ 2 ∷ 3 ∷ [])) marks (2 ∷ 3 ∷ 4 ∷ [])
+    -- an ancestor with the same hit and other marks, a bit beyond the last state: work goes on to the next
+    ∷ exchanging (set (set marks 3 0) 4 2173467072) 3 (d ∷ []) (accepted (7 ∷ 3 ∷ [])) (chapter ++ (1 ∷ 2 ∷ 3 ∷ [])) marks (2 ∷ 3 ∷ 4 ∷ [])
+    -- false marks beside the way count as they stand, and stay
+    ∷ exchanging (set marks 2 0) 3 (a ∷ []) (accepted (7 ∷ 3 ∷ []))
+    (a ∷ b ∷ f ∷ a ∷ g ∷ h ∷ f ∷ 1 ∷ 2 ∷ 3 ∷ [])
+    (34636297 ∷ 69272594 ∷ 0 ∷ 34636297 ∷ 0 ∷ 0 ∷ 0 ∷ 7 ∷ 7 ∷ 7 ∷ [])
+    []
+    -- false marks above the ancestor that comes out unchanged stay
+    ∷ exchanging (set marks 6 5) 4 (d ∷ []) (accepted (6 ∷ 2 ∷ []))
+    (a ∷ b ∷ f ∷ d ∷ h ∷ f ∷ 0 ∷ 1 ∷ 2 ∷ 3 ∷ [])
+    (34636297 ∷ 69272594 ∷ 25966788 ∷ 293877952 ∷ 0 ∷ 5 ∷ 0 ∷ 7 ∷ 7 ∷ 7 ∷ [])
+    (2 ∷ 3 ∷ [])
+    -- 15 comes before 16
+    ∷ exchanging marks 3 (d ∷ d ∷ d ∷ d ∷ d ∷ []) (refused 15) (chapter ++ (1 ∷ 2 ∷ 3 ∷ [])) marks (2 ∷ 3 ∷ 4 ∷ [])
+    ∷ exchanging marks 3 (d ∷ g ∷ g ∷ g ∷ g ∷ []) (refused 16) (chapter ++ (1 ∷ 2 ∷ 3 ∷ [])) marks (2 ∷ 3 ∷ 4 ∷ [])
+    ∷ []
+
+-- the count of ones is computed for a small number alone
+one-cell : accepted (1 ∷ (ones 1 + 0) ∷ []) ≡ accepted (1 ∷ 1 ∷ [])
+unfolding ones onesIn
+one-cell = refl
+
+pub examples : AllHold rows
+unfolding kindAt spareBitsClear isOf isEntry rankOf isConstant constantsFrom constantsOf noAlphabet wrongConstants arity trees
+    notOneTree isExpressionWord wrongLength noExpressionWords hasEntries statesOf portOf ownTransitions portsFrom statesAfter transitionsFrom compiled
+    tooManyStates tableTooLong flatMap flatten isNode noNodes isHead isTableWord sourcesLeft areTransitions isTable noTable wrongCount fewMarks transitionsAt
+    automatonOf sizeFor contains insert allContained move sweep sweeps stateSet sizeOf finalOf nodeSet nodeSets values valueOn runMarks cellsIn runAnswer storedSet startFrom
+    matchesIn matchesOf splice isAncestor stackAfter stackGiven sameWords refit wrongUse noElement noReplacement resultTooLong recomputedIn climb rootSet
+    outcomesBehind outcomesAfter fault newTree outcomes exchangeAnswer exchangeChapter exchangeMarks
+examples =
+    (record { compiles = refl; stateCount = refl; wordCount = refl; headIs = refl; runs = refl; hits = refl }, (record { compiles = refl; stateCount = refl; wordCount = refl; headIs = refl; runs = refl; hits = refl }, (one-cell, (record { answers = refl; chapterLeft = refl; marksLeft = refl; lists = refl }, (record { answers = refl; chapterLeft = refl; marksLeft = refl; lists = refl }, (record { answers = refl; chapterLeft = refl; marksLeft = refl; lists = refl }, (record { answers = refl; chapterLeft = refl; marksLeft = refl; lists = refl }, (record { answers = refl; chapterLeft = refl; marksLeft = refl; lists = refl }, (record { answers = refl; chapterLeft = refl; marksLeft = refl; lists = refl }, (record { answers = refl; chapterLeft = refl; marksLeft = refl; lists = refl }, (record { answers = refl; chapterLeft = refl; marksLeft = refl; lists = refl }, (record { answers = refl; chapterLeft = refl; marksLeft = refl; lists = refl }, tt))))))))))))
