@@ -7,3 +7,5 @@ pub mod RefusalLaws
 pub mod ReadingLaws
 pub mod KindLaws
 pub mod ChildLaws
+pub mod ExactlyOne
+pub mod TreeLaws

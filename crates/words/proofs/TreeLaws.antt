@@ -1,0 +1,149 @@
+-- Words that pass the shape check are the postfix words of exactly one tree in which every word has as many children as it
+-- takes. The stack reading that puts each word over its children builds it. Assumes nothing.
+use mathlib.Core.Path.{_≡_, refl, ap, ap₂, _∙_, sym, subst}
+use mathlib.Core.Bool.{true}
+use mathlib.Core.List.{List, [], _∷_, _++_, reverse, reverse-cons, reverse-reverse, append-assoc, append-nil, head-eq-of-cons-eq}
+use Prim.Native.Nat.{ℕ, zero, suc, _+_, _-_, _≤_}
+use native.Mathlib.Omega.{arith}
+use native.Mathlib.Numerals.{add-one}
+use lib.ListN.{length, take, drop, length-drop, length-reverse, take-append-drop}
+use lib.Seq.{length-take-le}
+use lib.Dec.{leb}
+use borrow.Author.Tests.{leb-true, eqb-true}
+use Rattle.words.specs.Tree.{Tree, Trees, node, none, more, number, postfix, postfixAll, fold, foldAll}
+use Rattle.words.specs.Postfix.{arity, trees, oneTree, stackAfter, Ranked, RankedAll}
+use Rattle.words.proofs.PostfixLaws.{picked}
+use Rattle.words.proofs.ExactlyOne.{ExactlyOne}
+use Rattle.words.proofs.ReadingLaws.{stack-tree}
+
+-- a tree that the words are read as
+pub record TreeOf (a ws : List ℕ) (t : Tree) : Type 0 where
+  pub ranked : Ranked a t
+  pub words : postfix t ≡ ws
+
+-- ---- a list of trees as a node's children
+
+abbrev row : List Tree → Trees
+row [] = none
+row (t ∷ ts) = more t (row ts)
+
+-- a word over its children: the value with which the words are read as a tree
+abbrev pub built : ℕ → List Tree → Tree
+built w ts = node w (row ts)
+
+mutual
+  pub fold-built : (t : Tree) → fold built t ≡ t
+  fold-built (node w ts) = ap (node w) (row-built ts)
+
+  row-built : (ts : Trees) → row (foldAll built ts) ≡ ts
+  row-built none = refl
+  row-built (more t ts) = ap₂ more (fold-built t) (row-built ts)
+
+number-row : (ts : List Tree) → number (row ts) ≡ length ts
+number-row [] = refl
+number-row (t ∷ ts) = ap suc (number-row ts)
+
+-- ---- a stack of trees, the last on top
+
+abbrev onStack : List Tree → List ℕ
+onStack [] = []
+onStack (t ∷ s) = onStack s ++ postfix t
+
+abbrev AllRanked : List ℕ → List Tree → Type 0
+AllRanked a [] = Unit {0}
+AllRanked a (t ∷ s) = Ranked a t × AllRanked a s
+
+onStack-append : (l s : List Tree) → onStack (l ++ s) ≡ onStack s ++ onStack l
+onStack-append [] s = sym (append-nil (onStack s))
+onStack-append (t ∷ l) s = ap (λ (x : List ℕ). x ++ postfix t) (onStack-append l s) ∙ append-assoc (onStack s) (onStack l) (postfix t)
+
+-- the words of a row of trees are those of the stack that has its last tree on top
+onStack-row : (l : List Tree) → onStack (reverse l) ≡ postfixAll (row l)
+onStack-row [] = refl
+onStack-row (t ∷ l) =
+    ap onStack (reverse-cons t l) ∙ onStack-append (reverse l) (t ∷ [])
+    ∙ ap (λ (x : List ℕ). postfix t ++ x) (onStack-row l)
+
+module _ (a : List ℕ) where
+  ranked-append : (l s : List Tree) → AllRanked a l → AllRanked a s → AllRanked a (l ++ s)
+  ranked-append [] s h g = g
+  ranked-append (t ∷ l) s h g = (h .0, ranked-append l s (h .1) g)
+
+  ranked-reverse : (l : List Tree) → AllRanked a l → AllRanked a (reverse l)
+  ranked-reverse [] h = tt
+  ranked-reverse (t ∷ l) h = subst (AllRanked a) (sym (reverse-cons t l)) (ranked-append (reverse l) (t ∷ []) (ranked-reverse l (h .1)) (h .0, tt))
+
+  ranked-row : (l : List Tree) → AllRanked a l → RankedAll a (row l)
+  ranked-row [] h = tt
+  ranked-row (t ∷ l) h = (h .0, ranked-row l (h .1))
+
+  ranked-take : (n : ℕ) (s : List Tree) → AllRanked a s → AllRanked a (take n s)
+  ranked-take zero s h = tt
+  ranked-take (suc n) [] h = tt
+  ranked-take (suc n) (t ∷ s) h = (h .0, ranked-take n s (h .1))
+
+  ranked-drop : (n : ℕ) (s : List Tree) → AllRanked a s → AllRanked a (drop n s)
+  ranked-drop zero s h = h
+  ranked-drop (suc n) [] h = tt
+  ranked-drop (suc n) (t ∷ s) h = ranked-drop n s (h .1)
+
+  -- a stack of n trees whose words are ws
+  record Stack (ws : List ℕ) (n : ℕ) (s : List Tree) : Type 0 where
+    ranked : AllRanked a s
+    words : onStack s ≡ ws
+    height : length s ≡ n
+
+  -- one word more takes its children from the stack
+  module _ (w : ℕ) (s : List Tree) (r : arity a w ≤ length s) (h : AllRanked a s) where
+    abbrev kids : List Tree
+    kids = reverse (take (arity a w) s)
+
+    kids-number : arity a w ≡ number (row kids)
+    kids-number = sym (number-row kids ∙ length-reverse (take (arity a w) s) ∙ length-take-le (arity a w) s r)
+
+    more-ranked : AllRanked a (built w kids ∷ drop (arity a w) s)
+    more-ranked =
+        ((kids-number, ranked-row kids (ranked-reverse (take (arity a w) s) (ranked-take (arity a w) s h))), ranked-drop (arity a w) s h)
+
+    more-words : onStack (built w kids ∷ drop (arity a w) s) ≡ onStack s ++ w ∷ []
+    more-words =
+        sym (append-assoc (onStack (drop (arity a w) s)) (postfixAll (row kids)) (w ∷ []))
+        ∙ ap (λ (x : List ℕ). (onStack (drop (arity a w) s) ++ x) ++ w ∷ []) (sym (onStack-row kids) ∙ ap onStack (reverse-reverse (take (arity a w) s)))
+        ∙ ap (λ (x : List ℕ). x ++ w ∷ []) (sym (onStack-append (take (arity a w) s) (drop (arity a w) s)) ∙ ap onStack (take-append-drop (arity a w) s))
+
+  -- words that make n trees on a stack are read as the words of n trees
+  read-stack : (ws : List ℕ) (s : List Tree) (n : ℕ) → AllRanked a s → trees a (length s) ws n ≡ true
+      → (s′ : List Tree) × Stack (onStack s ++ ws) n s′
+  unfolding trees
+  read-stack [] s n h e = (s, record { ranked = h; words = sym (append-nil (onStack s)); height = eqb-true (length s) n e })
+  read-stack (w ∷ ws) s n h e =
+      let r = arity a w in
+      let p = picked (leb r (length s)) (trees a (length s - r + 1) ws n) e in
+      let le : r ≤ length s = leb-true r (length s) (p .0) in
+      let q : length s - r + 1 ≡ suc (length (drop r s)) = rw (length-drop r s) (add-one (length s - r)) in
+      let b = read-stack ws (built w (reverse (take r s)) ∷ drop r s) n (more-ranked w s le h) (subst (λ (x : ℕ). trees a x ws n ≡ true) q (p .1)) in
+      let g : onStack (built w (reverse (take r s)) ∷ drop r s) ++ ws ≡ onStack s ++ w ∷ ws =
+      ap (λ (x : List ℕ). x ++ ws) (more-words w s le h) ∙ append-assoc (onStack s) (w ∷ []) ws in
+      (b .0, record { ranked = b .1 .ranked; words = b .1 .words ∙ g; height = b .1 .height })
+
+  stack-one : (ws : List ℕ) (s : List Tree) → Stack ws 1 s → (t : Tree) × TreeOf a ws t
+  stack-one ws [] k = absurd (let z = k .height in omega arith)
+  stack-one ws (t ∷ []) k = (t, record { ranked = k .ranked .0; words = k .words })
+  stack-one ws (t ∷ u ∷ s) k = absurd (let z = k .height in omega arith)
+
+  -- reading a tree's words by `built` gives the tree back, so no two trees have the same words
+  tree-read : (ws : List ℕ) (t : Tree) → TreeOf a ws t → stackAfter a built ws [] ≡ t ∷ []
+  tree-read ws t h =
+      ap (λ (l : List ℕ). stackAfter a built l []) (sym (h .words)) ∙ stack-tree a built t [] (h .ranked)
+      ∙ ap (λ (x : Tree). x ∷ []) (fold-built t)
+
+  -- "exactly one tree remains"
+  pub exactly-one-tree : (ws : List ℕ) → oneTree a ws ≡ true → ExactlyOne (TreeOf a ws)
+  exactly-one-tree ws h =
+      let b = read-stack ws [] 1 tt h in
+      let k = stack-one ws (b .0) (b .1) in
+      record {
+        the = k .0;
+        has = k .1;
+        only = λ t g. head-eq-of-cons-eq (sym (tree-read ws t g) ∙ tree-read ws (k .0) (k .1));
+      }
