@@ -1,0 +1,3 @@
+// The table layer: whether words are a table, what its head says, state sets, and a node's state set from its children's.
+pub mod head;
+pub mod set;

@@ -1,0 +1,70 @@
+// State sets: state s is bit s mod 32 of word s / 32.
+ghost use mathlib.Core.Path.{_≡_};
+ghost use Prim.Native.Nat.{_^_, _<_};
+ghost use Rattle.automaton.specs.StateSet.{contains as StateSet·contains, insert as StateSet·insert};
+
+// The word with bit b alone, for each b.
+const MASKS: [u32; 32] = [
+    1,
+    2,
+    4,
+    8,
+    16,
+    32,
+    64,
+    128,
+    256,
+    512,
+    1024,
+    2048,
+    4096,
+    8192,
+    16384,
+    32768,
+    65536,
+    131072,
+    262144,
+    524288,
+    1048576,
+    2097152,
+    4194304,
+    8388608,
+    16777216,
+    33554432,
+    67108864,
+    134217728,
+    268435456,
+    536870912,
+    1073741824,
+    2147483648,
+];
+
+fn mask(b: usize) -> u32
+    requires { ⌜ b < 32 ⌝ }
+    ensures { λ r. ⌜ r ≡ 2 ^ b ⌝ }
+{
+    MASKS[b]
+}
+
+// Whether the set has state s; a state beyond the set's words is not in it.
+pub fn contains(set: &[u32], s: usize) -> bool
+    ensures { λ r. ⌜ r ≡ StateSet·contains (now (set .entry)) s ⌝ }
+{
+    let at = s / 32;
+    if at < set.len() {
+        let one = mask(s % 32);
+        return set[at] & one != 0;
+    }
+    false
+}
+
+// Puts state s into the set; a state beyond the set's words changes nothing.
+pub fn insert(set: &mut [u32], s: usize)
+    ensures { λ _. ⌜ now (set .exit) ≡ StateSet·insert (now (set .entry)) s ⌝ }
+{
+    let at = s / 32;
+    if at < set.len() {
+        let one = mask(s % 32);
+        set[at] = set[at] | one;
+    }
+}
