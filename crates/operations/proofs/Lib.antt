@@ -1,1 +1,3 @@
 pub mod Examples
+pub mod Attained
+pub mod Demand1

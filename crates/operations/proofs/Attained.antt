@@ -1,0 +1,100 @@
+-- Demand 1: each refusal number of each operation is the answer of some call: one table of rows, one theorem. Assumes
+-- nothing.
+use Prim.Native.Nat.{ℕ, zero, suc}
+use mathlib.Core.Path.{_≡_, refl}
+use mathlib.Core.List.{List, [], _∷_, _++_}
+use lib.ListN.{replicate}
+use Rattle.words.specs.Word.{kindAt, spareBitsClear, isOf}
+use Rattle.words.specs.Alphabet.{isEntry, rankOf, isConstant, constantsFrom, constantsOf, noAlphabet, wrongConstants}
+use Rattle.words.specs.Postfix.{arity, trees, notOneTree, startFrom, splice}
+use Rattle.words.specs.Expression.{isExpressionWord, wrongLength, noExpressionWords}
+use Rattle.words.specs.Chapter.{isNode, noNodes}
+use Rattle.automaton.specs.Transition.{automatonOf}
+use Rattle.automaton.specs.Numbering.{hasEntries, statesOf, portOf, ownTransitions, portsFrom, statesAfter, transitionsFrom, compiled}
+use Rattle.automaton.specs.Table.{isHead, isTableWord, sourcesLeft, areTransitions, isTable, noTable}
+use Rattle.automaton.specs.StateSet.{sizeFor}
+use Rattle.operations.specs.Answer.{Answer, refused}
+use Rattle.operations.specs.Compile.{tooManyStates, tableTooLong, compileAnswer}
+use Rattle.operations.specs.Marks.{sizeOf}
+use Rattle.operations.specs.Run.{wrongCount, fewMarks, runAnswer}
+use Rattle.operations.specs.Listing.{listTooShort, listAnswer}
+use Rattle.operations.specs.Exchange.{wrongUse, noElement, noReplacement, resultTooLong, fault, exchangeAnswer}
+
+-- a call of an operation, with all that is lent
+pub data Called : Type 0 where
+  compile : (a e slice : List ℕ) → Called
+  run : (a table ch marks : List ℕ) → Called
+  list : (a table : List ℕ) (n : ℕ) (marks slice : List ℕ) → Called
+  exchange : (a table chapter marks : List ℕ) (n e : ℕ) (xs : List ℕ) → Called
+
+abbrev pub answerTo : Called → Answer
+answerTo (compile a e slice) = compileAnswer a e slice
+answerTo (run a table ch marks) = runAnswer a table ch marks
+answerTo (list a table n marks slice) = listAnswer a table n marks slice
+answerTo (exchange a table chapter marks n e xs) = exchangeAnswer a table chapter marks n e xs
+
+abbrev pub Refuse : List (ℕ × Called) → Type 0
+Refuse [] = Unit {0}
+Refuse (r ∷ rs) = (answerTo (r .1) ≡ refused (r .0)) × Refuse rs
+
+-- a constant 0 and a symbol 1 of rank 2; no constant; 16 constants
+abbrev two : List ℕ
+two = 0x1000_0000 ∷ 0x1000_0002 ∷ []
+
+abbrev sixteen : List ℕ
+sixteen = replicate 16 0x1000_0000
+
+-- the table of the rule 0: one state, reached by the constant 0
+abbrev one : List ℕ
+one = 0x8000_0400 ∷ 0x9000_0000 ∷ []
+
+-- "61 closures over one constant"
+abbrev closures : List ℕ
+closures = 0x2000_0000 ∷ replicate 61 0x6000_0000
+
+abbrev leaf : ℕ
+leaf = 0x7000_0000
+
+abbrev pair : ℕ
+pair = 0x7000_0001
+
+abbrev pub calls : List (ℕ × Called)
+calls =
+    (1, compile [] [] [])
+    ∷ (2, compile (0x1000_0002 ∷ []) [] [])
+    ∷ (3, compile two [] [])
+    ∷ (4, compile two (0 ∷ []) [])
+    ∷ (5, compile two (0x2000_0001 ∷ []) [])
+    ∷ (6, compile sixteen closures [])
+    ∷ (7, compile two (0x2000_0000 ∷ []) (0 ∷ []))
+    ∷ (1, run (0 ∷ []) [] [] [])
+    ∷ (2, run (0x1000_0001 ∷ []) [] [] [])
+    ∷ (8, run two [] [] [])
+    ∷ (9, run two one [] [])
+    ∷ (10, run two one (0 ∷ []) [])
+    ∷ (11, run two one (pair ∷ []) [])
+    ∷ (12, run two one (leaf ∷ []) [])
+    ∷ (1, list (0x1000_0005 ∷ []) [] 0 [] [])
+    ∷ (2, list (replicate 17 0x1000_0000) [] 0 [] [])
+    ∷ (8, list two (0x8000_0000 ∷ []) 0 [] [])
+    ∷ (9, list two one 0 [] [])
+    ∷ (12, list two one 1 [] [])
+    ∷ (13, list two one 1 (0 ∷ []) [])
+    ∷ (1, exchange [] [] [] [] 0 0 [])
+    ∷ (2, exchange (0x1000_0004 ∷ []) [] [] [] 0 0 [])
+    ∷ (8, exchange two (0x8000_0401 ∷ []) [] [] 0 0 [])
+    ∷ (9, exchange two one [] [] 1 0 [])
+    ∷ (10, exchange two one (0x6000_0000 ∷ []) [] 1 0 [])
+    ∷ (11, exchange two one (leaf ∷ leaf ∷ []) [] 2 0 [])
+    ∷ (12, exchange two one (leaf ∷ []) [] 1 1 [])
+    ∷ (14, exchange two one (leaf ∷ []) (0 ∷ []) 1 1 [])
+    ∷ (15, exchange two one (leaf ∷ []) (0 ∷ []) 1 0 [])
+    ∷ (16, exchange two one (leaf ∷ []) (0 ∷ []) 1 0 (leaf ∷ leaf ∷ pair ∷ []))
+    ∷ []
+
+pub attained : Refuse calls
+unfolding kindAt spareBitsClear isOf isEntry rankOf isConstant constantsFrom constantsOf noAlphabet wrongConstants arity trees notOneTree startFrom splice
+    isExpressionWord wrongLength noExpressionWords isNode noNodes automatonOf hasEntries statesOf portOf ownTransitions portsFrom statesAfter transitionsFrom
+    compiled isHead isTableWord sourcesLeft areTransitions isTable noTable sizeFor tooManyStates tableTooLong compileAnswer sizeOf wrongCount fewMarks
+    runAnswer listTooShort listAnswer wrongUse noElement noReplacement resultTooLong fault exchangeAnswer
+attained = (refl, (refl, (refl, (refl, (refl, (refl, (refl, (refl, (refl, (refl, (refl, (refl, (refl, (refl, (refl, (refl, (refl, (refl, (refl, (refl, (refl, (refl, (refl, (refl, (refl, (refl, (refl, (refl, (refl, (refl, tt))))))))))))))))))))))))))))))
