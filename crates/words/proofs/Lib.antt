@@ -9,3 +9,4 @@ pub mod KindLaws
 pub mod ChildLaws
 pub mod ExactlyOne
 pub mod TreeLaws
+pub mod SubtreeLaws

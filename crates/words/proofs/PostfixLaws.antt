@@ -124,7 +124,7 @@ pub start-le : (a ch : List ℕ) (i : ℕ) → startOf a ch i ≤ i
 start-le a ch i = rw start-parts (startFrom-le a ch i (arity a (getD ch i 0)))
 
 -- the run from s to j, and one word more
-run-snoc : (ch : List ℕ) (s j : ℕ) → s ≤ j → j < length ch → slice s (suc j) ch ≡ slice s j ch ++ getD ch j 0 ∷ []
+pub run-snoc : (ch : List ℕ) (s j : ℕ) → s ≤ j → j < length ch → slice s (suc j) ch ≡ slice s j ch ++ getD ch j 0 ∷ []
 run-snoc ch s j hs hj =
     ap (drop s) (take-suc ch j 0 hj)
     ∙ drop-append-le s (take j ch) (getD ch j 0 ∷ []) (rw (length-take-le j ch (omega arith)) hs)
