@@ -10,3 +10,5 @@ pub mod ChildLaws
 pub mod ExactlyOne
 pub mod TreeLaws
 pub mod SubtreeLaws
+pub mod ChildSubtreeLaws
+pub mod AncestorLaws

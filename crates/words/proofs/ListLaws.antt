@@ -1,12 +1,13 @@
--- Laws of lists: map over parts of a list, lists by their index, counts, and lists of numbers below a bound. Assumes nothing.
+-- Laws of lists: map over parts of a list, lists by their index, parts side by side, counts, and lists of numbers below a
+-- bound. Assumes nothing.
 use mathlib.Core.Path.{_≡_, refl, ap, ap₂, _∙_, sym}
 use mathlib.Core.Bool.{Bool, cond}
 use mathlib.Core.List.{List, [], _∷_, _++_, map, reverse, reverseAux}
 use Prim.Native.Nat.{ℕ, zero, suc, _+_, _<_, _≤_}
 use native.Mathlib.Omega.{arith}
 use native.Mathlib.Nat.{zero-add, add-zero, add-suc, suc-add, add-assoc}
-use lib.ListN.{length, getD, take, drop, set}
-use lib.Seq.{getD-set-other}
+use lib.ListN.{length, getD, take, drop, set, take-append-drop}
+use lib.Seq.{slice, getD-set-other, take-take, length-take-le, drop-append-le}
 use Rattle.words.specs.Lists.{count, listFrom}
 
 -- ---- map
@@ -63,6 +64,16 @@ listFrom-getD d [] = refl
 listFrom-getD {A} d (x ∷ l) =
     ap (λ (t : List A). x ∷ t)
     (listFrom-shift (λ i. getD (x ∷ l) i d) (λ i. getD l i d) (length l) 0 (λ i. refl) ∙ listFrom-getD d l)
+
+-- ---- parts of a list
+
+-- two parts of a list side by side
+pub slice-slice : {A : Type 0} (l : List A) (s m t : ℕ) → s ≤ m → m ≤ t → t ≤ length l → slice s m l ++ slice m t l ≡ slice s t l
+slice-slice {A} l s m t hs hm ht =
+    let q : take m (take t l) ≡ take m l = take-take m t l hm in
+    let n : length (take m l) ≡ m = length-take-le m l (omega arith) in
+    sym (drop-append-le s (take m l) (slice m t l) (rw n hs))
+    ∙ ap (drop s) (ap (λ (x : List A). x ++ slice m t l) (sym q) ∙ take-append-drop m (take t l))
 
 -- ---- counts
 
