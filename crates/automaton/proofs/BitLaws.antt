@@ -2,7 +2,7 @@
 -- contains. Assumes nothing.
 use mathlib.Core.Path.{_≡_, refl, ap, _∙_, sym}
 use mathlib.Core.Logic.{_≢_}
-use mathlib.Core.Bool.{Bool, true, false}
+use mathlib.Core.Bool.{Bool, true, false, true≢false, false≢true}
 use mathlib.Core.List.{List}
 use Prim.Native.Nat.{ℕ, zero, suc, _+_, _*_, _-_, _<_, _≤_, _/_, _%_, _^_, max}
 use native.Mathlib.Omega.{arith}
@@ -121,6 +121,15 @@ contains-replicate n s = contains-zero (replicate n 0) s (go (decLt (s / 32) n))
 pub contains-beyond : (r : StateSet) (s : ℕ) → length r ≤ s / 32 → contains r s ≡ false
 contains-beyond r s h = contains-zero r s (List·getD-eq-default r 0 h)
 
+-- no state goes, also where the new one is beyond the words
+pub insert-keeps : (r : StateSet) (s q : ℕ) → contains r q ≡ true → contains (insert r s) q ≡ true
+insert-keeps r s q h = go (ℕ-discrete q s) (decLt (q / 32) (length r))
+  where
+    go : Dec (q ≡ s) → Dec (q / 32 < length r) → contains (insert r s) q ≡ true
+    go (no n) d = insert-other r s q n ∙ h
+    go (yes e) (yes l) = rw (sym e) (insert-same r q l)
+    go (yes e) (no l) = absurd (true≢false (sym h ∙ contains-beyond r q (omega arith)))
+
 -- ---- words of 32 bits
 
 abbrev pub Words : List ℕ → Type 0
@@ -156,8 +165,8 @@ contains-determines r t e wr wt h = ext-getD 0 r t e (λ i l. bits-determine 32 
         go : (b c : Bool) → eqb (x % 2) 1 ≡ b → eqb (y % 2) 1 ≡ c → b ≡ c → x % 2 ≡ y % 2
         go true true p q _ = omega (arith, eqb-true (x % 2) 1 p, eqb-true (y % 2) 1 q)
         go false false p q _ = let n = eqb-false (x % 2) 1 p in let m = eqb-false (y % 2) 1 q in omega arith
-        go true false p q z = absurd (let y : _≡_ {A = ℕ} 0 1 = cc in omega arith)
-        go false true p q z = absurd (let y : _≡_ {A = ℕ} 0 1 = cc in omega arith)
+        go true false p q z = absurd (true≢false z)
+        go false true p q z = absurd (false≢true z)
 
     bit : (i k : ℕ) → k < 32 → getD r i 0 / 2 ^ k % 2 ≡ getD t i 0 / 2 ^ k % 2
     bit i k m =

@@ -1,2 +1,4 @@
 pub mod BitLaws
 pub mod SetLength
+pub mod SweepLaws
+pub mod ClosureLaws

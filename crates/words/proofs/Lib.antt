@@ -12,3 +12,4 @@ pub mod TreeLaws
 pub mod SubtreeLaws
 pub mod ChildSubtreeLaws
 pub mod AncestorLaws
+pub mod CountLaws

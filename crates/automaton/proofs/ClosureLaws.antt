@@ -1,0 +1,151 @@
+-- A node's state set holds exactly the states that are reached there, and it is the only set of its size that does.
+-- Assumes nothing.
+use mathlib.Core.Path.{_≡_, refl, ap, _∙_, sym}
+use mathlib.Core.Logic.{_↔_, ⊎-elim}
+use mathlib.Core.Bool.{Bool, true, false, true≢false}
+use mathlib.Core.List.{List, [], _∷_, List·Memᴰ, List·Memᴰ·head, List·Memᴰ·tail}
+use Prim.Native.Nat.{ℕ, zero, suc, _+_, _*_, _<_, _≤_, _/_}
+use native.Mathlib.Omega.{arith}
+use lib.ListN.{length, replicate, length-replicate}
+use Rattle.words.proofs.TestLaws.{Tested, holds, fails, tested}
+use Rattle.automaton.specs.Transition.{Transition, Automaton, onSymbol, epsilon}
+use Rattle.automaton.specs.StateSet.{StateSet, sizeFor, contains, insert, allContained, move, sweeps, stateSet}
+use Rattle.automaton.specs.Reached.{Reached, bySymbol, byEpsilon}
+use Rattle.automaton.specs.Table.{TransitionOver, TransitionsOver, AutomatonOver}
+use Rattle.automaton.proofs.BitLaws.{Words, words-replicate, words-insert, contains-replicate, contains-determines}
+use Rattle.automaton.proofs.SweepLaws.{Seeded, ClosedUnder, Within, In, move-keeps, sweeps-keeps, length-move, length-sweeps, sweeps-grows, move-adds, move-within, sweeps-within, sweeps-closed}
+
+-- ---- targets
+
+abbrev pub targetOf : Transition → ℕ
+targetOf (onSymbol f ps q) = q
+targetOf (epsilon p q) = q
+
+-- all that a state set needs of an automaton: every target is one of its states
+abbrev pub TargetsBelow : ℕ → List Transition → Type 0
+TargetsBelow n ts = (t : Transition) → List·Memᴰ t ts → targetOf t < n
+
+pub transition-over : (a : List ℕ) (n : ℕ) (ts : List Transition) → TransitionsOver a n ts → {t : Transition} → List·Memᴰ t ts → TransitionOver a n t
+transition-over a n (u ∷ ts) o (List·Memᴰ·head e) = rw e (o .0)
+transition-over a n (u ∷ ts) o (List·Memᴰ·tail m) = transition-over a n ts (o .1) m
+
+pub targets-below : {a : List ℕ} {A : Automaton} → AutomatonOver a A → TargetsBelow (A .states) (A .transitions)
+targets-below {a} {A} o t m = go t (transition-over a (A .states) (A .transitions) (o .transitions) m)
+  where
+    go : (t : Transition) → TransitionOver a (A .states) t → targetOf t < A .states
+    go (onSymbol f ps q) h = h .3
+    go (epsilon p q) h = h .1
+
+-- ---- the sets that hold what is reached
+
+-- As code finds it, in any order: the set has its size, holds what the symbol transitions seed, is closed under the epsilon
+-- transitions, and holds only what is reached.
+pub record IsStateSet (A : Automaton) (f : ℕ) (rs : List StateSet) (r : StateSet) : Type 0 where
+  pub size : length r ≡ sizeFor (A .states)
+  pub words : Words r
+  pub seeded : Seeded (A .transitions) f rs (In r)
+  pub closed : ClosedUnder (A .transitions) (In r)
+  pub reached : Within (Reached (A .transitions) f rs) r
+
+pub seeded-closed-all : (ts : List Transition) (f : ℕ) (rs : List StateSet) (P : ℕ → Type 0)
+    → Seeded ts f rs P → ClosedUnder ts P → {q : ℕ} → Reached ts f rs q → P q
+seeded-closed-all ts f rs P s c (bySymbol {q = q} {ps = ps} m e) = s ps q m e
+seeded-closed-all ts f rs P s c (byEpsilon {p = p} {q = q} m d) = c p q m (seeded-closed-all ts f rs P s c d)
+
+same-truth : (b c : Bool) → (b ≡ true → c ≡ true) → (c ≡ true → b ≡ true) → b ≡ c
+same-truth true c f g = sym (f refl)
+same-truth false true f g = g refl
+same-truth false false f g = refl
+
+module _ {A : Automaton} {f : ℕ} {rs : List StateSet} {r : StateSet} where
+  pub isStateSet-reached : IsStateSet A f rs r → (q : ℕ) → (contains r q ≡ true) ↔ Reached (A .transitions) f rs q
+  isStateSet-reached i q = (i .reached q, seeded-closed-all (A .transitions) f rs (In r) (i .seeded) (i .closed))
+
+  pub reached-isStateSet : length r ≡ sizeFor (A .states) → Words r → ((q : ℕ) → (contains r q ≡ true) ↔ Reached (A .transitions) f rs q) → IsStateSet A f rs r
+  reached-isStateSet l w h =
+      record {
+        size = l;
+        words = w;
+        seeded = λ ps q m e. h q .1 (bySymbol m e);
+        closed = λ p q m e. h q .1 (byEpsilon m (h p .0 e));
+        reached = λ q. h q .0;
+      }
+
+pub isStateSet-unique : {A : Automaton} {f : ℕ} {rs : List StateSet} {r t : StateSet} → IsStateSet A f rs r → IsStateSet A f rs t → r ≡ t
+isStateSet-unique {r = r} {t = t} i j =
+    contains-determines r t (i .size ∙ sym (j .size)) (i .words) (j .words)
+    (λ q. same-truth (contains r q) (contains t q)
+    (λ e. isStateSet-reached j q .1 (i .reached q e)) (λ e. isStateSet-reached i q .1 (j .reached q e)))
+
+-- ---- the state set
+
+abbrev emptySet : ℕ → StateSet
+emptySet states = replicate (sizeFor states) 0
+
+module _ (A : Automaton) (f : ℕ) (rs : List StateSet) where
+  pub length-stateSet : length (stateSet A f rs) ≡ sizeFor (A .states)
+  unfolding stateSet
+  length-stateSet =
+      let r = emptySet (A .states) in
+      length-sweeps (A .states) (A .transitions) (move f rs (A .transitions) r)
+      ∙ length-move f rs (A .transitions) r ∙ length-replicate (sizeFor (A .states)) 0
+
+  pub words-stateSet : Words (stateSet A f rs)
+  unfolding stateSet
+  words-stateSet =
+      let r = emptySet (A .states) in
+      sweeps-keeps Words words-insert (A .states) (A .transitions) (move f rs (A .transitions) r)
+      (move-keeps Words words-insert f rs (A .transitions) r (words-replicate (sizeFor (A .states))))
+
+  -- it holds only what is reached, whatever the targets
+  stateSet-within : Within (Reached (A .transitions) f rs) (stateSet A f rs)
+  unfolding stateSet
+  stateSet-within =
+      let r = emptySet (A .states) in
+      let P = Reached (A .transitions) f rs in
+      sweeps-within P (A .states) (A .transitions) (move f rs (A .transitions) r) (λ p q m. byEpsilon m)
+      (move-within P f rs (A .transitions) r (λ ps q m. bySymbol m) (λ q e. absurd (true≢false (sym e ∙ contains-replicate (sizeFor (A .states)) q))))
+
+  module _ (below : TargetsBelow (A .states) (A .transitions)) where
+    stateSet-seeded : Seeded (A .transitions) f rs (In (stateSet A f rs))
+    unfolding stateSet sizeFor
+    stateSet-seeded ps q m e =
+        let r = emptySet (A .states) in
+        let l = below (onSymbol f ps q) m in
+        sweeps-grows (A .states) (A .transitions) (move f rs (A .transitions) r) q
+        (move-adds f rs (A .transitions) r ps q m (rw (length-replicate {A = ℕ} (sizeFor (A .states)) 0) (omega arith)) e)
+
+    stateSet-closed : ClosedUnder (A .transitions) (In (stateSet A f rs))
+    unfolding stateSet sizeFor
+    stateSet-closed =
+        let r = emptySet (A .states) in
+        sweeps-closed (A .states) (A .transitions) (λ p q m. below (epsilon p q) m) (move f rs (A .transitions) r)
+        (rw (length-move f rs (A .transitions) r, length-replicate {A = ℕ} (sizeFor (A .states)) 0) (omega arith))
+
+    pub stateSet-is : IsStateSet A f rs (stateSet A f rs)
+    stateSet-is = record { size = length-stateSet; words = words-stateSet; seeded = stateSet-seeded; closed = stateSet-closed; reached = stateSet-within }
+
+    -- "for every state s, bit s mod 32 of word s / 32 is set exactly if s is reached"
+    pub stateSet-reached : (q : ℕ) → (contains (stateSet A f rs) q ≡ true) ↔ Reached (A .transitions) f rs q
+    stateSet-reached = isStateSet-reached stateSet-is
+
+    -- only states of the automaton are reached
+    pub reached-below : {q : ℕ} → Reached (A .transitions) f rs q → q < A .states
+    reached-below (bySymbol {q = q} {ps = ps} m e) = below (onSymbol f ps q) m
+    reached-below (byEpsilon {p = p} {q = q} m d) = below (epsilon p q) m
+
+    -- "Bits beyond the last state are zero."
+    pub stateSet-beyond : (q : ℕ) → A .states ≤ q → contains (stateSet A f rs) q ≡ false
+    stateSet-beyond q h = go (tested (contains (stateSet A f rs) q))
+      where
+        go : Tested (contains (stateSet A f rs) q) → contains (stateSet A f rs) q ≡ false
+        go (holds e) = absurd (let l = reached-below (stateSet-within q e) in omega arith)
+        go (fails e) = e
+
+    -- every set with these facts is the state set
+    pub stateSet-unique : {r : StateSet} → IsStateSet A f rs r → r ≡ stateSet A f rs
+    stateSet-unique i = isStateSet-unique i stateSet-is
+
+    pub stateSet-unique-reached : (r : StateSet) → length r ≡ sizeFor (A .states) → Words r
+        → ((q : ℕ) → (contains r q ≡ true) ↔ Reached (A .transitions) f rs q) → r ≡ stateSet A f rs
+    stateSet-unique-reached r l w h = stateSet-unique (reached-isStateSet l w h)

@@ -1,0 +1,196 @@
+-- Laws of the passes that make a state set: what a pass keeps and adds, that it adds nothing else, and that as many passes
+-- over the epsilon transitions as there are states leave a set that is closed under them. Assumes nothing.
+use mathlib.Core.Path.{_≡_, refl, ap, _∙_, sym}
+use mathlib.Core.Bool.{Bool, true, false, cond, _&&_, true≢false}
+use mathlib.Core.List.{List, [], _∷_, List·Memᴰ, List·Memᴰ·head, List·Memᴰ·tail}
+use Prim.Native.Nat.{ℕ, zero, suc, _+_, _*_, _<_, _≤_, _/_}
+use native.Mathlib.Omega.{arith}
+use native.Mathlib.Decide.{ℕ-discrete, decLt}
+use lib.ListN.{length}
+use lib.Dec.{eqb}
+use borrow.Author.Tests.{eqb-true, eq-eqb}
+use Rattle.words.specs.Lists.{count, listFrom}
+use Rattle.words.proofs.TestLaws.{Tested, holds, fails, tested, and-true, true-and}
+use Rattle.words.proofs.CountLaws.{count-all, count-more, length-listFrom, listFrom-member}
+use Rattle.automaton.specs.Transition.{Transition, onSymbol, epsilon}
+use Rattle.automaton.specs.StateSet.{StateSet, contains, insert, allContained, moved, swept, move, sweep, sweeps}
+use Rattle.automaton.proofs.BitLaws.{length-insert, insert-same, insert-other, insert-keeps}
+
+-- what symbol transitions on f seed, and what epsilon transitions lead to, has the property
+abbrev pub Seeded : List Transition → ℕ → List StateSet → (ℕ → Type 0) → Type 0
+Seeded ts f rs P = (ps : List ℕ) (q : ℕ) → List·Memᴰ (onSymbol f ps q) ts → allContained ps rs ≡ true → P q
+
+abbrev pub ClosedUnder : List Transition → (ℕ → Type 0) → Type 0
+ClosedUnder ts P = (p q : ℕ) → List·Memᴰ (epsilon p q) ts → P p → P q
+
+abbrev pub Within : (ℕ → Type 0) → StateSet → Type 0
+Within P r = (q : ℕ) → contains r q ≡ true → P q
+
+abbrev pub In : StateSet → ℕ → Type 0
+In r q = contains r q ≡ true
+
+-- ---- what one state more keeps, a pass keeps
+
+module _ (Q : StateSet → Type 0) (kept : (r : StateSet) (q : ℕ) → Q r → Q (insert r q)) where
+  kept-if : (b : Bool) (r : StateSet) (q : ℕ) → Q r → Q (cond b (insert r q) r)
+  kept-if true r q h = kept r q h
+  kept-if false r q h = h
+
+  pub swept-keeps : (t : Transition) (r : StateSet) → Q r → Q (swept t r)
+  swept-keeps (onSymbol g ps q) r h = h
+  swept-keeps (epsilon p q) r h = kept-if (contains r p) r q h
+
+  pub moved-keeps : (f : ℕ) (rs : List StateSet) (t : Transition) (r : StateSet) → Q r → Q (moved f rs t r)
+  moved-keeps f rs (onSymbol g ps q) r h = kept-if (eqb g f && allContained ps rs) r q h
+  moved-keeps f rs (epsilon p q) r h = h
+
+  pub sweep-keeps : (ts : List Transition) (r : StateSet) → Q r → Q (sweep ts r)
+  unfolding sweep
+  sweep-keeps [] r h = h
+  sweep-keeps (t ∷ ts) r h = sweep-keeps ts (swept t r) (swept-keeps t r h)
+
+  pub sweeps-keeps : (n : ℕ) (ts : List Transition) (r : StateSet) → Q r → Q (sweeps n ts r)
+  unfolding sweeps
+  sweeps-keeps zero ts r h = h
+  sweeps-keeps (suc n) ts r h = sweeps-keeps n ts (sweep ts r) (sweep-keeps ts r h)
+
+  pub move-keeps : (f : ℕ) (rs : List StateSet) (ts : List Transition) (r : StateSet) → Q r → Q (move f rs ts r)
+  unfolding move
+  move-keeps f rs [] r h = h
+  move-keeps f rs (t ∷ ts) r h = move-keeps f rs ts (moved f rs t r) (moved-keeps f rs t r h)
+
+-- so the number of words, and each state that is in the set
+abbrev Size : ℕ → StateSet → Type 0
+Size n r = length r ≡ n
+
+size-kept : (n : ℕ) (r : StateSet) (q : ℕ) → Size n r → Size n (insert r q)
+size-kept n r q h = length-insert r q ∙ h
+
+pub length-swept : (t : Transition) (r : StateSet) → length (swept t r) ≡ length r
+length-swept t r = swept-keeps (Size (length r)) (size-kept (length r)) t r refl
+
+pub length-sweep : (ts : List Transition) (r : StateSet) → length (sweep ts r) ≡ length r
+length-sweep ts r = sweep-keeps (Size (length r)) (size-kept (length r)) ts r refl
+
+pub length-sweeps : (n : ℕ) (ts : List Transition) (r : StateSet) → length (sweeps n ts r) ≡ length r
+length-sweeps n ts r = sweeps-keeps (Size (length r)) (size-kept (length r)) n ts r refl
+
+pub length-moved : (f : ℕ) (rs : List StateSet) (t : Transition) (r : StateSet) → length (moved f rs t r) ≡ length r
+length-moved f rs t r = moved-keeps (Size (length r)) (size-kept (length r)) f rs t r refl
+
+pub length-move : (f : ℕ) (rs : List StateSet) (ts : List Transition) (r : StateSet) → length (move f rs ts r) ≡ length r
+length-move f rs ts r = move-keeps (Size (length r)) (size-kept (length r)) f rs ts r refl
+
+pub swept-grows : (t : Transition) (r : StateSet) → Within (In (swept t r)) r
+swept-grows t r q = swept-keeps (λ x. In x q) (λ x s. insert-keeps x s q) t r
+
+pub sweep-grows : (ts : List Transition) (r : StateSet) → Within (In (sweep ts r)) r
+sweep-grows ts r q = sweep-keeps (λ x. In x q) (λ x s. insert-keeps x s q) ts r
+
+pub sweeps-grows : (n : ℕ) (ts : List Transition) (r : StateSet) → Within (In (sweeps n ts r)) r
+sweeps-grows n ts r q = sweeps-keeps (λ x. In x q) (λ x s. insert-keeps x s q) n ts r
+
+pub move-grows : (f : ℕ) (rs : List StateSet) (ts : List Transition) (r : StateSet) → Within (In (move f rs ts r)) r
+move-grows f rs ts r q = move-keeps (λ x. In x q) (λ x s. insert-keeps x s q) f rs ts r
+
+-- ---- what a pass adds
+
+added : (b : Bool) (r : StateSet) (q : ℕ) → q / 32 < length r → b ≡ true → In (cond b (insert r q) r) q
+added b r q l e = rw e (insert-same r q l)
+
+pub sweep-adds : (ts : List Transition) (r : StateSet) (p q : ℕ) → List·Memᴰ (epsilon p q) ts → q / 32 < length r → In r p → In (sweep ts r) q
+unfolding sweep
+sweep-adds (t ∷ ts) r p q (List·Memᴰ·head e) l h =
+    sweep-grows ts (swept t r) q (rw (sym e) (added (contains r p) r q l h))
+sweep-adds (t ∷ ts) r p q (List·Memᴰ·tail m) l h =
+    sweep-adds ts (swept t r) p q m (rw (length-swept t r) l) (swept-grows t r p h)
+
+pub move-adds : (f : ℕ) (rs : List StateSet) (ts : List Transition) (r : StateSet) (ps : List ℕ) (q : ℕ)
+    → List·Memᴰ (onSymbol f ps q) ts → q / 32 < length r → allContained ps rs ≡ true → In (move f rs ts r) q
+unfolding move
+move-adds f rs (t ∷ ts) r ps q (List·Memᴰ·head e) l h =
+    move-grows f rs ts (moved f rs t r) q
+    (rw (sym e) (added (eqb f f && allContained ps rs) r q l (true-and (eqb f f) (allContained ps rs) (eq-eqb f f refl) h)))
+move-adds f rs (t ∷ ts) r ps q (List·Memᴰ·tail m) l h =
+    move-adds f rs ts (moved f rs t r) ps q m (rw (length-moved f rs t r) l) h
+
+-- ---- a pass adds nothing else
+
+module _ (P : ℕ → Type 0) where
+  within-if : (b : Bool) (r : StateSet) (q : ℕ) → (b ≡ true → P q) → Within P r → Within P (cond b (insert r q) r)
+  within-if false r q h w s e = w s e
+  within-if true r q h w s e = go (ℕ-discrete s q)
+    where
+      go : Dec (s ≡ q) → P s
+      go (yes i) = rw i (h refl)
+      go (no i) = w s (sym (insert-other r q s i) ∙ e)
+
+  swept-within : (t : Transition) (r : StateSet) → ((p q : ℕ) → epsilon p q ≡ t → P p → P q) → Within P r → Within P (swept t r)
+  swept-within (onSymbol g ps q) r c w = w
+  swept-within (epsilon p q) r c w = within-if (contains r p) r q (λ e. c p q refl (w p e)) w
+
+  pub sweep-within : (ts : List Transition) (r : StateSet) → ClosedUnder ts P → Within P r → Within P (sweep ts r)
+  unfolding sweep
+  sweep-within [] r c w = w
+  sweep-within (t ∷ ts) r c w =
+      sweep-within ts (swept t r) (λ p q m. c p q (List·Memᴰ·tail m)) (swept-within t r (λ p q e. c p q (List·Memᴰ·head e)) w)
+
+  pub sweeps-within : (n : ℕ) (ts : List Transition) (r : StateSet) → ClosedUnder ts P → Within P r → Within P (sweeps n ts r)
+  unfolding sweeps
+  sweeps-within zero ts r c w = w
+  sweeps-within (suc n) ts r c w = sweeps-within n ts (sweep ts r) c (sweep-within ts r c w)
+
+  moved-within : (f : ℕ) (rs : List StateSet) (t : Transition) (r : StateSet)
+      → ((ps : List ℕ) (q : ℕ) → onSymbol f ps q ≡ t → allContained ps rs ≡ true → P q) → Within P r → Within P (moved f rs t r)
+  moved-within f rs (epsilon p q) r c w = w
+  moved-within f rs (onSymbol g ps q) r c w =
+      within-if (eqb g f && allContained ps rs) r q
+      (λ e. let b = and-true (eqb g f) (allContained ps rs) e in c ps q (ap (λ x. onSymbol x ps q) (sym (eqb-true g f (b .0)))) (b .1)) w
+
+  pub move-within : (f : ℕ) (rs : List StateSet) (ts : List Transition) (r : StateSet) → Seeded ts f rs P → Within P r → Within P (move f rs ts r)
+  unfolding move
+  move-within f rs [] r c w = w
+  move-within f rs (t ∷ ts) r c w =
+      move-within f rs ts (moved f rs t r) (λ ps q m. c ps q (List·Memᴰ·tail m))
+      (moved-within f rs t r (λ ps q e. c ps q (List·Memᴰ·head e)) w)
+
+-- ---- as many passes as there are states
+
+module _ (n : ℕ) (ts : List Transition) (below : (p q : ℕ) → List·Memᴰ (epsilon p q) ts → q < n) where
+  -- how many of the n states are in the set
+  present : StateSet → ℕ
+  present r = count (contains r) (listFrom (λ q. q) 0 n)
+
+  -- a pass that adds no state of a set leaves it closed
+  still-closed : (r : StateSet) → n ≤ length r * 32 → present (sweep ts r) ≤ present r → ClosedUnder ts (In r)
+  unfolding present
+  still-closed r s h p q m e = go (tested (contains r q)) (below p q m)
+    where
+      go : Tested (contains r q) → q < n → In r q
+      go (holds i) l = i
+      go (fails i) l =
+          let more = count-more (contains r) (contains (sweep ts r)) (sweep-grows ts r) (listFrom (λ q. q) 0 n) (listFrom-member 0 n q (omega arith) (omega arith)) i
+          (sweep-adds ts r p q m (omega arith) e) in
+          absurd (omega arith)
+
+  full-closed : (r : StateSet) → n ≤ present r → ClosedUnder ts (In r)
+  unfolding present
+  full-closed r h p q m e =
+      let l = below p q m in
+      count-all (contains r) (listFrom (λ q. q) 0 n) (rw (length-listFrom (λ q. q) 0 n) h) (listFrom-member 0 n q (omega arith) (omega arith))
+
+  closed-stays : (k : ℕ) (r : StateSet) → ClosedUnder ts (In r) → ClosedUnder ts (In (sweeps k ts r))
+  closed-stays k r c p q m e = sweeps-grows k ts r q (c p q m (sweeps-within (In r) k ts r c (λ s i. i) p e))
+
+  saturated : (k : ℕ) (r : StateSet) → n ≤ length r * 32 → n ≤ k + present r → ClosedUnder ts (In (sweeps k ts r))
+  unfolding sweeps
+  saturated zero r s h = full-closed r (omega arith)
+  saturated (suc k) r s h = go (decLt (present r) (present (sweep ts r))) (saturated k (sweep ts r))
+    where
+      go : Dec (present r < present (sweep ts r)) → (n ≤ length (sweep ts r) * 32 → n ≤ k + present (sweep ts r) → ClosedUnder ts (In (sweeps k ts (sweep ts r))))
+          → ClosedUnder ts (In (sweeps k ts (sweep ts r)))
+      go (yes l) below = below (rw (length-sweep ts r) s) (omega arith)
+      go (no l) below = closed-stays (suc k) r (still-closed r s (omega arith))
+
+  pub sweeps-closed : (r : StateSet) → n ≤ length r * 32 → ClosedUnder ts (In (sweeps n ts r))
+  sweeps-closed r s = saturated n r s (omega arith)
