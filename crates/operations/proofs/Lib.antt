@@ -1,3 +1,4 @@
 pub mod Examples
 pub mod Attained
 pub mod Demand1
+pub mod MatchLaws
