@@ -2,3 +2,4 @@ pub mod Examples
 pub mod Attained
 pub mod Demand1
 pub mod MatchLaws
+pub mod MarksLaws

@@ -13,3 +13,4 @@ pub mod SubtreeLaws
 pub mod ChildSubtreeLaws
 pub mod AncestorLaws
 pub mod CountLaws
+pub mod HoldingLaws
