@@ -1,19 +1,21 @@
 -- A node's state set holds exactly the states that are reached there, and it is the only set of its size that does.
 -- Assumes nothing.
-use mathlib.Core.Path.{_≡_, refl, ap, _∙_, sym}
-use mathlib.Core.Logic.{_↔_, ⊎-elim}
+use mathlib.Core.Path.{_≡_, refl, _∙_, sym}
+use mathlib.Core.Logic.{_↔_}
 use mathlib.Core.Bool.{Bool, true, false, true≢false}
-use mathlib.Core.List.{List, [], _∷_, List·Memᴰ, List·Memᴰ·head, List·Memᴰ·tail}
-use Prim.Native.Nat.{ℕ, zero, suc, _+_, _*_, _<_, _≤_, _/_}
+use mathlib.Core.List.{List, _∷_, List·Memᴰ, List·Memᴰ·head, List·Memᴰ·tail}
+use Prim.Native.Nat.{ℕ, _<_, _≤_}
 use native.Mathlib.Omega.{arith}
 use lib.ListN.{length, replicate, length-replicate}
 use Rattle.words.proofs.TestLaws.{Tested, holds, fails, tested}
 use Rattle.automaton.specs.Transition.{Transition, Automaton, onSymbol, epsilon}
-use Rattle.automaton.specs.StateSet.{StateSet, sizeFor, contains, insert, allContained, move, sweeps, stateSet}
+use Rattle.automaton.specs.StateSet.{StateSet, sizeFor, contains, move, stateSet}
 use Rattle.automaton.specs.Reached.{Reached, bySymbol, byEpsilon}
 use Rattle.automaton.specs.Table.{TransitionOver, TransitionsOver, AutomatonOver}
 use Rattle.automaton.proofs.BitLaws.{Words, words-replicate, words-insert, contains-replicate, contains-determines}
-use Rattle.automaton.proofs.SweepLaws.{Seeded, ClosedUnder, Within, In, move-keeps, sweeps-keeps, length-move, length-sweeps, sweeps-grows, move-adds, move-within, sweeps-within, sweeps-closed}
+use Rattle.automaton.proofs.KeepLaws.{move-keeps, sweeps-keeps}
+use Rattle.automaton.proofs.SetLength.{length-move, length-stateSet}
+use Rattle.automaton.proofs.SweepLaws.{Seeded, ClosedUnder, Within, In, sweeps-grows, move-adds, move-within, sweeps-within, sweeps-closed}
 
 -- ---- targets
 
@@ -83,13 +85,6 @@ abbrev emptySet : ℕ → StateSet
 emptySet states = replicate (sizeFor states) 0
 
 module _ (A : Automaton) (f : ℕ) (rs : List StateSet) where
-  pub length-stateSet : length (stateSet A f rs) ≡ sizeFor (A .states)
-  unfolding stateSet
-  length-stateSet =
-      let r = emptySet (A .states) in
-      length-sweeps (A .states) (A .transitions) (move f rs (A .transitions) r)
-      ∙ length-move f rs (A .transitions) r ∙ length-replicate (sizeFor (A .states)) 0
-
   pub words-stateSet : Words (stateSet A f rs)
   unfolding stateSet
   words-stateSet =
@@ -123,7 +118,7 @@ module _ (A : Automaton) (f : ℕ) (rs : List StateSet) where
         (rw (length-move f rs (A .transitions) r, length-replicate {A = ℕ} (sizeFor (A .states)) 0) (omega arith))
 
     pub stateSet-is : IsStateSet A f rs (stateSet A f rs)
-    stateSet-is = record { size = length-stateSet; words = words-stateSet; seeded = stateSet-seeded; closed = stateSet-closed; reached = stateSet-within }
+    stateSet-is = record { size = length-stateSet A f rs; words = words-stateSet; seeded = stateSet-seeded; closed = stateSet-closed; reached = stateSet-within }
 
     -- "for every state s, bit s mod 32 of word s / 32 is set exactly if s is reached"
     pub stateSet-reached : (q : ℕ) → (contains (stateSet A f rs) q ≡ true) ↔ Reached (A .transitions) f rs q

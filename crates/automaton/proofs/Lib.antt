@@ -1,4 +1,5 @@
 pub mod BitLaws
+pub mod KeepLaws
 pub mod SetLength
 pub mod SweepLaws
 pub mod ClosureLaws

@@ -1,40 +1,33 @@
--- Every recomputed state set has the length that its automaton's state count gives. Assumes nothing.
+-- A state set keeps its number of words, which its automaton's state count gives. Assumes nothing.
 use mathlib.Core.Path.{_≡_, refl, _∙_}
-use mathlib.Core.Bool.{Bool, true, false, cond, _&&_}
-use mathlib.Core.List.{List, [], _∷_}
-use Prim.Native.Nat.{ℕ, zero, suc}
+use mathlib.Core.List.{List}
+use Prim.Native.Nat.{ℕ}
 use lib.ListN.{length, replicate, length-replicate}
-use lib.Dec.{eqb}
-use Rattle.automaton.specs.Transition.{Transition, Automaton, onSymbol, epsilon}
-use Rattle.automaton.specs.StateSet.{StateSet, sizeFor, contains, insert, allContained, moved, swept, move, sweep, sweeps, stateSet}
+use Rattle.automaton.specs.Transition.{Transition, Automaton}
+use Rattle.automaton.specs.StateSet.{StateSet, sizeFor, insert, moved, swept, move, sweep, sweeps, stateSet}
 use Rattle.automaton.proofs.BitLaws.{length-insert}
+use Rattle.automaton.proofs.KeepLaws.{swept-keeps, moved-keeps, sweep-keeps, sweeps-keeps, move-keeps}
 
-length-insert-if : (b : Bool) (r : StateSet) (s : ℕ) → length (cond b (insert r s) r) ≡ length r
-length-insert-if true r s = length-insert r s
-length-insert-if false r s = refl
+abbrev Size : ℕ → StateSet → Type 0
+Size n r = length r ≡ n
 
-length-moved : (f : ℕ) (rs : List StateSet) (t : Transition) (r : StateSet) → length (moved f rs t r) ≡ length r
-length-moved f rs (onSymbol g ps q) r = length-insert-if (eqb g f && allContained ps rs) r q
-length-moved f rs (epsilon p q) r = refl
+size-kept : (n : ℕ) (r : StateSet) (q : ℕ) → Size n r → Size n (insert r q)
+size-kept n r q h = length-insert r q ∙ h
 
-length-swept : (t : Transition) (r : StateSet) → length (swept t r) ≡ length r
-length-swept (onSymbol g ps q) r = refl
-length-swept (epsilon p q) r = length-insert-if (contains r p) r q
-
-pub length-move : (f : ℕ) (rs : List StateSet) (ts : List Transition) (r : StateSet) → length (move f rs ts r) ≡ length r
-unfolding move
-length-move f rs [] r = refl
-length-move f rs (t ∷ ts) r = length-move f rs ts (moved f rs t r) ∙ length-moved f rs t r
+pub length-swept : (t : Transition) (r : StateSet) → length (swept t r) ≡ length r
+length-swept t r = swept-keeps (Size (length r)) (size-kept (length r)) t r refl
 
 pub length-sweep : (ts : List Transition) (r : StateSet) → length (sweep ts r) ≡ length r
-unfolding sweep
-length-sweep [] r = refl
-length-sweep (t ∷ ts) r = length-sweep ts (swept t r) ∙ length-swept t r
+length-sweep ts r = sweep-keeps (Size (length r)) (size-kept (length r)) ts r refl
 
 pub length-sweeps : (n : ℕ) (ts : List Transition) (r : StateSet) → length (sweeps n ts r) ≡ length r
-unfolding sweeps
-length-sweeps zero ts r = refl
-length-sweeps (suc n) ts r = length-sweeps n ts (sweep ts r) ∙ length-sweep ts r
+length-sweeps n ts r = sweeps-keeps (Size (length r)) (size-kept (length r)) n ts r refl
+
+pub length-moved : (f : ℕ) (rs : List StateSet) (t : Transition) (r : StateSet) → length (moved f rs t r) ≡ length r
+length-moved f rs t r = moved-keeps (Size (length r)) (size-kept (length r)) f rs t r refl
+
+pub length-move : (f : ℕ) (rs : List StateSet) (ts : List Transition) (r : StateSet) → length (move f rs ts r) ≡ length r
+length-move f rs ts r = move-keeps (Size (length r)) (size-kept (length r)) f rs ts r refl
 
 pub length-stateSet : (A : Automaton) (f : ℕ) (rs : List StateSet) → length (stateSet A f rs) ≡ sizeFor (A .states)
 unfolding stateSet

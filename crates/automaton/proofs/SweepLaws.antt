@@ -1,7 +1,7 @@
 -- Laws of the passes that make a state set: what a pass keeps and adds, that it adds nothing else, and that as many passes
 -- over the epsilon transitions as there are states leave a set that is closed under them. Assumes nothing.
 use mathlib.Core.Path.{_≡_, refl, ap, _∙_, sym}
-use mathlib.Core.Bool.{Bool, true, false, cond, _&&_, true≢false}
+use mathlib.Core.Bool.{Bool, true, false, cond, _&&_}
 use mathlib.Core.List.{List, [], _∷_, List·Memᴰ, List·Memᴰ·head, List·Memᴰ·tail}
 use Prim.Native.Nat.{ℕ, zero, suc, _+_, _*_, _<_, _≤_, _/_}
 use native.Mathlib.Omega.{arith}
@@ -14,7 +14,9 @@ use Rattle.words.proofs.TestLaws.{Tested, holds, fails, tested, and-true, true-
 use Rattle.words.proofs.CountLaws.{count-all, count-more, length-listFrom, listFrom-member}
 use Rattle.automaton.specs.Transition.{Transition, onSymbol, epsilon}
 use Rattle.automaton.specs.StateSet.{StateSet, contains, insert, allContained, moved, swept, move, sweep, sweeps}
-use Rattle.automaton.proofs.BitLaws.{length-insert, insert-same, insert-other, insert-keeps}
+use Rattle.automaton.proofs.BitLaws.{insert-same, insert-other, insert-keeps}
+use Rattle.automaton.proofs.KeepLaws.{swept-keeps, sweep-keeps, sweeps-keeps, move-keeps}
+use Rattle.automaton.proofs.SetLength.{length-swept, length-sweep, length-moved}
 
 -- what symbol transitions on f seed, and what epsilon transitions lead to, has the property
 abbrev pub Seeded : List Transition → ℕ → List StateSet → (ℕ → Type 0) → Type 0
@@ -29,57 +31,7 @@ Within P r = (q : ℕ) → contains r q ≡ true → P q
 abbrev pub In : StateSet → ℕ → Type 0
 In r q = contains r q ≡ true
 
--- ---- what one state more keeps, a pass keeps
-
-module _ (Q : StateSet → Type 0) (kept : (r : StateSet) (q : ℕ) → Q r → Q (insert r q)) where
-  kept-if : (b : Bool) (r : StateSet) (q : ℕ) → Q r → Q (cond b (insert r q) r)
-  kept-if true r q h = kept r q h
-  kept-if false r q h = h
-
-  pub swept-keeps : (t : Transition) (r : StateSet) → Q r → Q (swept t r)
-  swept-keeps (onSymbol g ps q) r h = h
-  swept-keeps (epsilon p q) r h = kept-if (contains r p) r q h
-
-  pub moved-keeps : (f : ℕ) (rs : List StateSet) (t : Transition) (r : StateSet) → Q r → Q (moved f rs t r)
-  moved-keeps f rs (onSymbol g ps q) r h = kept-if (eqb g f && allContained ps rs) r q h
-  moved-keeps f rs (epsilon p q) r h = h
-
-  pub sweep-keeps : (ts : List Transition) (r : StateSet) → Q r → Q (sweep ts r)
-  unfolding sweep
-  sweep-keeps [] r h = h
-  sweep-keeps (t ∷ ts) r h = sweep-keeps ts (swept t r) (swept-keeps t r h)
-
-  pub sweeps-keeps : (n : ℕ) (ts : List Transition) (r : StateSet) → Q r → Q (sweeps n ts r)
-  unfolding sweeps
-  sweeps-keeps zero ts r h = h
-  sweeps-keeps (suc n) ts r h = sweeps-keeps n ts (sweep ts r) (sweep-keeps ts r h)
-
-  pub move-keeps : (f : ℕ) (rs : List StateSet) (ts : List Transition) (r : StateSet) → Q r → Q (move f rs ts r)
-  unfolding move
-  move-keeps f rs [] r h = h
-  move-keeps f rs (t ∷ ts) r h = move-keeps f rs ts (moved f rs t r) (moved-keeps f rs t r h)
-
--- so the number of words, and each state that is in the set
-abbrev Size : ℕ → StateSet → Type 0
-Size n r = length r ≡ n
-
-size-kept : (n : ℕ) (r : StateSet) (q : ℕ) → Size n r → Size n (insert r q)
-size-kept n r q h = length-insert r q ∙ h
-
-pub length-swept : (t : Transition) (r : StateSet) → length (swept t r) ≡ length r
-length-swept t r = swept-keeps (Size (length r)) (size-kept (length r)) t r refl
-
-pub length-sweep : (ts : List Transition) (r : StateSet) → length (sweep ts r) ≡ length r
-length-sweep ts r = sweep-keeps (Size (length r)) (size-kept (length r)) ts r refl
-
-pub length-sweeps : (n : ℕ) (ts : List Transition) (r : StateSet) → length (sweeps n ts r) ≡ length r
-length-sweeps n ts r = sweeps-keeps (Size (length r)) (size-kept (length r)) n ts r refl
-
-pub length-moved : (f : ℕ) (rs : List StateSet) (t : Transition) (r : StateSet) → length (moved f rs t r) ≡ length r
-length-moved f rs t r = moved-keeps (Size (length r)) (size-kept (length r)) f rs t r refl
-
-pub length-move : (f : ℕ) (rs : List StateSet) (ts : List Transition) (r : StateSet) → length (move f rs ts r) ≡ length r
-length-move f rs ts r = move-keeps (Size (length r)) (size-kept (length r)) f rs ts r refl
+-- ---- a pass keeps each state that is in the set
 
 pub swept-grows : (t : Transition) (r : StateSet) → Within (In (swept t r)) r
 swept-grows t r q = swept-keeps (λ x. In x q) (λ x s. insert-keeps x s q) t r
