@@ -3,3 +3,4 @@ pub mod KeepLaws
 pub mod SetLength
 pub mod SweepLaws
 pub mod ClosureLaws
+pub mod TreeSets
