@@ -4,3 +4,6 @@ pub mod SetLength
 pub mod SweepLaws
 pub mod ClosureLaws
 pub mod TreeSets
+pub mod EntryLaws
+pub mod TreeNumbering
+pub mod Completeness

@@ -1,3 +1,4 @@
+pub mod AllLaws
 pub mod AlphabetLaws
 pub mod PostfixLaws
 pub mod StackLaws
