@@ -31,11 +31,11 @@ module _ (cs : List ℕ) where
   entries-listed (closure c F) n k = numbered-listed (suc (exitState cs (closure c F) n))
 
   module _ (ts : List Transition) where
-    abbrev Present : Transition → Type 0
+    abbrev pub Present : Transition → Type 0
     Present m = List·Memᴰ m ts
 
     -- every member of L reaches q
-    abbrev ReachedBy : Language → ℕ → Type 0
+    abbrev pub ReachedBy : Language → ℕ → Type 0
     ReachedBy L q = (t : Tree) → L t → Reaches ts q t
 
     abbrev AllReachedBy : Language → List ℕ → Type 0

@@ -30,9 +30,10 @@ module _ (P : ℕ → ℕ → Type 0) where
   pub found-every :
       (K : ℕ → Type 0) (es : List (ℕ × ℕ)) → All (λ e. K (e .0)) es → ((c : ℕ) → K c → All (P c) (lookup es c)) → EveryEntry es
   found-every K [] k h = tt
-  found-every K (e ∷ es) k h =
-      (first (eqb (e .0) (e .0)) refl (h (e .0) (k .0)),
-      found-every K es (k .1) (λ c kc. later c (eqb (e .0) c) (h c kc)))
+  found-every K (e ∷ es) k h = (
+    first (eqb (e .0) (e .0)) refl (h (e .0) (k .0)),
+    found-every K es (k .1) (λ c kc. later c (eqb (e .0) c) (h c kc)),
+  )
     where
       first : (b : Bool) → eqb (e .0) (e .0) ≡ b → All (P (e .0)) (cond b (e .1 ∷ lookup es (e .0)) (lookup es (e .0))) → P (e .0) (e .1)
       first true q r = r .0
@@ -69,9 +70,10 @@ module _ (C : Transition → Type 0) where
 
   pub of-fan : (targets : ℕ → List ℕ) (es : List (ℕ × ℕ)) → All C (fan es targets) → All (λ e. All (λ p. C (epsilon (e .1) p)) (targets (e .0))) es
   of-fan targets [] h = tt
-  of-fan targets (e ∷ es) h =
-      (of-epsilons (e .1) (targets (e .0)) (all-left C (epsilons (e .1) (targets (e .0))) (fan es targets) h),
-      of-fan targets es (all-right C (epsilons (e .1) (targets (e .0))) (fan es targets) h))
+  of-fan targets (e ∷ es) h = (
+    of-epsilons (e .1) (targets (e .0)) (all-left C (epsilons (e .1) (targets (e .0))) (fan es targets) h),
+    of-fan targets es (all-right C (epsilons (e .1) (targets (e .0))) (fan es targets) h),
+  )
 
   pub to-constants : (es : List (ℕ × ℕ)) → All (λ e. C (onSymbol (e .0) [] (e .1))) es → All C (constantTransitions es)
   to-constants [] h = tt

@@ -7,3 +7,6 @@ pub mod TreeSets
 pub mod EntryLaws
 pub mod TreeNumbering
 pub mod Completeness
+pub mod IntendedLanguages
+pub mod Soundness
+pub mod Thompson
