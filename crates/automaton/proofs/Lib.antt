@@ -1,5 +1,7 @@
 pub mod BitLaws
 pub mod KeepLaws
+pub mod Ports
+pub mod Reading
 pub mod SetLength
 pub mod SweepLaws
 pub mod ClosureLaws

@@ -1,5 +1,8 @@
 pub mod AllLaws
 pub mod AlphabetLaws
+pub mod Ascending
+pub mod ConstantLaws
+pub mod ExpressionWordLaws
 pub mod PostfixLaws
 pub mod StackLaws
 pub mod ListLaws

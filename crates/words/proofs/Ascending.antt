@@ -1,0 +1,58 @@
+-- Ascending lists of numbers: each number is greater than the one before it, and all lie in a range. Assumes nothing.
+use Prim.Native.Nat.{ℕ, suc, _+_, _<_, _≤_}
+use mathlib.Core.Path.{_≡_, refl}
+use mathlib.Core.Bool.{Bool, true, false, cond}
+use mathlib.Core.List.{List, [], _∷_, _++_, List·Memᴰ, List·Memᴰ·head, List·Memᴰ·tail}
+use native.Mathlib.Omega.{arith}
+use native.Mathlib.Nat.{le-trans}
+use Rattle.words.specs.Lists.{count}
+
+-- from lo on and below hi
+pub data Ascending : ℕ → ℕ → List ℕ → Type 0 where
+  end : {lo hi : ℕ} → lo ≤ hi → Ascending lo hi []
+  next : {lo hi x : ℕ} {xs : List ℕ} → lo ≤ x → Ascending (suc x) hi xs → Ascending lo hi (x ∷ xs)
+
+pub ascending-le : {lo hi : ℕ} {xs : List ℕ} → Ascending lo hi xs → lo ≤ hi
+ascending-le (end h) = h
+ascending-le (next h a) = omega (arith, ascending-le a)
+
+pub ascending-from : {lo lo′ hi : ℕ} {xs : List ℕ} → lo′ ≤ lo → Ascending lo hi xs → Ascending lo′ hi xs
+ascending-from l (end h) = end (le-trans l h)
+ascending-from l (next h a) = next (le-trans l h) a
+
+pub ascending-to : {lo hi hi′ : ℕ} {xs : List ℕ} → hi ≤ hi′ → Ascending lo hi xs → Ascending lo hi′ xs
+ascending-to l (end h) = end (le-trans h l)
+ascending-to l (next h a) = next h (ascending-to l a)
+
+pub ascending-append : {lo m hi : ℕ} {xs ys : List ℕ} → Ascending lo m xs → Ascending m hi ys → Ascending lo hi (xs ++ ys)
+ascending-append (end h) b = ascending-from h b
+ascending-append (next h a) b = next h (ascending-append a b)
+
+pub ascending-one : {lo hi x : ℕ} → lo ≤ x → x < hi → Ascending lo hi (x ∷ [])
+ascending-one l h = next l (end h)
+
+pub ascending-member : {lo hi x : ℕ} {xs : List ℕ} → Ascending lo hi xs → List·Memᴰ x xs → (lo ≤ x) × (x < hi)
+ascending-member (next h a) (List·Memᴰ·head e) = let l = ascending-le a in (omega arith, omega arith)
+ascending-member (next h a) (List·Memᴰ·tail m) = let p = ascending-member a m in (omega arith, p .1)
+
+-- ---- a test that only x passes counts at most one number
+
+module _ (f : ℕ → Bool) (x : ℕ) (only : (y : ℕ) → f y ≡ true → y ≡ x) where
+  pub count-behind : {lo hi : ℕ} {xs : List ℕ} → x < lo → Ascending lo hi xs → count f xs ≡ 0
+  count-behind l (end h) = refl
+  count-behind l (next {x = y} {xs} h a) = go (f y) refl (count-behind (omega arith) a)
+    where
+      go : (b : Bool) → f y ≡ b → count f xs ≡ 0 → cond b 1 0 + count f xs ≡ 0
+      go true e c = let q = only y e in absurd (omega arith)
+      go false e c = omega arith
+
+  pub count-once : {lo hi : ℕ} {xs : List ℕ} → Ascending lo hi xs → count f xs ≤ 1
+  count-once (end h) = omega arith
+  count-once (next {x = y} {xs} h a) = go (f y) refl (count-once a)
+    where
+      go : (b : Bool) → f y ≡ b → count f xs ≤ 1 → cond b 1 0 + count f xs ≤ 1
+      go true e c =
+          let q = only y e in
+          let z : count f xs ≡ 0 = count-behind (omega arith) a in
+          omega arith
+      go false e c = omega arith
