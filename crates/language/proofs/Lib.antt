@@ -1,1 +1,3 @@
 pub mod SubstitutionLaws
+pub mod SubjectLaws
+pub mod SubtreeLaws

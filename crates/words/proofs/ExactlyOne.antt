@@ -1,5 +1,6 @@
--- Exactly one thing has a property: what it takes to say so. Assumes nothing.
-use mathlib.Core.Path.{_≡_, _∙_, sym}
+-- Exactly one thing has a property: what that says, and how it carries over to things that stand for one another. Assumes
+-- nothing.
+use mathlib.Core.Path.{_≡_, ap, _∙_, sym}
 
 -- `the` one thing with the property, and that any other with it is the same
 pub record ExactlyOne {A : Type 0} (P : A → Type 0) : Type 0 where
@@ -10,3 +11,13 @@ pub record ExactlyOne {A : Type 0} (P : A → Type 0) : Type 0 where
 -- two things with the property are one
 pub one-same : {A : Type 0} {P : A → Type 0} (e : ExactlyOne P) (x y : A) → P x → P y → x ≡ y
 one-same e x y p q = e .only x p ∙ sym (e .only y q)
+
+-- each x with P stands for a y with Q, each y with Q comes from an x with P: where there is one x, there is one y
+pub one-along : {A B : Type 0} {P : A → Type 0} {Q : B → Type 0} (f : A → B) (g : B → A)
+    → ((x : A) → P x → Q (f x)) → ((y : B) → Q y → P (g y)) → ((y : B) → Q y → f (g y) ≡ y) → ExactlyOne P → ExactlyOne Q
+one-along f g to from back e =
+    record {
+      the = f (e .the);
+      has = to (e .the) (e .has);
+      only = λ y q. sym (back y q) ∙ ap f (e .only (g y) (from y q));
+    }

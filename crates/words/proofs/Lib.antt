@@ -18,3 +18,5 @@ pub mod ChildSubtreeLaws
 pub mod AncestorLaws
 pub mod CountLaws
 pub mod HoldingLaws
+pub mod WordLaws
+pub mod RelabelLaws

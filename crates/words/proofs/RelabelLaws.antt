@@ -1,0 +1,28 @@
+-- A tree with other numbers at its nodes: its postfix order and how many children stand at each place. Assumes nothing.
+use mathlib.Core.Path.{_≡_, refl, ap, ap₂, _∙_, sym}
+use mathlib.Core.List.{List, [], _∷_, _++_, map}
+use Prim.Native.Nat.{ℕ, suc}
+use Rattle.words.specs.Tree.{Tree, Trees, node, none, more, number, postfix, postfixAll}
+use Rattle.words.proofs.ListLaws.{map-append}
+
+module _ (f : ℕ → ℕ) where
+  abbrev mutual
+    pub relabel : Tree → Tree
+    relabel (node n ts) = node (f n) (relabelAll ts)
+
+    pub relabelAll : Trees → Trees
+    relabelAll none = none
+    relabelAll (more t ts) = more (relabel t) (relabelAll ts)
+
+  pub number-relabel : (ts : Trees) → number (relabelAll ts) ≡ number ts
+  number-relabel none = refl
+  number-relabel (more t ts) = ap suc (number-relabel ts)
+
+  mutual
+    pub postfix-relabel : (t : Tree) → postfix (relabel t) ≡ map f (postfix t)
+    postfix-relabel (node n ts) = ap (λ (l : List ℕ). l ++ f n ∷ []) (postfix-relabelAll ts) ∙ sym (map-append f (postfixAll ts) (n ∷ []))
+
+    pub postfix-relabelAll : (ts : Trees) → postfixAll (relabelAll ts) ≡ map f (postfixAll ts)
+    postfix-relabelAll none = refl
+    postfix-relabelAll (more t ts) =
+        ap₂ (λ (l k : List ℕ). l ++ k) (postfix-relabel t) (postfix-relabelAll ts) ∙ sym (map-append f (postfix t) (postfixAll ts))

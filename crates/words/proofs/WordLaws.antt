@@ -1,0 +1,95 @@
+-- How many children the word of a kind takes, and what the tests for a node and for an expression word say of a word.
+-- Assumes nothing.
+use mathlib.Core.Path.{_≡_, refl, ap, _∙_, sym}
+use mathlib.Core.Bool.{Bool, true, false, not, _&&_, _||_}
+use mathlib.Core.List.{List, [], _∷_}
+use Prim.Native.Nat.{ℕ, _+_, _*_, _/_, _%_, _<_, _≤_}
+use native.Mathlib.Omega.{arith}
+use lib.ListN.{length}
+use lib.Dec.{ltb, eqb}
+use borrow.Author.Tests.{ltb-true, ltb-false, lt-ltb}
+use Rattle.words.specs.Lists.{all}
+use Rattle.words.specs.Word.{Kind, nodeKind, noKind, kindOf, kindNumber, bodyOf, numberOf, fieldRange, spareBitsClear, isOf, wordOf, lowByte}
+use Rattle.words.specs.Alphabet.{isEntry, rankOf, isSymbol, noAlphabet}
+use Rattle.words.specs.Postfix.{arity, arityAt}
+use Rattle.words.specs.Chapter.{symbolOf, isNode}
+use Rattle.words.specs.Expression.{namesAt, isExpressionWord}
+use Rattle.words.proofs.TestLaws.{and-true, true-and, or-false}
+use Rattle.words.proofs.KindLaws.{kindOf-wordOf, bodyOf-wordOf, lowByte-wordOf, kindOf-hasKind, word-wordOf, fieldRange-fits, IsOf, isOf-facts, isOf-wordOf}
+
+-- an alphabet that 1 does not refuse has at most 64 symbols
+pub alphabet-most : (a : List ℕ) → noAlphabet a ≡ false → length a ≤ 64
+unfolding noAlphabet
+alphabet-most a h =
+    let p = or-false (eqb (length a) 0 || ltb 64 (length a)) (not (all isEntry a)) h in
+    ltb-false 64 (length a) (or-false (eqb (length a) 0) (ltb 64 (length a)) (p .0) .1)
+
+-- ---- arity
+
+module _ (a : List ℕ) where
+  pub arity-kind : (w : ℕ) (k : Kind) → kindOf w ≡ k → arity a w ≡ arityAt (rankOf a (lowByte w)) k
+  unfolding arity
+  arity-kind w k e = ap (arityAt (rankOf a (lowByte w))) e
+
+  pub arity-wordOf : (k : Kind) (b : ℕ) → b < 256 → arity a (wordOf k b) ≡ arityAt (rankOf a b) k
+  arity-wordOf k b h =
+      let e : lowByte (wordOf k b) ≡ b = omega arith in
+      arity-kind (wordOf k b) k (kindOf-wordOf k b (omega arith)) ∙ ap (λ (s : ℕ). arityAt (rankOf a s) k) e
+
+-- ---- nodes
+
+-- what `isNode` says
+pub record IsNode (a : List ℕ) (w : ℕ) : Type 0 where
+  pub symbol : symbolOf w < length a
+  pub word : w ≡ wordOf nodeKind (symbolOf w)
+  pub arity-rank : arity a w ≡ rankOf a (symbolOf w)
+
+module _ (a : List ℕ) where
+  pub isNode-facts : (w : ℕ) → isNode a w ≡ true → IsNode a w
+  unfolding isNode
+  isNode-facts w h =
+      let p = and-true (isOf nodeKind w) (isSymbol a (symbolOf w)) h in
+      let f = isOf-facts nodeKind w (p .0) in
+      let e : bodyOf w ≡ symbolOf w = omega (arith, f .body) in
+      record {
+        symbol = ltb-true (symbolOf w) (length a) (p .1);
+        word = f .word ∙ ap (wordOf nodeKind) e;
+        arity-rank = arity-kind a w nodeKind (f .kind);
+      }
+
+  pub symbolOf-wordOf : (s : ℕ) → s < 256 → symbolOf (wordOf nodeKind s) ≡ s
+  symbolOf-wordOf s h = omega arith
+
+  -- the word of a node with a symbol that the alphabet has
+  pub isNode-wordOf : (s : ℕ) → s < 256 → s < length a → isNode a (wordOf nodeKind s) ≡ true
+  unfolding isNode
+  isNode-wordOf s b h =
+      true-and (isOf nodeKind (wordOf nodeKind s)) (isSymbol a (symbolOf (wordOf nodeKind s)))
+      (isOf-wordOf nodeKind s b) (lt-ltb (symbolOf (wordOf nodeKind s)) (length a) (rw (symbolOf-wordOf s b) h))
+
+-- ---- expression words
+
+-- what `isExpressionWord` says of a word of kind k
+pub record IsExpressionWord (a : List ℕ) (w : ℕ) (k : Kind) : Type 0 where
+  pub names : namesAt a (lowByte w) k ≡ true
+  pub body : bodyOf w < fieldRange k
+  pub word : w ≡ wordOf k (bodyOf w)
+
+pub isExpressionWord-facts : (a : List ℕ) (w : ℕ) (k : Kind) → kindOf w ≡ k → (k ≡ noKind → ⊥) → isExpressionWord a w ≡ true → IsExpressionWord a w k
+unfolding isExpressionWord spareBitsClear
+isExpressionWord-facts a w k e n h =
+    let p = and-true (spareBitsClear w) (namesAt a (lowByte w) (kindOf w)) h in
+    record {
+      names = rw e at (p .1);
+      body = ltb-true (bodyOf w) (fieldRange k) (rw e at (p .0));
+      word = word-wordOf k w (kindOf-hasKind k w n e);
+    }
+
+pub isExpressionWord-wordOf : (a : List ℕ) (k : Kind) (b : ℕ) → b < fieldRange k → namesAt a (lowByte b) k ≡ true → isExpressionWord a (wordOf k b) ≡ true
+unfolding isExpressionWord spareBitsClear
+isExpressionWord-wordOf a k b h n =
+    let l : b < 0x1000_0000 = omega (arith, fieldRange-fits k) in
+    let e = kindOf-wordOf k b l in
+    true-and (spareBitsClear (wordOf k b)) (namesAt a (lowByte (wordOf k b)) (kindOf (wordOf k b)))
+    (rw (e, bodyOf-wordOf k b l) (lt-ltb b (fieldRange k) h))
+    (rw (e, lowByte-wordOf k b l) n)
