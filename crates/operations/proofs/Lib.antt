@@ -3,3 +3,4 @@ pub mod Attained
 pub mod Demand1
 pub mod MatchLaws
 pub mod MarksLaws
+pub mod ClimbLaws
