@@ -4,3 +4,4 @@ pub mod Demand1
 pub mod MatchLaws
 pub mod MarksLaws
 pub mod ClimbLaws
+pub mod OutcomeLaws

@@ -1,0 +1,125 @@
+-- One exchange: where the stored state sets are those of the old tree, the outcomes have those of the new tree. Assumes nothing.
+use mathlib.Core.Path.{_≡_, refl, ap, ap₂, _∙_, sym, subst}
+use mathlib.Core.Bool.{true, false}
+use mathlib.Core.List.{List, [], _∷_, _++_, map}
+use Prim.Native.Nat.{ℕ, suc, _+_, _<_, _≤_}
+use native.Mathlib.Omega.{arith}
+use native.Mathlib.Nat.{zero-add}
+use native.Mathlib.Numerals.{add-one}
+use lib.ListN.{length, getD, take, drop, take-append-drop}
+use lib.Seq.{take-suc, length-take-le}
+use Rattle.words.specs.Lists.{listFrom}
+use Rattle.words.specs.Postfix.{oneTree, startOf, splice, values, stackAfter}
+use Rattle.words.proofs.TestLaws.{Tested, holds, fails, tested}
+use Rattle.words.proofs.ListLaws.{map-append}
+use Rattle.words.proofs.PostfixLaws.{start-le, front-sub, sub-tree}
+use Rattle.words.proofs.StackLaws.{values-append, stack-append, read, Read, Right, right-list, right-stack, right-left, right-right, right-last}
+use Rattle.words.proofs.HoldingLaws.{holding-first}
+use Rattle.automaton.specs.StateSet.{StateSet}
+use Rattle.operations.specs.Marks.{nodeSet, nodeSets, sameWords}
+use Rattle.operations.specs.Exchange.{recomputed, setIn, keptFrom, rootSet, outcomesBehind, outcomesAfter}
+use Rattle.operations.proofs.MarksLaws.{same-words}
+use Rattle.operations.proofs.ClimbLaws.{sets-kept, climb-right}
+
+pub sets-recomputed : (rs : List StateSet) → map setIn (map recomputed rs) ≡ rs
+sets-recomputed [] = refl
+sets-recomputed (r ∷ rs) = ap (λ (t : List StateSet). r ∷ t) (sets-recomputed rs)
+
+-- the only state set that is left on the stack behind a tree
+pub root-read : (a table xs : List ℕ) (h : oneTree a xs ≡ true) → rootSet a table xs ≡ read a (nodeSet table) xs h .root
+unfolding rootSet
+root-read a table xs h = ap (λ (l : List StateSet). getD l 0 []) (read a (nodeSet table) xs h .alone)
+
+module _ (a table : List ℕ) (stored : ℕ → StateSet) (used : List ℕ) (e : ℕ) (xs : List ℕ)
+    (h : oneTree a used ≡ true) (he : e < length used) (hx : oneTree a xs ≡ true)
+    (right : Right a (nodeSet table) stored 0 used []) where
+  abbrev rule : ℕ → List StateSet → StateSet
+  rule = nodeSet table
+
+  front : List ℕ
+  front = take (startOf a used e) used
+
+  old : List ℕ
+  old = drop (startOf a used e) (take (e + 1) used)
+
+  behind : List ℕ
+  behind = drop (e + 1) used
+
+  σ : List StateSet
+  σ = stackAfter a rule front []
+
+  new-tree : Read a rule xs
+  new-tree = read a rule xs hx
+
+  old-tree : Read a rule old
+  unfolding old
+  old-tree = read a rule old (sub-tree a used e h he)
+
+  -- the stack behind the old subtree
+  stack-old : stackAfter a rule (take (e + 1) used) [] ≡ old-tree .root ∷ σ
+  unfolding old front σ
+  stack-old =
+      ap (λ (l : List ℕ). stackAfter a rule l []) (sym (front-sub a used e h he))
+      ∙ stack-append a rule front old [] ∙ old-tree .stack-on σ
+
+  right-front : Right a rule stored 0 front []
+  unfolding front
+  right-front =
+      right-left a rule stored front (drop (startOf a used e) used) 0 []
+      (subst (λ (l : List ℕ). Right a rule stored 0 l []) (sym (take-append-drop (startOf a used e) used)) right)
+
+  right-taken : Right a rule stored 0 (take (e + 1) used ++ drop (e + 1) used) []
+  right-taken = subst (λ (l : List ℕ). Right a rule stored 0 l []) (sym (take-append-drop (e + 1) used)) right
+
+  right-behind : Right a rule stored (e + 1) behind (old-tree .root ∷ σ)
+  unfolding behind
+  right-behind =
+      let n : 0 + length (take (e + 1) used) ≡ e + 1 = zero-add _ ∙ length-take-le (e + 1) used (omega arith) in
+      subst (λ (t : List StateSet). Right a rule stored (e + 1) behind t) stack-old
+      (subst (λ (i : ℕ). Right a rule stored i behind (stackAfter a rule (take (e + 1) used) [])) n
+      (right-right a rule stored (take (e + 1) used) behind 0 [] right-taken))
+
+  right-node : stored e ≡ old-tree .root
+  right-node =
+      let u : take (e + 1) used ≡ take e used ++ getD used e 0 ∷ [] = ap (λ (i : ℕ). take i used) (add-one e) ∙ take-suc used e 0 he in
+      let n : 0 + length (take e used) ≡ e = zero-add _ ∙ length-take-le e used (omega arith) in
+      let r = right-left a rule stored (take (e + 1) used) (drop (e + 1) used) 0 [] right-taken in
+      ap stored (sym n)
+      ∙ right-last a rule stored (take e used) (getD used e 0) 0 [] σ (old-tree .root)
+      (subst (λ (l : List ℕ). Right a rule stored 0 l []) u r)
+      (ap (λ (l : List ℕ). stackAfter a rule l []) (sym u) ∙ stack-old)
+
+  behind-right : map setIn (outcomesBehind a table stored used e xs) ≡ values a rule behind (new-tree .root ∷ σ)
+  unfolding outcomesBehind behind front σ new-tree
+  behind-right = go (tested (sameWords (rootSet a table xs) (stored e)))
+    where
+      root : rootSet a table xs ≡ new-tree .root
+      root = root-read a table xs hx
+
+      go : Tested (sameWords (rootSet a table xs) (stored e)) → map setIn (outcomesBehind a table stored used e xs) ≡ values a rule behind (new-tree .root ∷ σ)
+      go (holds same) =
+          let q : old-tree .root ≡ new-tree .root = sym right-node ∙ sym (same-words (rootSet a table xs) (stored e) same) ∙ root in
+          rw same
+          (sets-kept stored (length behind) (e + 1)
+          ∙ right-list a rule stored behind (e + 1) (old-tree .root ∷ σ) right-behind
+          ∙ ap (λ (r : StateSet). values a rule behind (r ∷ σ)) q)
+      go (fails other) =
+          rw (other, right-stack a rule stored front 0 [] right-front, root)
+          (climb-right a table used e stored behind (e + 1) [] σ (old-tree .root) (new-tree .root) refl (holding-first a used e) right-behind)
+
+  pub outcomes-right : map setIn (outcomesAfter a table stored used e xs) ≡ nodeSets a table (splice a used e xs)
+  unfolding outcomesAfter nodeSets splice front behind σ
+  outcomes-right =
+      let le = start-le a used e in
+      let n : length front ≡ startOf a used e = length-take-le (startOf a used e) used (omega arith) in
+      let kept-front : map setIn (keptFrom stored 0 (startOf a used e)) ≡ values a rule front [] =
+      sets-kept stored (startOf a used e) 0 ∙ ap (listFrom stored 0) (sym n) ∙ right-list a rule stored front 0 [] right-front in
+      map-append setIn (keptFrom stored 0 (startOf a used e)) (map recomputed (values a rule xs []) ++ outcomesBehind a table stored used e xs)
+      ∙ ap₂ (λ (l k : List StateSet). l ++ k) kept-front
+      (map-append setIn (map recomputed (values a rule xs [])) (outcomesBehind a table stored used e xs)
+      ∙ ap₂ (λ (l k : List StateSet). l ++ k) (sets-recomputed (values a rule xs [])) behind-right)
+      ∙ sym
+      (values-append a rule front (xs ++ behind) []
+      ∙ ap (λ (l : List StateSet). values a rule front [] ++ l)
+      (values-append a rule xs behind σ
+      ∙ ap₂ (λ (l : List StateSet) (t : List StateSet). l ++ values a rule behind t) (new-tree .values-on σ) (new-tree .stack-on σ)))
