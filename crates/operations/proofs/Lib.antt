@@ -5,3 +5,4 @@ pub mod MatchLaws
 pub mod MarksLaws
 pub mod ClimbLaws
 pub mod OutcomeLaws
+pub mod AcceptedLaws
