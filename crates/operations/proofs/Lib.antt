@@ -6,3 +6,5 @@ pub mod MarksLaws
 pub mod ClimbLaws
 pub mod OutcomeLaws
 pub mod AcceptedLaws
+pub mod RunLaws
+pub mod Demand3

@@ -1,0 +1,245 @@
+-- Demand 3: behind any list of Exchange calls, accepted and refused in any order, the memory is faithful to the plain
+-- chapter. The memory and the plain chapter are related (`Related`) at the start and behind each call; by recursion over the
+-- list they are behind all of them, and all that is claimed follows. Assumes nothing.
+use mathlib.Core.Path.{_≡_, refl, ap, ap₂, _∙_, sym, subst}
+use mathlib.Core.Bool.{Bool, true, false}
+use mathlib.Core.List.{List, [], _∷_, _++_, map, flatten, head-eq-of-cons-eq}
+use Prim.Native.Nat.{ℕ, _+_, _*_, _<_, _≤_}
+use native.Mathlib.Omega.{arith}
+use lib.ListN.{length, take, drop, length-append, take-append-drop}
+use lib.Dec.{eqb}
+use borrow.Author.Tests.{eqb-true}
+use Rattle.words.specs.Lists.{all}
+use Rattle.words.specs.Chapter.{isNode}
+use Rattle.words.specs.Postfix.{startOf, splice}
+use Rattle.words.proofs.TestLaws.{Tested, holds, fails, tested, all-left, all-right, all-append}
+use Rattle.words.proofs.PostfixLaws.{splice-tree}
+use Rattle.automaton.specs.StateSet.{StateSet}
+use Rattle.operations.specs.Answer.{answerOf, exitOf}
+use Rattle.operations.specs.Marks.{sizeOf, nodeSets, storedSet, refit}
+use Rattle.operations.specs.Run.{runFault, runMarks, runAnswer, runExit, cellsIn}
+use Rattle.operations.specs.Listing.{matchesOf, listFault, listAnswer, listExit}
+use Rattle.operations.specs.Exchange.{Outcome, setIn, outcomesAfter, exchangeFault, fault, newTree, outcomes, exchangeAnswer, exchangeChapter, exchangeMarks}
+use Rattle.operations.specs.History.{Call, Memory, exchange, exchanges, plain, plains, Start, Fresh, Faithful, Demand3}
+use Rattle.operations.proofs.MarksLaws.{stored-right, take-refit, length-refit}
+use Rattle.operations.proofs.RunLaws.{length-words, run-writes, run-length, run-exit, matches-nodeSets}
+use Rattle.operations.proofs.AcceptedLaws.{accepted-values, RunAccepted, run-accepted, accepted-run, ResultFits, ExchangeAccepted, exchange-accepted}
+use Rattle.operations.proofs.OutcomeLaws.{outcomes-right}
+
+-- the memory s and the plain chapter p, over slices of these lengths
+pub record Related (a table : List ℕ) (chapterRoom marksRoom : ℕ) (p : List ℕ) (s : Memory) : Type 0 where
+  pub count : s .count ≡ length p
+  pub elements : take (s .count) (s .chapter) ≡ p
+  pub chapterLength : length (s .chapter) ≡ chapterRoom
+  pub marksLength : length (s .marks) ≡ marksRoom
+  -- Run accepts p, and the used marks are its state sets
+  pub run : runFault a table p marksRoom ≡ 0
+  pub marks : take (length p * sizeOf table) (s .marks) ≡ flatten (nodeSets a table p)
+
+module _ (a table : List ℕ) (chapterRoom marksRoom : ℕ) where
+  -- an accepted call with the plain chapter as the used elements
+  abbrev Accepted : List ℕ → Call → Type 0
+  Accepted p c = ExchangeAccepted a table (length p) p chapterRoom marksRoom (c .element) (c .replacement)
+
+  -- the new tree passes Run's checks
+  run-spliced : (p : List ℕ) (c : Call) → Accepted p c → runFault a table (splice a p (c .element) (c .replacement)) marksRoom ≡ 0
+  unfolding splice
+  run-spliced p c k =
+      accepted-run a table (splice a p e xs) marksRoom
+      (record {
+        alphabet = k .alphabet;
+        constants = k .constants;
+        automaton = k .automaton;
+        counted = record { some = some; few = k .fits .few };
+        nodes = nodes;
+        tree = splice-tree a p e (k .tree) (k .element) xs (k .replacement .tree);
+        marks = k .fits .marks;
+      })
+    where
+      e : ℕ
+      e = c .element
+
+      xs : List ℕ
+      xs = c .replacement
+
+      nodes : all (isNode a) (splice a p e xs) ≡ true
+      nodes =
+          let s = startOf a p e in
+          all-append (isNode a) (take s p) (xs ++ drop (e + 1) p)
+          (all-left (isNode a) (take s p) (drop s p) (rw (take-append-drop s p) (k .nodes)))
+          (all-append (isNode a) xs (drop (e + 1) p) (k .replacement .nodes)
+          (all-right (isNode a) (take (e + 1) p) (drop (e + 1) p) (rw (take-append-drop (e + 1) p) (k .nodes))))
+
+      some : 0 < length (splice a p e xs)
+      some =
+          let l = k .replacement .counted .some in
+          simp length-append (omega arith)
+
+  -- ---- one call
+
+  module _ (p : List ℕ) (s : Memory) (c : Call) (g : Related a table chapterRoom marksRoom p s) where
+    abbrev tree : List ℕ
+    tree = newTree a table (s .chapter) (s .marks) (s .count) (c .element) (c .replacement)
+
+    abbrev sets : List StateSet
+    sets = map setIn (outcomes a table (s .chapter) (s .marks) (s .count) (c .element) (c .replacement))
+
+    -- the memory behind an accepted call
+    abbrev exchanged : Memory
+    exchanged = record {
+      chapter = refit (s .count) tree (s .chapter);
+      marks = refit (s .count * sizeOf table) (flatten sets) (s .marks);
+      count = length tree;
+    }
+
+    abbrev p′ : List ℕ
+    p′ = splice a p (c .element) (c .replacement)
+
+    abbrev refused-by : ℕ
+    refused-by = exchangeFault a table (length p) p chapterRoom marksRoom (c .element) (c .replacement)
+
+    -- the plain chapter is refused as the memory is
+    same-fault : fault a table (s .chapter) (s .marks) (s .count) (c .element) (c .replacement) ≡ refused-by
+    unfolding fault
+    same-fault =
+        ap (λ (u : List ℕ). exchangeFault a table (s .count) u (length (s .chapter)) (length (s .marks)) (c .element) (c .replacement)) (g .elements)
+        ∙ ap (λ (n : ℕ). exchangeFault a table n p (length (s .chapter)) (length (s .marks)) (c .element) (c .replacement)) (g .count)
+        ∙ ap₂ (λ (n m : ℕ). exchangeFault a table (length p) p n m (c .element) (c .replacement)) (g .chapterLength) (g .marksLength)
+
+    same-tree : tree ≡ p′
+    unfolding newTree
+    same-tree = ap (λ (u : List ℕ). splice a u (c .element) (c .replacement)) (g .elements)
+
+    same-sets : Accepted p c → sets ≡ nodeSets a table p′
+    unfolding outcomes
+    same-sets k =
+        ap (λ (u : List ℕ). map setIn (outcomesAfter a table (storedSet (sizeOf table) (s .marks)) u (c .element) (c .replacement))) (g .elements)
+        ∙ outcomes-right a table (storedSet (sizeOf table) (s .marks)) p (c .element) (c .replacement) (k .tree) (k .element) (k .replacement .tree)
+        (stored-right a table p (s .marks) (g .marks))
+
+    related-exchanged : Accepted p c → Related a table chapterRoom marksRoom p′ exchanged
+    related-exchanged k = record {
+      count = ap length same-tree;
+      elements = take-refit (s .count) tree (s .chapter) ∙ same-tree;
+      chapterLength =
+          length-refit (s .count) tree (s .chapter) (omega (arith, k .within, g .count, g .chapterLength))
+          (rw same-tree (omega (arith, fits .elements, g .chapterLength)))
+          ∙ g .chapterLength;
+      marksLength =
+          length-refit (s .count * sizeOf table) (flatten sets) (s .marks) (rw (g .count) (omega (arith, k .marks, g .marksLength)))
+          (omega (arith, many, fits .marks, g .marksLength))
+          ∙ g .marksLength;
+      run = run-spliced p c k;
+      marks =
+          ap (λ (n : ℕ). take n (refit (s .count * sizeOf table) (flatten sets) (s .marks))) (sym many)
+          ∙ take-refit (s .count * sizeOf table) (flatten sets) (s .marks) ∙ ap flatten (same-sets k);
+    }
+      where
+        fits : ResultFits table (length p′) chapterRoom marksRoom
+        fits = k .fits
+
+        many : length (flatten sets) ≡ length p′ * sizeOf table
+        many = ap (λ (l : List StateSet). length (flatten l)) (same-sets k) ∙ length-words a table p′
+
+    related-call : Related a table chapterRoom marksRoom (plain a table chapterRoom marksRoom p c) (exchange a table s c)
+    unfolding plain exchange exchangeChapter exchangeMarks exchangeAnswer
+    related-call = go (tested (eqb refused-by 0))
+      where
+        go : Tested (eqb refused-by 0) → Related a table chapterRoom marksRoom (plain a table chapterRoom marksRoom p c) (exchange a table s c)
+        go (holds b) =
+            rw (same-fault, b)
+            (related-exchanged (exchange-accepted a table (length p) p chapterRoom marksRoom (c .element) (c .replacement) (eqb-true refused-by 0 b)))
+        go (fails b) = rw (same-fault, b) g
+
+  -- ---- all calls
+
+  related-calls : (cs : List Call) (p : List ℕ) (s : Memory) → Related a table chapterRoom marksRoom p s
+      → Related a table chapterRoom marksRoom (plains a table chapterRoom marksRoom cs p) (exchanges a table cs s)
+  unfolding plains exchanges
+  related-calls [] p s g = g
+  related-calls (c ∷ cs) p s g = related-calls cs (plain a table chapterRoom marksRoom p c) (exchange a table s c) (related-call p s c g)
+
+  -- ---- what follows
+
+  related-faithful : (p : List ℕ) (s : Memory) → Related a table chapterRoom marksRoom p s → Faithful a table p s
+  unfolding listAnswer listExit runAnswer
+  related-faithful p s g = record { count = g .count; elements = g .elements; fresh = fresh }
+    where
+      fresh : (slice : List ℕ) → length slice ≡ length (s .marks) → Fresh a table p s slice
+      fresh slice n = record {
+        cells = cellsIn (flatten (nodeSets a table p));
+        answer = rw (run, g .count);
+        marks =
+            ap (λ (i : ℕ). take (i * sizeOf table) (s .marks)) (g .count) ∙ g .marks ∙ sym written
+            ∙ ap (λ (i : ℕ). take (i * sizeOf table) (runExit a table p slice)) (sym (g .count));
+        answers = λ l. ap₂ (λ (i : ℕ) (ms : List ℕ). answerOf (listFault a table (s .count) i (length l)) (length ms ∷ [])) lengths matches;
+        lists = λ l. ap₂ (λ (i : ℕ) (ms : List ℕ). exitOf (listFault a table (s .count) i (length l)) (ms ++ drop (length ms) l) l) lengths matches;
+      }
+        where
+          room : length slice ≡ marksRoom
+          room = n ∙ g .marksLength
+
+          run : runFault a table p (length slice) ≡ 0
+          run = ap (runFault a table p) room ∙ g .run
+
+          written : take (length p * sizeOf table) (runExit a table p slice) ≡ flatten (nodeSets a table p)
+          written = ap (take (length p * sizeOf table)) (run-exit a table p slice run) ∙ run-writes a table p slice
+
+          lengths : length (s .marks) ≡ length (runExit a table p slice)
+          lengths = sym n ∙ sym (ap length (run-exit a table p slice run) ∙ run-length a table p slice (run-accepted a table p (length slice) run .marks))
+
+          matches : matchesOf table (s .count) (s .marks) ≡ matchesOf table (s .count) (runExit a table p slice)
+          matches =
+              ap (λ (i : ℕ). matchesOf table i (s .marks)) (g .count)
+              ∙ matches-nodeSets a table p (s .marks) (g .marks)
+              ∙ sym (matches-nodeSets a table p (runExit a table p slice) written)
+              ∙ ap (λ (i : ℕ). matchesOf table i (runExit a table p slice)) (sym (g .count))
+
+-- ---- an accepted Run begins it
+
+related-start : (a table ch : List ℕ) (s : Memory) → Start a table ch s → Related a table (length (s .chapter)) (length (s .marks)) ch s
+unfolding runAnswer
+related-start a table ch s h = record {
+  count = count;
+  elements = ap (λ (i : ℕ). take i (s .chapter)) count ∙ h .begins;
+  chapterLength = refl;
+  marksLength = refl;
+  run = ap (runFault a table ch) same ∙ run;
+  marks = ap (take (length ch * sizeOf table)) left ∙ run-writes a table ch (h .before);
+}
+  where
+    facts : (runFault a table ch (length (h .before)) ≡ 0) × (length ch ∷ cellsIn (flatten (nodeSets a table ch)) ∷ [] ≡ s .count ∷ h .cells ∷ [])
+    facts = accepted-values (runFault a table ch (length (h .before))) _ _ (h .answer)
+
+    run : runFault a table ch (length (h .before)) ≡ 0
+    run = facts .0
+
+    count : s .count ≡ length ch
+    count = sym (head-eq-of-cons-eq (facts .1))
+
+    left : s .marks ≡ runMarks a table ch (h .before)
+    left = h .marks ∙ run-exit a table ch (h .before) run
+
+    same : length (s .marks) ≡ length (h .before)
+    same = ap length left ∙ run-length a table ch (h .before) (run-accepted a table ch (length (h .before)) run .marks)
+
+related-end : (a table ch : List ℕ) (s : Memory) (calls : List Call) → Start a table ch s
+    → Related a table (length (s .chapter)) (length (s .marks)) (plains a table (length (s .chapter)) (length (s .marks)) calls ch) (exchanges a table calls s)
+related-end a table ch s calls h =
+    related-calls a table (length (s .chapter)) (length (s .marks)) calls ch s (related-start a table ch s h)
+
+-- demand 3
+pub demand3 : Demand3
+demand3 a table ch s calls h =
+    related-faithful a table (length (s .chapter)) (length (s .marks)) (plains a table (length (s .chapter)) (length (s .marks)) calls ch)
+    (exchanges a table calls s) (related-end a table ch s calls h)
+
+-- and the two slices keep their lengths
+pub record SameLengths (s t : Memory) : Type 0 where
+  pub chapter : length (t .chapter) ≡ length (s .chapter)
+  pub marks : length (t .marks) ≡ length (s .marks)
+
+pub exchanges-lengths : (a table ch : List ℕ) (s : Memory) (calls : List Call) → Start a table ch s → SameLengths s (exchanges a table calls s)
+exchanges-lengths a table ch s calls h =
+    let g = related-end a table ch s calls h in
+    record { chapter = g .chapterLength; marks = g .marksLength }

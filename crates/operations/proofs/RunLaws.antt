@@ -1,0 +1,37 @@
+-- What an accepted Run leaves: the state sets of the tree, in a slice of the same length. Assumes nothing.
+use mathlib.Core.Path.{_≡_, refl, ap, _∙_, sym}
+use mathlib.Core.List.{List, [], _∷_, _++_, flatten}
+use Prim.Native.Nat.{ℕ, _+_, _*_, _≤_}
+use native.Mathlib.Omega.{arith}
+use lib.ListN.{length, take, drop, length-append, length-drop}
+use lib.Seq.{take-at}
+use Rattle.operations.specs.Marks.{sizeOf, finalOf, nodeSets}
+use Rattle.operations.specs.Run.{runFault, runMarks, runExit}
+use Rattle.operations.specs.Listing.{matchesIn, matchesOf}
+use Rattle.operations.proofs.MarksLaws.{length-flatten, sized-nodeSets, length-nodeSets, stored-nodeSets}
+
+module _ (a table p : List ℕ) where
+  pub length-words : length (flatten (nodeSets a table p)) ≡ length p * sizeOf table
+  length-words =
+      length-flatten (sizeOf table) (nodeSets a table p) (sized-nodeSets a table p)
+      ∙ ap (λ (n : ℕ). n * sizeOf table) (length-nodeSets a table p)
+
+  pub run-writes : (marks : List ℕ) → take (length p * sizeOf table) (runMarks a table p marks) ≡ flatten (nodeSets a table p)
+  unfolding runMarks
+  run-writes marks = take-at (flatten (nodeSets a table p)) (drop (length p * sizeOf table) marks) (length p * sizeOf table) length-words
+
+  pub run-length : (marks : List ℕ) → length p * sizeOf table ≤ length marks → length (runMarks a table p marks) ≡ length marks
+  unfolding runMarks
+  run-length marks h =
+      length-append (flatten (nodeSets a table p)) (drop (length p * sizeOf table) marks)
+      ∙ rw (length-words, length-drop (length p * sizeOf table) marks) (omega arith)
+
+  pub run-exit : (marks : List ℕ) → runFault a table p (length marks) ≡ 0 → runExit a table p marks ≡ runMarks a table p marks
+  unfolding runExit
+  run-exit marks h = rw h
+
+  -- List's numbers over a slice that begins with the tree's state sets
+  pub matches-nodeSets : (marks : List ℕ) → take (length p * sizeOf table) marks ≡ flatten (nodeSets a table p)
+      → matchesOf table (length p) marks ≡ matchesIn (finalOf table) 0 (nodeSets a table p)
+  unfolding matchesOf
+  matches-nodeSets marks h = ap (matchesIn (finalOf table) 0) (stored-nodeSets a table p marks h)
