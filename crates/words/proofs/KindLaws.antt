@@ -3,13 +3,14 @@
 use mathlib.Core.Path.{_≡_, refl, ap, _∙_, sym}
 use mathlib.Core.Bool.{Bool, true, false, _&&_}
 use mathlib.Core.List.{List, [], _∷_}
+use mathlib.Core.Logic.{_⊎_, inl, inr, ⊎-elim}
 use Prim.Native.Nat.{ℕ, zero, suc, _+_, _-_, _*_, _/_, _%_, _<_, _≤_}
 use native.Mathlib.Omega.{arith}
 use native.Mathlib.Nat.{zero-add, add-zero, add-suc, suc-add}
 use lib.ListN.{length, getD, List·getD-eq-default}
 use lib.Dec.{ltb, eqb}
-use borrow.Author.Tests.{eq-eqb, ne-eqb, eqb-true, lt-ltb, ltb-true}
-use Rattle.words.proofs.TestLaws.{and-true, true-and}
+use borrow.Author.Tests.{eq-eqb, ne-eqb, eqb-true, lt-ltb, le-ltb, ltb-true}
+use Rattle.words.proofs.TestLaws.{Tested, holds, fails, tested, and-true, true-and}
 use Rattle.words.specs.Word.{Kind, entryKind, symbolKind, emptyKind, unionKind, productKind, closureKind, nodeKind, headKind, transitionKind, epsilonKind, sourceKind, noKind, kindAt, kindNumber, numberOf, kindOf, hasKind, bodyOf, fieldRange, spareBitsClear, isOf, wordOf, lowByte}
 
 -- ---- a kind and its number
@@ -45,16 +46,41 @@ abbrev Consecutive : ℕ → List Kind → Type 0
 Consecutive j [] = Unit {0}
 Consecutive j (k ∷ ks) = (kindNumber k ≡ j) × Consecutive (suc j) ks
 
-number-getD : (ks : List Kind) (n j : ℕ) → Consecutive j ks → (getD ks n noKind ≡ noKind → ⊥) → kindNumber (getD ks n noKind) ≡ j + n
-number-getD [] n j h e = absurd (e refl)
-number-getD (k ∷ ks) zero j h e = h .0 ∙ sym (add-zero j)
-number-getD (k ∷ ks) (suc n) j h e = number-getD ks n (suc j) (h .1) e ∙ suc-add j n ∙ sym (add-suc j n)
+number-getD : (ks : List Kind) (n j : ℕ) → Consecutive j ks → (kindNumber (getD ks n noKind) ≡ j + n) ⊎ (getD ks n noKind ≡ noKind)
+number-getD [] n j h = inr refl
+number-getD (k ∷ ks) zero j h = inl (h .0 ∙ sym (add-zero j))
+number-getD (k ∷ ks) (suc n) j h = ⊎-elim (λ e. inl (e ∙ suc-add j n ∙ sym (add-suc j n))) inr (number-getD ks n (suc j) (h .1))
 
--- a number is that of its kind, unless it has none
-pub number-kindAt : (n : ℕ) → (kindAt n ≡ noKind → ⊥) → kindNumber (kindAt n) ≡ n
+-- a number is that of its kind, or it has none
+pub number-cases : (n : ℕ) → (kindNumber (kindAt n) ≡ n) ⊎ (kindAt n ≡ noKind)
 unfolding kindAt
-number-kindAt n h =
-    number-getD kinds n 0 (refl, (refl, (refl, (refl, (refl, (refl, (refl, (refl, (refl, (refl, (refl, (refl, tt)))))))))))) h ∙ zero-add n
+number-cases n =
+    ⊎-elim (λ e. inl (e ∙ zero-add n)) inr
+    (number-getD kinds n 0 (refl, (refl, (refl, (refl, (refl, (refl, (refl, (refl, (refl, (refl, (refl, (refl, tt)))))))))))))
+
+pub number-kindAt : (n : ℕ) → (kindAt n ≡ noKind → ⊥) → kindNumber (kindAt n) ≡ n
+number-kindAt n h = ⊎-elim (λ e. e) (λ e. absurd (h e)) (number-cases n)
+
+-- a number outside 1 to 11
+pub kindAt-outside : (n : ℕ) → (0 < n → 12 ≤ n) → kindAt n ≡ noKind
+unfolding kindAt
+kindAt-outside zero h = refl
+kindAt-outside (suc n) h = kindAt-above (suc n) (h (omega arith))
+
+-- n is none of 1 to m, as the last case of a `match` over 1 to m knows it
+abbrev pub NoneOf : ℕ → ℕ → Type 0
+NoneOf zero n = Unit {0}
+NoneOf (suc m) n = NoneOf m n × (n ≡ suc m → ⊥)
+
+noneOf-above : (m n : ℕ) → NoneOf m n → 0 < n → m < n
+noneOf-above zero n r h = h
+noneOf-above (suc m) n r h =
+    let l = noneOf-above m n (r .0) h in
+    let q = r .1 in
+    omega arith
+
+pub kindAt-rest : (n : ℕ) → NoneOf 11 n → kindAt n ≡ noKind
+kindAt-rest n r = kindAt-outside n (noneOf-above 11 n r)
 
 -- ---- the word of a kind with given fields
 
@@ -135,3 +161,33 @@ pub isOf-wordOf : (k : Kind) (b : ℕ) → b < fieldRange k → isOf k (wordOf k
 isOf-wordOf k b h =
     let l : b < 0x1000_0000 = omega (arith, fieldRange-fits k) in
     isOf-from k (wordOf k b) (numberOf-wordOf k b l) (rw (bodyOf-wordOf k b l) h)
+
+-- no word is of no kind
+pub spare-noKind : (w : ℕ) → kindOf w ≡ noKind → spareBitsClear w ≡ false
+unfolding spareBitsClear
+spare-noKind w e = rw e (le-ltb (bodyOf w) 0 (omega arith))
+
+pub isOf-noKind : (w : ℕ) → isOf noKind w ≡ false
+unfolding isOf
+isOf-noKind w = go (tested (hasKind noKind w))
+  where
+    go : Tested (hasKind noKind w) → isOf noKind w ≡ false
+    go (holds e) = rw (e, spare-noKind w (hasKind-kindOf noKind w e))
+    go (fails e) = rw e
+
+-- ---- the kind of a number n: of a word of that number the spare bits decide, and no other word is of it
+
+module _ (n w : ℕ) where
+  pub isOf-same : numberOf w ≡ n → isOf (kindAt n) w ≡ spareBitsClear w
+  unfolding isOf
+  isOf-same h =
+      ⊎-elim (λ e. rw (eq-eqb (numberOf w) (kindNumber (kindAt n)) (h ∙ sym e)))
+      (λ e. ap (λ (k : Kind). isOf k w) e ∙ isOf-noKind w ∙ sym (spare-noKind w (ap kindAt h ∙ e)))
+      (number-cases n)
+
+  pub isOf-other : (numberOf w ≡ n → ⊥) → isOf (kindAt n) w ≡ false
+  unfolding isOf
+  isOf-other h =
+      ⊎-elim (λ e. rw (ne-eqb (numberOf w) (kindNumber (kindAt n)) (λ q. h (q ∙ e))))
+      (λ e. ap (λ (k : Kind). isOf k w) e ∙ isOf-noKind w)
+      (number-cases n)

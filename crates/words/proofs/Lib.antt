@@ -20,3 +20,5 @@ pub mod CountLaws
 pub mod HoldingLaws
 pub mod WordLaws
 pub mod RelabelLaws
+pub mod ScanLaws
+pub mod ConstantScanLaws

@@ -1,0 +1,44 @@
+-- One step of a scan over a slice: what is left of a list from an index on, tests of every word of it, and the trees that it
+-- makes. Assumes nothing.
+use mathlib.Core.Path.{_≡_, ap, _∙_}
+use mathlib.Core.Bool.{Bool, true, false}
+use mathlib.Core.List.{List, [], _∷_}
+use Prim.Native.Nat.{ℕ, _+_, _-_, _<_, _≤_}
+use native.Mathlib.Numerals.{add-one}
+use lib.ListN.{length, getD, drop, drop-of-length-le}
+use lib.Seq.{drop-cons}
+use lib.Dec.{eqb}
+use borrow.Author.Tests.{le-leb, lt-leb}
+use Rattle.words.specs.Lists.{all}
+use Rattle.words.specs.Postfix.{arity, trees}
+
+pub drop-step : (l : List ℕ) (i : ℕ) → i < length l → drop i l ≡ getD l i 0 ∷ drop (i + 1) l
+drop-step l i h = rw (add-one, drop-cons l i 0)
+
+pub drop-end : (l : List ℕ) (i : ℕ) → length l ≤ i → drop i l ≡ []
+drop-end l i h = drop-of-length-le l h
+
+-- the test of every word from index i on
+module _ (f : ℕ → Bool) (l : List ℕ) (i : ℕ) where
+  pub all-fails : i < length l → f (getD l i 0) ≡ false → all f (drop i l) ≡ false
+  all-fails h e = ap (all f) (drop-step l i h) ∙ rw e
+
+  pub all-goes : i < length l → f (getD l i 0) ≡ true → all f (drop i l) ≡ all f (drop (i + 1) l)
+  all-goes h e = ap (all f) (drop-step l i h) ∙ rw e
+
+  pub all-end : length l ≤ i → all f (drop i l) ≡ true
+  all-end h = ap (all f) (drop-end l i h)
+
+-- the trees that the words from index i on make, after d trees; r is the arity of word i
+module _ (a l : List ℕ) (d i t : ℕ) where
+  pub trees-lacks : (r : ℕ) → i < length l → r ≡ arity a (getD l i 0) → d < r → trees a d (drop i l) t ≡ false
+  unfolding trees
+  trees-lacks r h er e = ap (λ (x : List ℕ). trees a d x t) (drop-step l i h) ∙ rw (← er, lt-leb r d e)
+
+  pub trees-goes : (r : ℕ) → i < length l → r ≡ arity a (getD l i 0) → r ≤ d → trees a d (drop i l) t ≡ trees a (d - r + 1) (drop (i + 1) l) t
+  unfolding trees
+  trees-goes r h er e = ap (λ (x : List ℕ). trees a d x t) (drop-step l i h) ∙ rw (← er, le-leb r d e)
+
+  pub trees-end : length l ≤ i → trees a d (drop i l) t ≡ eqb d t
+  unfolding trees
+  trees-end h = ap (λ (x : List ℕ). trees a d x t) (drop-end l i h)

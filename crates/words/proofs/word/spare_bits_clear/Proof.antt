@@ -1,0 +1,15 @@
+-- `word::spare_bits_clear` meets its contract, by what `field_range` answers of the word's kind. Assumes nothing.
+use borrow.Author.Needs.{needs}
+use Rattle.words.specs.Word.{spareBitsClear}
+use Rattle.words.proofs.word.spare_bits_clear.Statement.{statement}
+use Rattle.words.proofs.word.spare_bits_clear.Tie as tie
+
+field-range-requires : tie.Need-field-range-requires
+field-range-requires c κs = search needs
+
+returns : tie.Need-returns
+unfolding spareBitsClear
+returns c = rw (c .field-range .ensures)
+
+pub spare-bits-clear-spec : {M : Type 1} → statement M
+spare-bits-clear-spec = tie.close (tie.spec field-range-requires returns)

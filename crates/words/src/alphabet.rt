@@ -1,0 +1,107 @@
+// The alphabet: ranks, constants in symbol order, and refusals 1 and 2.
+ghost use mathlib.Core.Path.{_≡_};
+ghost use mathlib.Core.List.{_++_};
+ghost use lib.ListN.{length, drop};
+ghost use Rattle.words.specs.Lists.{all};
+ghost use Rattle.words.specs.Alphabet.{isEntry, isSymbol, isConstant, rankOf, constantsOf, alphabetFault};
+use super::word::ENTRY;
+use super::word::is_of;
+
+// The limits of an alphabet, and the highest rank.
+pub const ALPHABET_MOST: usize = 64;
+
+pub const CONSTANTS_MOST: usize = 16;
+
+pub const RANK_MOST: u32 = 4;
+
+// Bits 7..0 of an entry are its rank, those of other words a symbol.
+pub const LOW_BYTE: u32 = 256;
+
+// The rank of a symbol; 0 for an unknown one.
+pub fn rank(alphabet: &[u32], symbol: usize) -> usize
+    ensures { λ r. ⌜ r ≡ rankOf (now (alphabet .entry)) symbol ⌝ }
+{
+    if symbol < alphabet.len() {
+        return (alphabet[symbol] % LOW_BYTE) as usize;
+    }
+    0
+}
+
+// Whether the alphabet has the symbol.
+pub fn is_symbol(alphabet: &[u32], symbol: usize) -> bool
+    ensures { λ r. ⌜ r ≡ isSymbol (now (alphabet .entry)) symbol ⌝ }
+{
+    symbol < alphabet.len()
+}
+
+// Whether the alphabet has the symbol and its rank is 0.
+pub fn is_constant(alphabet: &[u32], symbol: usize) -> bool
+    ensures { λ r. ⌜ r ≡ isConstant (now (alphabet .entry)) symbol ⌝ }
+{
+    if symbol < alphabet.len() {
+        return alphabet[symbol] % LOW_BYTE == 0;
+    }
+    false
+}
+
+// Whether a word is an alphabet entry.
+pub fn is_entry(w: u32) -> bool
+    ensures { λ r. ⌜ r ≡ isEntry w ⌝ }
+{
+    if is_of(ENTRY, w) {
+        return w % LOW_BYTE <= RANK_MOST;
+    }
+    false
+}
+
+fn entries_only(alphabet: &[u32]) -> bool
+    ensures { λ r. ⌜ r ≡ all isEntry (now (alphabet .entry)) ⌝ }
+{
+    let mut i = 0;
+    while i < alphabet.len() {
+        if !is_entry(alphabet[i]) {
+            return false;
+        }
+        i += 1;
+    }
+    true
+}
+
+// How many constants the alphabet has.
+pub fn count_constants(alphabet: &[u32]) -> usize
+    ensures { λ r. ⌜ r ≡ length (constantsOf (now (alphabet .entry))) ⌝ }
+{
+    let mut n: usize = 0;
+    let mut i = 0;
+    while i < alphabet.len() {
+        if is_constant(alphabet, i) {
+            n += 1;
+        }
+        i += 1;
+    }
+    n
+}
+
+// Document 01's number 1 or 2, the first that applies, or 0.
+pub fn alphabet_fault(alphabet: &[u32]) -> u32
+    ensures { λ r. ⌜ r ≡ alphabetFault (now (alphabet .entry)) ⌝ }
+{
+    let size = alphabet.len();
+    if size == 0 {
+        return 1;
+    }
+    if size > ALPHABET_MOST {
+        return 1;
+    }
+    if !entries_only(alphabet) {
+        return 1;
+    }
+    let constants = count_constants(alphabet);
+    if constants == 0 {
+        return 2;
+    }
+    if constants > CONSTANTS_MOST {
+        return 2;
+    }
+    0
+}

@@ -1,0 +1,55 @@
+// Words in postfix order: how many children a word takes, which words make one tree, and where subtrees begin.
+ghost use mathlib.Core.Path.{_≡_};
+ghost use Rattle.words.specs.Postfix.{arity, oneTree, startOf, isAncestor};
+use super::alphabet::LOW_BYTE;
+use super::alphabet::rank;
+use super::word::CLOSURE;
+use super::word::EMPTY;
+use super::word::ENTRY;
+use super::word::EPSILON;
+use super::word::HEAD;
+use super::word::KIND_UNIT;
+use super::word::NODE;
+use super::word::PRODUCT;
+use super::word::SOURCE;
+use super::word::SYMBOL;
+use super::word::TRANSITION;
+use super::word::UNION;
+
+// How many children a word takes.
+pub fn arity(alphabet: &[u32], w: u32) -> usize
+    ensures { λ r. ⌜ r ≡ arity (now (alphabet .entry)) w ⌝ }
+{
+    let kind = w / KIND_UNIT;
+    match kind {
+        ENTRY => 0,
+        SYMBOL => rank(alphabet, (w % LOW_BYTE) as usize),
+        EMPTY => 0,
+        UNION => 2,
+        PRODUCT => 2,
+        CLOSURE => 1,
+        NODE => rank(alphabet, (w % LOW_BYTE) as usize),
+        HEAD => 0,
+        TRANSITION => 0,
+        EPSILON => 0,
+        SOURCE => 0,
+        _ => 0,
+    }
+}
+
+// Whether the words make exactly one tree.
+pub fn one_tree(alphabet: &[u32], words: &[u32]) -> bool
+    ensures { λ r. ⌜ r ≡ oneTree (now (alphabet .entry)) (now (words .entry)) ⌝ }
+{
+    let mut made: usize = 0;
+    let mut i = 0;
+    while i < words.len() {
+        let children = arity(alphabet, words[i]);
+        if made < children {
+            return false;
+        }
+        made = made - children + 1;
+        i += 1;
+    }
+    made == 1
+}
