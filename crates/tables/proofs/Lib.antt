@@ -1,2 +1,4 @@
 pub mod Constants
 pub mod MaskLaws
+pub mod CheckLaws
+pub mod ScanLaws

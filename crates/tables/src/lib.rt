@@ -1,3 +1,4 @@
 // The table layer: whether words are a table, what its head says, state sets, and a node's state set from its children's.
+pub mod check;
 pub mod head;
 pub mod set;

@@ -1,0 +1,72 @@
+-- The check of a table, word by word. Assumes nothing.
+use mathlib.Core.Path.{_≡_, refl, ap, _∙_, sym}
+use mathlib.Core.Bool.{Bool, true, false, not, _&&_}
+use mathlib.Core.List.{List, [], _∷_}
+use Prim.Native.Nat.{ℕ, _+_, _<_, _≤_}
+use native.Mathlib.Omega.{arith}
+use native.Mathlib.Numerals.{add-one}
+use lib.ListN.{length, getD, drop, drop-of-length-le}
+use lib.Seq.{drop-cons}
+use lib.Dec.{eqb}
+use borrow.Author.Tests.{le-leb, lt-leb}
+use Rattle.words.specs.Word.{countAbove}
+use Rattle.automaton.specs.Table.{isTable, isHead, isTableWord, sourcesLeft, areTransitions}
+
+pub drop-step : (l : List ℕ) (i : ℕ) → i < length l → drop i l ≡ getD l i 0 ∷ drop (i + 1) l
+drop-step l i h = rw (add-one, drop-cons l i 0)
+
+-- the words before word i are in order, and `left` part states are still to come
+pub record Checked (a : List ℕ) (n : ℕ) (table : List ℕ) (left i : ℕ) : Type 0 where
+  pub rest : areTransitions a n 0 (drop 1 table) ≡ areTransitions a n left (drop i table)
+
+pub checked-none : (a : List ℕ) (n : ℕ) (table : List ℕ) → Checked a n table 0 1
+checked-none a n table = record { rest = refl }
+
+module _ {a : List ℕ} {n : ℕ} {table : List ℕ} {left i : ℕ} (s : Checked a n table left i) where
+  pub checked-end : length table ≤ i → eqb left 0 ≡ areTransitions a n 0 (drop 1 table)
+  unfolding areTransitions
+  checked-end h = sym (s .rest ∙ ap (areTransitions a n left) (drop-of-length-le table h))
+
+  module _ (h : i < length table) where
+    next : areTransitions a n left (drop i table)
+        ≡ isTableWord a n left (getD table i 0) && areTransitions a n (sourcesLeft a left (getD table i 0)) (drop (i + 1) table)
+    unfolding areTransitions
+    next = ap (areTransitions a n left) (drop-step table i h)
+
+    pub checked-fails : isTableWord a n left (getD table i 0) ≡ false → false ≡ areTransitions a n 0 (drop 1 table)
+    checked-fails e = sym (s .rest ∙ next ∙ rw e)
+
+    pub checked-more : isTableWord a n left (getD table i 0) ≡ true → (k : ℕ) → k ≡ sourcesLeft a left (getD table i 0) → Checked a n table k (i + 1)
+    checked-more e k ek = record { rest = s .rest ∙ next ∙ rw (e, ← ek) }
+
+-- ---- the whole table
+
+module _ (a : List ℕ) where
+  pub table-empty : (table : List ℕ) → length table ≡ 0 → false ≡ isTable a table
+  unfolding isTable
+  table-empty [] h = refl
+  table-empty (x ∷ ws) h = absurd (omega arith)
+
+  pub table-long : (table : List ℕ) → 2048 < length table → false ≡ isTable a table
+  unfolding isTable
+  table-long [] h = refl
+  table-long (x ∷ ws) h = sym (rw (lt-leb (length (x ∷ ws)) 2048 h))
+
+  module _ (table : List ℕ) (few : length table ≤ 2048) where
+    pub table-no-head : isHead (getD table 0 0) ≡ false → false ≡ isTable a table
+    unfolding isTable
+    table-no-head e = go table few e
+      where
+        go : (table : List ℕ) → length table ≤ 2048 → isHead (getD table 0 0) ≡ false → false ≡ isTable a table
+        go [] h e = refl
+        go (x ∷ ws) h e = sym (rw (le-leb (length (x ∷ ws)) 2048 h, e))
+
+    pub table-value : (length table ≡ 0 → ⊥) → isHead (getD table 0 0) ≡ true → (r : Bool)
+        → r ≡ areTransitions a (countAbove (getD table 0 0)) 0 (drop 1 table) → r ≡ isTable a table
+    unfolding isTable
+    table-value n e r h = go table few n e h
+      where
+        go : (table : List ℕ) → length table ≤ 2048 → (length table ≡ 0 → ⊥) → isHead (getD table 0 0) ≡ true
+            → r ≡ areTransitions a (countAbove (getD table 0 0)) 0 (drop 1 table) → r ≡ isTable a table
+        go [] l n e h = absurd (n refl)
+        go (x ∷ ws) l n e h = h ∙ sym (rw (le-leb (length (x ∷ ws)) 2048 l, e))
