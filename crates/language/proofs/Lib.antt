@@ -1,3 +1,5 @@
 pub mod SubstitutionLaws
 pub mod SubjectLaws
 pub mod SubtreeLaws
+pub mod ParseLaws
+pub mod ExpressionLaws

@@ -1,7 +1,7 @@
 -- How many children the word of a kind takes, and what the tests for a node and for an expression word say of a word.
 -- Assumes nothing.
 use mathlib.Core.Path.{_≡_, refl, ap, _∙_, sym}
-use mathlib.Core.Bool.{Bool, true, false, not, _&&_, _||_}
+use mathlib.Core.Bool.{true, false, not, _||_, false≢true}
 use mathlib.Core.List.{List, [], _∷_}
 use Prim.Native.Nat.{ℕ, _+_, _*_, _/_, _%_, _<_, _≤_}
 use native.Mathlib.Omega.{arith}
@@ -75,14 +75,15 @@ pub record IsExpressionWord (a : List ℕ) (w : ℕ) (k : Kind) : Type 0 where
   pub body : bodyOf w < fieldRange k
   pub word : w ≡ wordOf k (bodyOf w)
 
-pub isExpressionWord-facts : (a : List ℕ) (w : ℕ) (k : Kind) → kindOf w ≡ k → (k ≡ noKind → ⊥) → isExpressionWord a w ≡ true → IsExpressionWord a w k
+pub isExpressionWord-facts : (a : List ℕ) (w : ℕ) (k : Kind) → kindOf w ≡ k → isExpressionWord a w ≡ true → IsExpressionWord a w k
 unfolding isExpressionWord spareBitsClear
-isExpressionWord-facts a w k e n h =
+isExpressionWord-facts a w k e h =
     let p = and-true (spareBitsClear w) (namesAt a (lowByte w) (kindOf w)) h in
+    let n : namesAt a (lowByte w) k ≡ true = rw e at (p .1) in
     record {
-      names = rw e at (p .1);
+      names = n;
       body = ltb-true (bodyOf w) (fieldRange k) (rw e at (p .0));
-      word = word-wordOf k w (kindOf-hasKind k w n e);
+      word = word-wordOf k w (kindOf-hasKind k w (λ q. false≢true (rw q at n)) e);
     }
 
 pub isExpressionWord-wordOf : (a : List ℕ) (k : Kind) (b : ℕ) → b < fieldRange k → namesAt a (lowByte b) k ≡ true → isExpressionWord a (wordOf k b) ≡ true

@@ -1,0 +1,106 @@
+-- Words that are expression words and make one tree are the words of exactly one expression over the alphabet, and the
+-- words of every expression over the alphabet are expression words that make one tree. Assumes nothing.
+use mathlib.Core.Path.{_≡_, refl, ap, _∙_, sym}
+use mathlib.Core.Bool.{true}
+use mathlib.Core.List.{List, [], _∷_, _++_}
+use Prim.Native.Nat.{ℕ, _%_, _<_, _≤_}
+use native.Mathlib.Omega.{arith}
+use lib.ListN.{length}
+use borrow.Author.Tests.{lt-ltb}
+use Rattle.words.specs.Lists.{all}
+use Rattle.words.specs.Word.{Kind, symbolKind, emptyKind, unionKind, productKind, closureKind, fieldRange, wordOf, lowByte}
+use Rattle.words.specs.Alphabet.{isConstant}
+use Rattle.words.specs.Tree.{Tree, Trees, node, none, more, postfix, postfixAll}
+use Rattle.words.specs.Postfix.{arity, oneTree, Ranked, RankedAll}
+use Rattle.words.specs.Expression.{namesAt, isExpressionWord}
+use Rattle.language.specs.Expression.{Expression, Expressions, symbol, empty, union, product, closure, noneᵉ, moreᵉ, syntaxTree, syntaxTrees, expressionWords, ExpressionOver, ExpressionsOver}
+use Rattle.words.proofs.TestLaws.{true-and, all-append}
+use Rattle.words.proofs.ExactlyOne.{ExactlyOne, one-along}
+use Rattle.words.proofs.WordLaws.{arity-wordOf, isExpressionWord-wordOf}
+use Rattle.words.proofs.ReadingLaws.{oneTree-tree}
+use Rattle.words.proofs.TreeLaws.{TreeOf, exactly-one-tree}
+use Rattle.language.proofs.ParseLaws.{expressionOf, number-syntaxTrees, tree-expression, constant-small, expression-back}
+
+-- an expression over the alphabet whose words these are
+pub record ExpressionOf (a e : List ℕ) (E : Expression) : Type 0 where
+  pub over : ExpressionOver a E
+  pub words : expressionWords E ≡ e
+
+module _ (a : List ℕ) where
+  expression-read : (e : List ℕ) → all (isExpressionWord a) e ≡ true → (t : Tree) → TreeOf a e t → ExpressionOf a e (expressionOf t)
+  expression-read e h t k =
+      let p = tree-expression a t (k .ranked) (rw (k .words) h) in
+      record { over = p .0; words = ap postfix (p .1) ∙ k .words }
+
+  module _ (m : length a ≤ 64) where
+    mutual
+      pub ranked-syntax : (E : Expression) → ExpressionOver a E → Ranked a (syntaxTree E)
+      ranked-syntax (symbol f es) h =
+          let l = h .0 in
+          (arity-wordOf a symbolKind f (omega arith) ∙ h .1 ∙ sym (number-syntaxTrees es), ranked-syntaxes es (h .2))
+      ranked-syntax empty h = (arity-wordOf a emptyKind 0 (omega arith), tt)
+      ranked-syntax (union F G) h = (arity-wordOf a unionKind 0 (omega arith), (ranked-syntax F (h .0), (ranked-syntax G (h .1), tt)))
+      ranked-syntax (product c F G) h =
+          (arity-wordOf a productKind c (constant-small a m c (h .0)), (ranked-syntax F (h .1), (ranked-syntax G (h .2), tt)))
+      ranked-syntax (closure c F) h = (arity-wordOf a closureKind c (constant-small a m c (h .0)), (ranked-syntax F (h .1), tt))
+
+      pub ranked-syntaxes : (es : Expressions) → ExpressionsOver a es → RankedAll a (syntaxTrees es)
+      ranked-syntaxes noneᵉ h = tt
+      ranked-syntaxes (moreᵉ E es) h = (ranked-syntax E (h .0), ranked-syntaxes es (h .1))
+
+    -- expression words and one more
+    snoc-words : (l : List ℕ) (k : Kind) (b : ℕ) → all (isExpressionWord a) l ≡ true → b < fieldRange k → namesAt a (lowByte b) k ≡ true
+        → all (isExpressionWord a) (l ++ wordOf k b ∷ []) ≡ true
+    snoc-words l k b h r n =
+        all-append (isExpressionWord a) l (wordOf k b ∷ []) h
+        (true-and (isExpressionWord a (wordOf k b)) true (isExpressionWord-wordOf a k b r n) refl)
+
+    -- the substitution symbol of a product or a closure
+    names-constant : (c : ℕ) → isConstant a c ≡ true → isConstant a (lowByte c) ≡ true
+    names-constant c h =
+        let l = constant-small a m c h in
+        let e : lowByte c ≡ c = omega arith in
+        rw e h
+
+    -- two expressions side by side
+    pair-words : (F G : Expression) → all (isExpressionWord a) (expressionWords F) ≡ true → all (isExpressionWord a) (expressionWords G) ≡ true
+        → all (isExpressionWord a) (postfixAll (more (syntaxTree F) (more (syntaxTree G) none))) ≡ true
+    pair-words F G f g =
+        all-append (isExpressionWord a) (expressionWords F) (expressionWords G ++ []) f
+        (all-append (isExpressionWord a) (expressionWords G) [] g refl)
+
+    -- the words of an expression over the alphabet pass both tests
+    mutual
+      pub expression-words : (E : Expression) → ExpressionOver a E → all (isExpressionWord a) (expressionWords E) ≡ true
+      expression-words (symbol f es) h =
+          let l = h .0 in
+          let e : lowByte f ≡ f = omega arith in
+          snoc-words (postfixAll (syntaxTrees es)) symbolKind f (expressions-words es (h .2)) (omega arith) (rw e (lt-ltb f (length a) l))
+      expression-words empty h = snoc-words [] emptyKind 0 refl (omega arith) refl
+      expression-words (union F G) h =
+          snoc-words (postfixAll (more (syntaxTree F) (more (syntaxTree G) none))) unionKind 0
+          (pair-words F G (expression-words F (h .0)) (expression-words G (h .1))) (omega arith) refl
+      expression-words (product c F G) h =
+          snoc-words (postfixAll (more (syntaxTree F) (more (syntaxTree G) none))) productKind c
+          (pair-words F G (expression-words F (h .1)) (expression-words G (h .2)))
+          (constant-small a m c (h .0)) (names-constant c (h .0))
+      expression-words (closure c F) h =
+          snoc-words (postfixAll (more (syntaxTree F) none)) closureKind c
+          (all-append (isExpressionWord a) (expressionWords F) [] (expression-words F (h .1)) refl)
+          (constant-small a m c (h .0)) (names-constant c (h .0))
+
+      expressions-words : (es : Expressions) → ExpressionsOver a es → all (isExpressionWord a) (postfixAll (syntaxTrees es)) ≡ true
+      expressions-words noneᵉ h = refl
+      expressions-words (moreᵉ E es) h =
+          all-append (isExpressionWord a) (expressionWords E) (postfixAll (syntaxTrees es)) (expression-words E (h .0)) (expressions-words es (h .1))
+
+    pub expression-oneTree : (E : Expression) → ExpressionOver a E → oneTree a (expressionWords E) ≡ true
+    expression-oneTree E h = oneTree-tree a (syntaxTree E) (ranked-syntax E h)
+
+    expression-tree : (e : List ℕ) (E : Expression) → ExpressionOf a e E → TreeOf a e (syntaxTree E)
+    expression-tree e E k = record { ranked = ranked-syntax E (k .over); words = k .words }
+
+    -- and words that pass both are those of exactly one
+    pub exactly-one-expression : (e : List ℕ) → all (isExpressionWord a) e ≡ true → oneTree a e ≡ true → ExactlyOne (ExpressionOf a e)
+    exactly-one-expression e h o =
+        one-along expressionOf syntaxTree (expression-read e h) (expression-tree e) (λ E k. expression-back a m E (k .over)) (exactly-one-tree a e o)

@@ -1,0 +1,174 @@
+-- A tree of expression words is read as an expression over the alphabet whose syntax tree it is, and the syntax tree of an
+-- expression over the alphabet is read as that expression. Assumes nothing.
+use mathlib.Core.Path.{_≡_, refl, ap, ap₂, _∙_, sym}
+use mathlib.Core.Bool.{true, false, false≢true}
+use mathlib.Core.List.{List, [], _∷_}
+use Prim.Native.Nat.{ℕ, suc, _+_, _*_, _/_, _%_, _<_, _≤_}
+use native.Mathlib.Omega.{arith}
+use lib.ListN.{length}
+use borrow.Author.Tests.{ltb-true}
+use Rattle.words.specs.Lists.{all}
+use Rattle.words.specs.Word.{Kind, entryKind, symbolKind, emptyKind, unionKind, productKind, closureKind, nodeKind, headKind, transitionKind, epsilonKind, sourceKind, noKind, kindOf, bodyOf, wordOf, lowByte}
+use Rattle.words.specs.Alphabet.{rankOf, isConstant}
+use Rattle.words.specs.Tree.{Tree, Trees, node, none, more, number, postfix, postfixAll}
+use Rattle.words.specs.Postfix.{arity, Ranked, RankedAll}
+use Rattle.words.specs.Expression.{isExpressionWord}
+use Rattle.language.specs.Expression.{Expression, Expressions, symbol, empty, union, product, closure, noneᵉ, moreᵉ, numberᵉ, syntaxTree, syntaxTrees, ExpressionOver, ExpressionsOver}
+use Rattle.words.proofs.TestLaws.{and-true, all-left, all-right}
+use Rattle.words.proofs.KindLaws.{kindOf-wordOf}
+use Rattle.words.proofs.AlphabetLaws.{isConstant-zero}
+use Rattle.words.proofs.WordLaws.{arity-kind, IsExpressionWord, isExpressionWord-facts}
+
+-- child i, where there is one
+abbrev firstOf : Expressions → Expression
+firstOf noneᵉ = empty
+firstOf (moreᵉ e es) = e
+
+abbrev restOf : Expressions → Expressions
+restOf noneᵉ = noneᵉ
+restOf (moreᵉ e es) = es
+
+-- a word of a kind over its children
+abbrev pub ofKind : Kind → ℕ → Expressions → Expression
+ofKind symbolKind s es = symbol s es
+ofKind unionKind s es = union (firstOf es) (firstOf (restOf es))
+ofKind productKind s es = product s (firstOf es) (firstOf (restOf es))
+ofKind closureKind s es = closure s (firstOf es)
+ofKind emptyKind s es = empty
+ofKind nodeKind s es = empty
+ofKind entryKind s es = empty
+ofKind headKind s es = empty
+ofKind transitionKind s es = empty
+ofKind epsilonKind s es = empty
+ofKind sourceKind s es = empty
+ofKind noKind s es = empty
+
+abbrev mutual
+  pub expressionOf : Tree → Expression
+  expressionOf (node w ts) = ofKind (kindOf w) (lowByte w) (expressionsOf ts)
+
+  pub expressionsOf : Trees → Expressions
+  expressionsOf none = noneᵉ
+  expressionsOf (more t ts) = moreᵉ (expressionOf t) (expressionsOf ts)
+
+pub number-syntaxTrees : (es : Expressions) → number (syntaxTrees es) ≡ numberᵉ es
+number-syntaxTrees noneᵉ = refl
+number-syntaxTrees (moreᵉ e es) = ap suc (number-syntaxTrees es)
+
+module _ (a : List ℕ) where
+  -- a word over children that were read is read as the expression of which it is the root
+  record Root (w : ℕ) (es : Expressions) (k : Kind) : Type 0 where
+    over : ExpressionOver a (ofKind k (lowByte w) es)
+    tree : syntaxTree (ofKind k (lowByte w) es) ≡ node w (syntaxTrees es)
+
+  module _ (w : ℕ) (h : isExpressionWord a w ≡ true) where
+    -- a word whose body is its low byte
+    named : (k : Kind) → IsExpressionWord a w k → bodyOf w < 256 → wordOf k (lowByte w) ≡ w
+    named k f l = let e : lowByte w ≡ bodyOf w = omega arith in ap (wordOf k) e ∙ sym (f .word)
+
+    bare : (k : Kind) → IsExpressionWord a w k → bodyOf w < 1 → wordOf k 0 ≡ w
+    bare k f l = let e : 0 ≡ bodyOf w = omega arith in ap (wordOf k) e ∙ sym (f .word)
+
+    root-symbol : (es : Expressions) → IsExpressionWord a w symbolKind → rankOf a (lowByte w) ≡ numberᵉ es → ExpressionsOver a es → Root w es symbolKind
+    root-symbol es f r o =
+        record {
+          over = (ltb-true (lowByte w) (length a) (f .names), r, o);
+          tree = ap (λ (x : ℕ). node x (syntaxTrees es)) (named symbolKind f (f .body));
+        }
+
+    root-empty : (es : Expressions) → IsExpressionWord a w emptyKind → 0 ≡ numberᵉ es → Root w es emptyKind
+    root-empty noneᵉ f r = record { over = tt; tree = ap (λ (x : ℕ). node x none) (bare emptyKind f (f .body)) }
+    root-empty (moreᵉ e es) f r = absurd (omega arith)
+
+    root-union : (es : Expressions) → IsExpressionWord a w unionKind → 2 ≡ numberᵉ es → ExpressionsOver a es → Root w es unionKind
+    root-union noneᵉ f r o = absurd (omega arith)
+    root-union (moreᵉ F noneᵉ) f r o = absurd (omega arith)
+    root-union (moreᵉ F (moreᵉ G noneᵉ)) f r o =
+        record {
+          over = (o .0, o .1 .0);
+          tree = ap (λ (x : ℕ). node x (more (syntaxTree F) (more (syntaxTree G) none))) (bare unionKind f (f .body));
+        }
+    root-union (moreᵉ F (moreᵉ G (moreᵉ H es))) f r o = absurd (omega arith)
+
+    root-product : (es : Expressions) → IsExpressionWord a w productKind → 2 ≡ numberᵉ es → ExpressionsOver a es → Root w es productKind
+    root-product noneᵉ f r o = absurd (omega arith)
+    root-product (moreᵉ F noneᵉ) f r o = absurd (omega arith)
+    root-product (moreᵉ F (moreᵉ G noneᵉ)) f r o =
+        record {
+          over = (f .names, o .0, o .1 .0);
+          tree = ap (λ (x : ℕ). node x (more (syntaxTree F) (more (syntaxTree G) none))) (named productKind f (f .body));
+        }
+    root-product (moreᵉ F (moreᵉ G (moreᵉ H es))) f r o = absurd (omega arith)
+
+    root-closure : (es : Expressions) → IsExpressionWord a w closureKind → 1 ≡ numberᵉ es → ExpressionsOver a es → Root w es closureKind
+    root-closure noneᵉ f r o = absurd (omega arith)
+    root-closure (moreᵉ F noneᵉ) f r o =
+        record {
+          over = (f .names, o .0);
+          tree = ap (λ (x : ℕ). node x (more (syntaxTree F) none)) (named closureKind f (f .body));
+        }
+    root-closure (moreᵉ F (moreᵉ G es)) f r o = absurd (omega arith)
+
+    root : (es : Expressions) (k : Kind) → kindOf w ≡ k → arity a w ≡ numberᵉ es → ExpressionsOver a es → Root w es k
+    root es symbolKind e r o = root-symbol es (isExpressionWord-facts a w symbolKind e h) (sym (arity-kind a w symbolKind e) ∙ r) o
+    root es emptyKind e r o = root-empty es (isExpressionWord-facts a w emptyKind e h) (sym (arity-kind a w emptyKind e) ∙ r)
+    root es unionKind e r o = root-union es (isExpressionWord-facts a w unionKind e h) (sym (arity-kind a w unionKind e) ∙ r) o
+    root es productKind e r o = root-product es (isExpressionWord-facts a w productKind e h) (sym (arity-kind a w productKind e) ∙ r) o
+    root es closureKind e r o = root-closure es (isExpressionWord-facts a w closureKind e h) (sym (arity-kind a w closureKind e) ∙ r) o
+    root es nodeKind e r o = absurd (false≢true (isExpressionWord-facts a w nodeKind e h .names))
+    root es entryKind e r o = absurd (false≢true (isExpressionWord-facts a w entryKind e h .names))
+    root es headKind e r o = absurd (false≢true (isExpressionWord-facts a w headKind e h .names))
+    root es transitionKind e r o = absurd (false≢true (isExpressionWord-facts a w transitionKind e h .names))
+    root es epsilonKind e r o = absurd (false≢true (isExpressionWord-facts a w epsilonKind e h .names))
+    root es sourceKind e r o = absurd (false≢true (isExpressionWord-facts a w sourceKind e h .names))
+    root es noKind e r o = absurd (false≢true (isExpressionWord-facts a w noKind e h .names))
+
+  mutual
+    pub tree-expression : (t : Tree) → Ranked a t → all (isExpressionWord a) (postfix t) ≡ true
+        → ExpressionOver a (expressionOf t) × (syntaxTree (expressionOf t) ≡ t)
+    tree-expression (node w ts) r h =
+        let q = trees-expressions ts (r .1) (all-left (isExpressionWord a) (postfixAll ts) (w ∷ []) h) in
+        let es = expressionsOf ts in
+        let n : arity a w ≡ numberᵉ es = r .0 ∙ ap number (sym (q .1)) ∙ number-syntaxTrees es in
+        let f = root w (and-true (isExpressionWord a w) true (all-right (isExpressionWord a) (postfixAll ts) (w ∷ []) h) .0) es (kindOf w) refl n (q .0) in
+        (f .over, f .tree ∙ ap (node w) (q .1))
+
+    pub trees-expressions : (ts : Trees) → RankedAll a ts → all (isExpressionWord a) (postfixAll ts) ≡ true
+        → ExpressionsOver a (expressionsOf ts) × (syntaxTrees (expressionsOf ts) ≡ ts)
+    trees-expressions none r h = (tt, refl)
+    trees-expressions (more t ts) r h =
+        let p = tree-expression t (r .0) (all-left (isExpressionWord a) (postfix t) (postfixAll ts) h) in
+        let q = trees-expressions ts (r .1) (all-right (isExpressionWord a) (postfix t) (postfixAll ts) h) in
+        ((p .0, q .0), ap₂ more (p .1) (q .1))
+
+  -- ---- and back
+
+  module _ (m : length a ≤ 64) where
+    pub constant-small : (c : ℕ) → isConstant a c ≡ true → c < 256
+    constant-small c h = omega (arith, isConstant-zero a c h .0)
+
+    -- `expressionOf` gives the expression back
+    kind-back : (k : Kind) (b : ℕ) (es : Expressions) → b < 256 → ofKind (kindOf (wordOf k b)) (lowByte (wordOf k b)) es ≡ ofKind k b es
+    kind-back k b es l =
+        let e : lowByte (wordOf k b) ≡ b = omega arith in
+        ap₂ (λ (x : Kind) (y : ℕ). ofKind x y es) (kindOf-wordOf k b (omega arith)) e
+
+    mutual
+      pub expression-back : (E : Expression) → ExpressionOver a E → expressionOf (syntaxTree E) ≡ E
+      expression-back (symbol f es) h =
+          let l = h .0 in
+          kind-back symbolKind f (expressionsOf (syntaxTrees es)) (omega arith) ∙ ap (symbol f) (expressions-back es (h .2))
+      expression-back empty h = kind-back emptyKind 0 noneᵉ (omega arith)
+      expression-back (union F G) h =
+          kind-back unionKind 0 (moreᵉ (expressionOf (syntaxTree F)) (moreᵉ (expressionOf (syntaxTree G)) noneᵉ)) (omega arith)
+          ∙ ap₂ union (expression-back F (h .0)) (expression-back G (h .1))
+      expression-back (product c F G) h =
+          kind-back productKind c (moreᵉ (expressionOf (syntaxTree F)) (moreᵉ (expressionOf (syntaxTree G)) noneᵉ)) (constant-small c (h .0))
+          ∙ ap₂ (product c) (expression-back F (h .1)) (expression-back G (h .2))
+      expression-back (closure c F) h =
+          kind-back closureKind c (moreᵉ (expressionOf (syntaxTree F)) noneᵉ) (constant-small c (h .0))
+          ∙ ap (closure c) (expression-back F (h .1))
+
+      pub expressions-back : (es : Expressions) → ExpressionsOver a es → expressionsOf (syntaxTrees es) ≡ es
+      expressions-back noneᵉ h = refl
+      expressions-back (moreᵉ E es) h = ap₂ moreᵉ (expression-back E (h .0)) (expressions-back es (h .1))
