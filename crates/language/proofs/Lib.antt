@@ -3,3 +3,4 @@ pub mod SubjectLaws
 pub mod SubtreeLaws
 pub mod ParseLaws
 pub mod ExpressionLaws
+pub mod AcceptedLaws

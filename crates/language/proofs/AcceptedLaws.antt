@@ -1,0 +1,55 @@
+-- What refusals 4 and 5, and 10 and 11, leave: over an alphabet that 1 does not refuse, words pass them exactly if they are
+-- the words of exactly one expression, or of exactly one subject tree. Assumes nothing.
+use mathlib.Core.Path.{_≡_, refl, subst}
+use mathlib.Core.Logic.{_↔_}
+use mathlib.Core.Bool.{true, false, not}
+use mathlib.Core.List.{List, [], _∷_}
+use Prim.Native.Nat.{ℕ, _≤_}
+use lib.ListN.{length}
+use borrow.Author.Tests.{not-false}
+use Rattle.words.specs.Lists.{all}
+use Rattle.words.specs.Alphabet.{noAlphabet}
+use Rattle.words.specs.Postfix.{oneTree, notOneTree}
+use Rattle.words.specs.Chapter.{isNode, noNodes, treeRefusals, treeFault}
+use Rattle.words.specs.Expression.{isExpressionWord, noExpressionWords}
+use Rattle.words.proofs.RefusalLaws.{refusal-none, none-refusal}
+use Rattle.words.proofs.WordLaws.{alphabet-most}
+use Rattle.words.proofs.ExactlyOne.{ExactlyOne}
+use Rattle.language.proofs.SubjectLaws.{SubjectOf, subject-nodes, subject-oneTree, exactly-one-subject}
+use Rattle.language.proofs.ExpressionLaws.{ExpressionOf, expression-words, expression-oneTree, exactly-one-expression}
+
+module _ (a : List ℕ) (h : noAlphabet a ≡ false) where
+  abbrev most : length a ≤ 64
+  most = alphabet-most a h
+
+  -- 10 and 11
+  pub chapter-accepted : (ch : List ℕ) → (treeFault a ch ≡ 0) ↔ ExactlyOne (SubjectOf a ch)
+  unfolding noNodes notOneTree
+  chapter-accepted ch = (to, from)
+    where
+      to : treeFault a ch ≡ 0 → ExactlyOne (SubjectOf a ch)
+      to z =
+          let p = refusal-none (treeRefusals a ch) refl z in
+          exactly-one-subject a most ch (not-false (all (isNode a) ch) (p .0)) (not-false (oneTree a ch) (p .1 .0))
+
+      from : ExactlyOne (SubjectOf a ch) → treeFault a ch ≡ 0
+      from e =
+          let k = e .has in
+          let n : all (isNode a) ch ≡ true = rw (k .words) at (subject-nodes a most (e .the) (k .over)) in
+          let o : oneTree a ch ≡ true = rw (k .words) at (subject-oneTree a most (e .the) (k .over)) in
+          none-refusal (treeRefusals a ch) (rw n, (rw o, tt))
+
+  -- 4 and 5; 3 asks for the number of words alone
+  pub expression-accepted : (e : List ℕ) → ((noExpressionWords a e ≡ false) × (notOneTree a e ≡ false)) ↔ ExactlyOne (ExpressionOf a e)
+  unfolding noExpressionWords notOneTree
+  expression-accepted e = (to, from)
+    where
+      to : (not (all (isExpressionWord a) e) ≡ false) × (not (oneTree a e) ≡ false) → ExactlyOne (ExpressionOf a e)
+      to p = exactly-one-expression a most e (not-false (all (isExpressionWord a) e) (p .0)) (not-false (oneTree a e) (p .1))
+
+      from : ExactlyOne (ExpressionOf a e) → (not (all (isExpressionWord a) e) ≡ false) × (not (oneTree a e) ≡ false)
+      from x =
+          let k = x .has in
+          let n : all (isExpressionWord a) e ≡ true = rw (k .words) at (expression-words a most (x .the) (k .over)) in
+          let o : oneTree a e ≡ true = rw (k .words) at (expression-oneTree a most (x .the) (k .over)) in
+          (rw n, rw o)
