@@ -12,3 +12,5 @@ pub mod Completeness
 pub mod IntendedLanguages
 pub mod Soundness
 pub mod Thompson
+pub mod LastWord
+pub mod WordNumbering

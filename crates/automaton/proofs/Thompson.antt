@@ -1,20 +1,25 @@
 -- Thompson's theorem for tree automata: the automaton of an expression reaches its final state exactly by the members of the
 -- expression's language. Assumes nothing.
-use Prim.Native.Nat.{ℕ}
-use mathlib.Core.Path.{sym, subst}
+use Prim.Native.Nat.{ℕ, _<_, _≤_}
+use mathlib.Core.Path.{_≡_, sym, subst}
 use mathlib.Core.Logic.{_↔_}
 use mathlib.Core.List.{List, []}
+use lib.ListN.{length}
+use Rattle.words.specs.Alphabet.{rankOf, constantsOf}
 use Rattle.words.specs.Tree.{Tree}
+use Rattle.words.proofs.AlphabetLaws.{zero-isConstant, constantsOf-isConstant}
 use Rattle.words.proofs.AllLaws.{all-self, all-left, all-right, all-map}
-use Rattle.language.specs.Expression.{Expression}
+use Rattle.language.specs.Expression.{Expression, Expressions, symbol, empty, union, product, closure, noneᵉ, moreᵉ, numberᵉ, expressionWords, ExpressionOver, ExpressionsOver}
 use Rattle.language.specs.Membership.{Member}
 use Rattle.language.proofs.SubstitutionLaws.{itself, substitution-same, substitution-itself}
-use Rattle.automaton.specs.Transition.{Transition, onSymbol}
+use Rattle.automaton.specs.Transition.{Transition, Automaton, onSymbol}
+use Rattle.automaton.specs.Numbering.{compiled}
 use Rattle.automaton.specs.Reached.{Reaches, onNode, onNone}
 use Rattle.automaton.proofs.EntryLaws.{constantTransitions, of-constants}
-use Rattle.automaton.proofs.TreeNumbering.{exitState, entryStates, transitionsOf, treeTransitions, ConstantsListed}
+use Rattle.automaton.proofs.TreeNumbering.{exitState, entryStates, transitionsOf, treeTransitions, Listed, ConstantsListed, ConstantsListedAll}
 use Rattle.automaton.proofs.Completeness.{Present, ReachedBy, complete}
 use Rattle.automaton.proofs.Soundness.{sound}
+use Rattle.automaton.proofs.WordNumbering.{compiled-tree}
 
 -- ---- numbered as a tree
 
@@ -36,3 +41,32 @@ module _ (cs : List ℕ) (E : Expression) where
 
   pub thompson-tree : ConstantsListed cs E → (t : Tree) → Reaches ts (exitState cs E 0) t ↔ Member E t
   thompson-tree k t = (reaches-member t, member-reaches k t)
+
+-- ---- numbered word by word
+
+-- the constants of an expression over an alphabet are among the alphabet's
+module _ (a : List ℕ) where
+  symbol-listed : (f : ℕ) (es : Expressions) → f < length a → rankOf a f ≡ numberᵉ es → Listed (constantsOf a) f es
+  symbol-listed c noneᵉ h e = constantsOf-isConstant a c .1 (zero-isConstant a c h e)
+  symbol-listed f (moreᵉ e es) h r = tt
+
+  mutual
+    constants-listed : (E : Expression) → ExpressionOver a E → ConstantsListed (constantsOf a) E
+    constants-listed (symbol f es) o = (symbol-listed f es (o .0) (o .1), constants-listed-all es (o .2))
+    constants-listed empty o = tt
+    constants-listed (union F G) o = (constants-listed F (o .0), constants-listed G (o .1))
+    constants-listed (product c F G) o = (constantsOf-isConstant a c .1 (o .0), constants-listed F (o .1), constants-listed G (o .2))
+    constants-listed (closure c F) o = (constantsOf-isConstant a c .1 (o .0), constants-listed F (o .1))
+
+    constants-listed-all : (es : Expressions) → ExpressionsOver a es → ConstantsListedAll (constantsOf a) es
+    constants-listed-all noneᵉ o = tt
+    constants-listed-all (moreᵉ e es) o = (constants-listed e (o .0), constants-listed-all es (o .1))
+
+-- the trees that the automaton accepts
+abbrev pub Accepts : Automaton → Tree → Type 0
+Accepts A t = Reaches (A .transitions) (A .final) t
+
+-- the theorem, of the very automaton that the table of a rule encodes
+pub thompson : (a : List ℕ) (E : Expression) → length a ≤ 64 → ExpressionOver a E → (t : Tree) → Accepts (compiled a (expressionWords E)) t ↔ Member E t
+thompson a E l o t =
+    subst (λ A. Accepts A t ↔ Member E t) (sym (compiled-tree a l E o)) (thompson-tree (constantsOf a) E (constants-listed a E o) t)
