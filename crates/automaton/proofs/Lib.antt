@@ -2,6 +2,8 @@ pub mod BitLaws
 pub mod KeepLaws
 pub mod Ports
 pub mod Reading
+pub mod TargetLaws
+pub mod TransitionOrder
 pub mod SetLength
 pub mod SweepLaws
 pub mod ClosureLaws
