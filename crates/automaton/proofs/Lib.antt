@@ -16,3 +16,6 @@ pub mod Soundness
 pub mod Thompson
 pub mod LastWord
 pub mod WordNumbering
+pub mod DecodeLaws
+pub mod TransitionWordLaws
+pub mod TableLaws

@@ -11,7 +11,8 @@ use lib.Dec.{eqb}
 use borrow.Author.Tests.{eqb-true, eq-eqb}
 use Rattle.words.specs.Lists.{count, listFrom}
 use Rattle.words.proofs.TestLaws.{Tested, holds, fails, tested, and-true, true-and}
-use Rattle.words.proofs.CountLaws.{count-all, count-more, length-listFrom, listFrom-member}
+use Rattle.words.proofs.ListLaws.{length-listFrom}
+use Rattle.words.proofs.CountLaws.{count-all, count-more, listFrom-member}
 use Rattle.automaton.specs.Transition.{Transition, onSymbol, epsilon}
 use Rattle.automaton.specs.StateSet.{StateSet, contains, insert, allContained, moved, swept, move, sweep, sweeps}
 use Rattle.automaton.proofs.BitLaws.{insert-same, insert-other, insert-keeps}
@@ -129,7 +130,7 @@ module _ (n : ℕ) (ts : List Transition) (below : (p q : ℕ) → List·Memᴰ 
   unfolding present
   full-closed r h p q m e =
       let l = below p q m in
-      count-all (contains r) (listFrom (λ q. q) 0 n) (rw (length-listFrom (λ q. q) 0 n) h) (listFrom-member 0 n q (omega arith) (omega arith))
+      count-all (contains r) (listFrom (λ q. q) 0 n) (rw (length-listFrom (λ q. q) n 0) h) (listFrom-member 0 n q (omega arith) (omega arith))
 
   closed-stays : (k : ℕ) (r : StateSet) → ClosedUnder ts (In r) → ClosedUnder ts (In (sweeps k ts r))
   closed-stays k r c p q m e = sweeps-grows k ts r q (c p q m (sweeps-within (In r) k ts r c (λ s i. i) p e))

@@ -57,11 +57,7 @@ module _ (f : ℕ → Bool) where
         go false true i h = omega arith
         go false false i h = omega arith
 
--- ---- the numbers from j on
-
-pub length-listFrom : {A : Type 0} (f : ℕ → A) (j n : ℕ) → length (listFrom f j n) ≡ n
-length-listFrom f j zero = refl
-length-listFrom f j (suc n) = ap suc (length-listFrom f (suc j) n)
+-- ---- the n numbers from j on
 
 pub listFrom-member : (j n x : ℕ) → j ≤ x → x < j + n → List·Memᴰ x (listFrom (λ i. i) j n)
 listFrom-member j zero x h l = absurd (omega arith)

@@ -1,5 +1,6 @@
 -- Laws of tests: a test with its outcome, both and either of two tests, and a test of every word of a list. Assumes nothing.
 use mathlib.Core.Path.{_≡_, refl}
+use mathlib.Core.Logic.{_⊎_, inl, inr}
 use mathlib.Core.Bool.{Bool, true, false, _&&_, _||_, true≢false, false≢true}
 use mathlib.Core.List.{List, [], _∷_, _++_}
 use Prim.Native.Nat.{ℕ}
@@ -29,6 +30,10 @@ or-false false c e = (refl, e)
 
 pub false-or : (b c : Bool) → b ≡ false → c ≡ false → b || c ≡ false
 false-or b c e f = rw (e, f)
+
+pub or-true : (b c : Bool) → b || c ≡ true → (b ≡ true) ⊎ (c ≡ true)
+or-true true c e = inl refl
+or-true false c e = inr e
 
 -- ---- every word of a list
 
