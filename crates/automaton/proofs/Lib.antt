@@ -19,3 +19,4 @@ pub mod WordNumbering
 pub mod DecodeLaws
 pub mod TransitionWordLaws
 pub mod TableLaws
+pub mod TransitionLaws

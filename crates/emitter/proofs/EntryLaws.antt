@@ -1,0 +1,125 @@
+-- Laws of epsilon transitions to the entries of a word's children: one entry more, and the loop over the children.
+-- Assumes nothing.
+use mathlib.Core.Path.{_≡_, refl, ap, _∙_, sym, subst}
+use mathlib.Core.List.{List, [], _∷_, _++_, map, flatMap, append-assoc, append-nil}
+use Prim.Native.Nat.{ℕ, zero, suc, _+_, _-_, _<_, _≤_}
+use native.Mathlib.Omega.{arith}
+use native.Mathlib.Numerals.{add-one}
+use lib.ListN.{length, getD, take, drop, length-drop}
+use lib.Seq.{take-suc, take-all}
+use lib.Dec.{eqb}
+use borrow.Author.Tests.{eq-eqb, ne-eqb}
+use Rattle.words.proofs.ListLaws.{map-append}
+use Rattle.automaton.specs.Transition.{Transition, epsilon, transitionWords, transitionsWords}
+use Rattle.automaton.specs.Numbering.{Port, entryFor, epsilons}
+use Rattle.automaton.proofs.TransitionLaws.{transitionsWords-append}
+use Rattle.emitter.specs.Writing.{Wrote}
+use Rattle.emitter.specs.declared.port.Entry.{Entry}
+use Rattle.emitter.specs.declared.port.Entry.the-variants.{Missing, State}
+use Rattle.emitter.specs.Ports.{portIn, statesIn, Low, EntryOf}
+use Rattle.emitter.specs.Emission.{Emits, childEntries, productEntries, closureEntries}
+use Rattle.emitter.proofs.WritingLaws.{wrote-none, wrote-more, wrote-same}
+
+-- the words of the epsilon transitions from a state to states
+abbrev pub epsilonWords : ℕ → List ℕ → List ℕ
+epsilonWords from qs = transitionsWords (epsilons from qs)
+
+pub epsilonWords-append : (from : ℕ) (qs rs : List ℕ) → epsilonWords from (qs ++ rs) ≡ epsilonWords from qs ++ epsilonWords from rs
+epsilonWords-append from qs rs =
+    ap transitionsWords (map-append (λ q. epsilon from q) qs rs) ∙ transitionsWords-append (epsilons from qs) (epsilons from rs)
+
+-- ---- to one entry
+
+module _ (to : Entry) (from at : ℕ) (out : List ℕ) where
+  pub to-missing : to ≡ Missing → Wrote 1 at (epsilonWords from (statesIn to)) out out at
+  to-missing e = rw e (wrote-same 0 1 at at [] [] out out (wrote-none at out) (omega arith) refl)
+
+  pub to-state : (s : ℕ) → to ≡ State s → (out′ : List ℕ) (r : ℕ) → Wrote 1 at (transitionWords (epsilon from s)) out out′ r
+      → Wrote 1 at (epsilonWords from (statesIn to)) out out′ r
+  to-state s e out′ r w = rw e w
+
+pub low-state : (to : Entry) (s : ℕ) → to ≡ State s → Low to → s < 4096
+low-state to s e h = rw e at h
+
+-- ---- to the children's entries
+
+flatMap-append : {A : Type 0} (f : A → List ℕ) (l k : List A) → flatMap f (l ++ k) ≡ flatMap f l ++ flatMap f k
+unfolding flatMap
+flatMap-append f [] k = refl
+flatMap-append f (x ∷ l) k = ap (λ (t : List ℕ). f x ++ t) (flatMap-append f l k) ∙ sym (append-assoc (f x) (flatMap f l) (flatMap f k))
+
+pub childEntries-more : (cs ps : List ℕ) (b i : ℕ) → i < length ps
+    → childEntries cs (take (suc i) ps) b ≡ childEntries cs (take i ps) b ++ entryFor (portIn cs (getD ps i 0)) b
+unfolding flatMap
+childEntries-more cs ps b i h =
+    ap (λ (l : List ℕ). childEntries cs l b) (take-suc ps i 0 h)
+    ∙ ap (flatMap (λ P. entryFor P b)) (map-append (portIn cs) (take i ps) (getD ps i 0 ∷ []))
+    ∙ flatMap-append (λ P. entryFor P b) (map (portIn cs) (take i ps)) (portIn cs (getD ps i 0) ∷ [])
+    ∙ ap (λ (l : List ℕ). childEntries cs (take i ps) b ++ l) (append-nil (entryFor (portIn cs (getD ps i 0)) b))
+
+-- the loop after i children
+pub record ToChildren (cs ps : List ℕ) (from b at : ℕ) (out out′ : List ℕ) (next i : ℕ) : Type 0 where
+  pub within : i ≤ length ps
+  pub long : length out′ ≡ length out
+  pub wrote : Wrote i at (epsilonWords from (childEntries cs (take i ps) b)) out out′ next
+
+pub children-none : (cs ps : List ℕ) (from b at : ℕ) (out : List ℕ) → ToChildren cs ps from b at out out at 0
+unfolding flatMap
+children-none cs ps from b at out = record { within = omega arith; long = refl; wrote = wrote-none at out }
+
+module _ {cs ps : List ℕ} {from b at : ℕ} {out out′ : List ℕ} {next i : ℕ} (w : ToChildren cs ps from b at out out′ next i) where
+  pub children-more : (to : Entry) (out″ : List ℕ) (r : ℕ) → i < length ps → EntryOf cs (getD ps i 0) b to → length out″ ≡ length out′
+      → Wrote 1 next (epsilonWords from (statesIn to)) out′ out″ r → ToChildren cs ps from b at out out″ r (i + 1)
+  children-more to out″ r h e l q =
+      record {
+        within = omega arith;
+        long = l ∙ w .long;
+        wrote = wrote-same (i + 1) (i + 1) at r _ _ out out″ (wrote-more i 1 at next r _ _ out out′ out″ (w .wrote) q) (omega arith)
+            (sym
+            (rw (add-one i, childEntries-more cs ps b i h, ← e .states) (epsilonWords-append from (childEntries cs (take i ps) b) (statesIn to))));
+      }
+
+  pub children-end : length ps ≤ i → length ps ≤ 4 → Wrote 4 at (epsilonWords from (childEntries cs ps b)) out out′ next
+  children-end h few =
+      let k = w .within in
+      wrote-same i 4 at next _ _ out out′ (w .wrote) (omega arith) (rw (take-all i ps h))
+
+-- ---- the same for a product and for a closure over c
+
+-- the part of a slice from its second word on
+abbrev pub behindFirst : List ℕ → List ℕ
+behindFirst ps = take (length ps - 1) (drop 1 ps)
+
+pub behindFirst-drop : (ps : List ℕ) → behindFirst ps ≡ drop 1 ps
+behindFirst-drop ps = take-all (length ps - 1) (drop 1 ps) (rw (length-drop 1 ps) (omega arith))
+
+pub emits-behind : (cs ps : List ℕ) (x at n : ℕ) → Emits cs ps x at n → Emits cs (behindFirst ps) x at n
+emits-behind cs ps x at n p =
+    let l = p .children in
+    record {
+      once = p .once;
+      few = p .few;
+      children = rw (behindFirst-drop ps, length-drop 1 ps) (omega arith);
+      low = p .low;
+      room = p .room;
+    }
+
+module _ (cs ps : List ℕ) (from b c at : ℕ) (out out′ : List ℕ) (r : ℕ) where
+  pub product-here : b ≡ c → Wrote 4 at (epsilonWords from (childEntries cs (behindFirst ps) b)) out out′ r
+      → Wrote 5 at (epsilonWords from (productEntries cs ps c b)) out out′ r
+  product-here e w = wrote-same 4 5 at r _ _ out out′ w (omega arith) (rw (eq-eqb b c e, behindFirst-drop ps))
+
+  pub product-other : (b ≡ c → ⊥) → Wrote 4 at (epsilonWords from (childEntries cs ps b)) out out′ r
+      → Wrote 5 at (epsilonWords from (productEntries cs ps c b)) out out′ r
+  product-other n w = wrote-same 4 5 at r _ _ out out′ w (omega arith) (rw (ne-eqb b c n))
+
+  pub closure-here : (x : ℕ) (out″ : List ℕ) (s : ℕ) → b ≡ c → Wrote 4 at (epsilonWords from (childEntries cs ps b)) out out′ r
+      → Wrote 1 r (transitionWords (epsilon from x)) out′ out″ s → Wrote 5 at (epsilonWords from (closureEntries cs ps c x b)) out out″ s
+  closure-here x out″ s e w v =
+      wrote-same 5 5 at s _ _ out out″ (wrote-more 4 1 at r s _ _ out out′ out″ w v) (omega arith)
+      (rw (eq-eqb b c e) (sym (epsilonWords-append from (childEntries cs ps b) (x ∷ []))))
+
+  pub closure-other : (x : ℕ) → (b ≡ c → ⊥) → Wrote 4 at (epsilonWords from (childEntries cs ps b)) out out′ r
+      → Wrote 5 at (epsilonWords from (closureEntries cs ps c x b)) out out′ r
+  closure-other x n w =
+      wrote-same 4 5 at r _ _ out out′ w (omega arith) (rw (ne-eqb b c n) (ap (epsilonWords from) (sym (append-nil (childEntries cs ps b)))))

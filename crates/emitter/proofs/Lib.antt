@@ -1,0 +1,4 @@
+pub mod WritingLaws
+pub mod PortLaws
+pub mod EntryLaws
+pub mod FanLaws

@@ -1,0 +1,55 @@
+-- `emitter::entries::push_closure_entry` meets its contract: at c the exit stands behind the children's entries. Assumes nothing.
+use Prim.Native.Nat.{_+_}
+use borrow.Author.Needs.{needs}
+use Rattle.emitter.proofs.EntryLaws.{closure-here, closure-other}
+use Rattle.emitter.proofs.entries.push_closure_entry.Statement.{statement}
+use Rattle.emitter.proofs.entries.push_closure_entry.Tie as tie
+
+push-to-children-requires : tie.Need-push-to-children-requires
+push-to-children-requires c κs = search needs
+
+mul-if1 : tie.Need-mul-if1
+mul-if1 c = search needs
+
+shared-slice-read-if1 : tie.Need-shared-slice-read-if1
+shared-slice-read-if1 c = search needs
+
+add-push-epsilon : tie.Need-add-push-epsilon
+add-push-epsilon c = search needs
+
+cast-push-epsilon : tie.Need-cast-push-epsilon
+cast-push-epsilon c = search needs
+
+add-push-epsilon-2 : tie.Need-add-push-epsilon-2
+add-push-epsilon-2 c = search needs
+
+push-epsilon-requires : tie.Need-push-epsilon-requires
+push-epsilon-requires c κs = search needs
+
+same-length : tie.Need-same-length
+same-length c = search needs
+
+returns : tie.Need-returns
+returns c = let a = c .before .before .before .before .before .before .before .before .before .before .before .before .before .args in closure-here (a .constants .now) (a .ports .now) (a .exit + 1 + a .k) _ _ _ _ _ _ (a .exit) _ _ (c .before .before .before .before .if1 .taken) (c .before .before .before .before .before .before .before .before .push-to-children .ensures) (c .before .before .push-epsilon .ensures)
+
+same-length-2 : tie.Need-same-length-2
+same-length-2 c = search needs
+
+returns-2 : tie.Need-returns-2
+returns-2 c = let a = c .before .before .before .before .before .before .before .before .before .args in closure-other (a .constants .now) (a .ports .now) (a .exit + 1 + a .k) _ _ _ _ _ _ (a .exit) (c .if1 .left) (c .before .before .before .before .push-to-children .ensures)
+
+pub push-closure-entry-spec : {M : Type 1} → statement M
+push-closure-entry-spec =
+    tie.close
+    (tie.spec
+    push-to-children-requires
+    mul-if1
+    shared-slice-read-if1
+    add-push-epsilon
+    cast-push-epsilon
+    add-push-epsilon-2
+    push-epsilon-requires
+    same-length
+    returns
+    same-length-2
+    returns-2)

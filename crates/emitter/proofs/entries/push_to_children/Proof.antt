@@ -1,0 +1,88 @@
+-- `emitter::entries::push_to_children` meets its contract. The invariant: the transitions to the first i children are written.
+-- Assumes nothing.
+use Prim.Native.Nat.{_+_, _-_}
+use native.Mathlib.Omega.{arith}
+use lib.ListN.{length, getD}
+use borrow.Author.Needs.{needs}
+use Rattle.emitter.proofs.WritingLaws.{wrote-next}
+use Rattle.emitter.proofs.EntryLaws.{ToChildren, children-none, children-more, children-end}
+use Rattle.emitter.proofs.entries.push_to_children.Statement.{statement}
+use Rattle.emitter.proofs.entries.push_to_children.Tie as tie
+
+abbrev Inv-loop : tie.InvT-loop
+Inv-loop constants ports out₀ at exit k from next₀ i₀ out next i = ToChildren constants ports (exit + 1 + k) (getD constants k 0) at out₀ out next i
+
+abbrev μ-loop : tie.MeasureT-loop
+μ-loop constants ports out₀ at exit k from next₀ i₀ out next i = length ports - i
+
+add-from : tie.Need-add-from Inv-loop μ-loop
+add-from c = search needs
+
+cast-from : tie.Need-cast-from Inv-loop μ-loop
+cast-from c = search needs
+
+add-from-2 : tie.Need-add-from-2 Inv-loop μ-loop
+add-from-2 c = search needs
+
+loop-holds : tie.Need-loop-holds Inv-loop μ-loop
+loop-holds c = children-none _ _ _ _ _ _
+
+mul-entry-at : tie.Need-mul-entry-at Inv-loop μ-loop
+mul-entry-at c = search needs
+
+shared-slice-read-entry-at : tie.Need-shared-slice-read-entry-at Inv-loop μ-loop
+shared-slice-read-entry-at c = search needs
+
+entry-at-requires : tie.Need-entry-at-requires Inv-loop μ-loop
+entry-at-requires c κs =
+    let p = c .before .before .before .before .before .before .pre in
+    (p .0 .once, (p .1, p .0 .few))
+
+push-to-requires : tie.Need-push-to-requires Inv-loop μ-loop
+push-to-requires c κs =
+    let w = c .before .before .before .before .loop .inv in
+    let p = c .before .before .before .before .before .before .before .before .pre in
+    let few = p .0 .few in
+    let low = p .0 .low in
+    let room = p .0 .room in
+    let children = p .0 .children in
+    let n = wrote-next _ _ _ _ _ _ (w .wrote) in
+    let t = c .before .before .before .loop-test .taken in
+    (omega arith, (omega arith, c .before .entry-at .ensures .low))
+
+add-i : tie.Need-add-i Inv-loop μ-loop
+add-i c = search needs
+
+loop-less : tie.Need-loop-less Inv-loop μ-loop
+loop-less c = search needs
+
+loop-again : tie.Need-loop-again Inv-loop μ-loop
+loop-again c =
+    children-more (c .before .before .before .before .before .before .before .loop .inv) _ _ _ (c .before .before .before .before .before .before .loop-test .taken)
+    (c .before .before .before .before .entry-at .ensures) (c .before .before .push-to .kept .0) (c .before .before .push-to .ensures)
+
+same-length : tie.Need-same-length Inv-loop μ-loop
+same-length c = c .before .loop .inv .long
+
+returns : tie.Need-returns Inv-loop μ-loop
+returns c = children-end (c .before .loop .inv) (c .loop-test .left) (c .before .before .before .before .before .pre .0 .children)
+
+pub push-to-children-spec : {M : Type 1} → statement M
+push-to-children-spec =
+    tie.close
+    (tie.spec
+    Inv-loop
+    μ-loop
+    add-from
+    cast-from
+    add-from-2
+    loop-holds
+    mul-entry-at
+    shared-slice-read-entry-at
+    entry-at-requires
+    push-to-requires
+    add-i
+    loop-less
+    loop-again
+    same-length
+    returns)

@@ -1,0 +1,30 @@
+-- What the emitter's inner functions write for one constant, and what they are given. It serves these functions.
+-- Assumes nothing.
+use Prim.Native.Nat.{ℕ, _+_, _<_, _≤_}
+use mathlib.Core.List.{List, [], _∷_, _++_, flatMap}
+use mathlib.Core.Bool.{cond}
+use lib.ListN.{length, drop}
+use lib.Dec.{eqb}
+use Rattle.automaton.specs.Numbering.{Port, entryFor}
+use Rattle.emitter.specs.Writing.{lastIndex}
+use Rattle.emitter.specs.Ports.{EachOnce, portsIn}
+
+-- the children's entries for a constant
+abbrev pub childEntries : List ℕ → List ℕ → ℕ → List ℕ
+childEntries cs ps b = flatMap (λ P. entryFor P b) (portsIn cs ps)
+
+-- the same of a product over c, whose first child is left out at c
+abbrev pub productEntries : List ℕ → List ℕ → ℕ → ℕ → List ℕ
+productEntries cs ps c b = cond (eqb b c) (childEntries cs (drop 1 ps) b) (childEntries cs ps b)
+
+-- the same of a closure over c with exit x, which is added at c
+abbrev pub closureEntries : List ℕ → List ℕ → ℕ → ℕ → ℕ → List ℕ
+closureEntries cs ps c x b = childEntries cs ps b ++ cond (eqb b c) (x ∷ []) []
+
+-- the constants cs, a word's children with ports ps, its exit x, and an index from which on n words may be written
+pub record Emits (cs ps : List ℕ) (x at n : ℕ) : Type 0 where
+  pub once : EachOnce cs
+  pub few : length cs ≤ 16
+  pub children : length ps ≤ 4
+  pub low : x < 2048
+  pub room : at + n ≤ lastIndex

@@ -1,0 +1,152 @@
+// Epsilon transitions from a word's entries, in the order of the constants.
+ghost use mathlib.Core.Path.{_≡_};
+ghost use mathlib.Core.List.{[], _∷_};
+ghost use Prim.Native.Nat.{suc, _+_, _≤_, _<_};
+ghost use lib.ListN.{length, getD};
+ghost use Rattle.automaton.specs.Transition.{transitionsWords};
+ghost use Rattle.automaton.specs.Numbering.{numbered, epsilons, fan};
+ghost use Rattle.emitter.specs.Writing.{Wrote, lastIndex};
+ghost use Rattle.emitter.specs.Ports.{Low, statesIn};
+ghost use Rattle.emitter.specs.Emission.{Emits, childEntries, productEntries, closureEntries};
+use super::port::Entry;
+use super::port::entry_at;
+use super::writer::push_epsilon;
+
+// "A move that names a missing entry is omitted."
+pub fn push_to(out: &mut [u32], at: usize, from: u32, to: Entry) -> usize
+    requires { ⌜ (at < lastIndex) × ((from < 4096) × Low to) ⌝ }
+    ensures { λ r. ⌜ Wrote 1 at (transitionsWords (epsilons from (statesIn to))) (now (out .entry)) (now (out .exit)) r ⌝ }
+{
+    match to {
+        Entry::Missing => at,
+        Entry::State(state) => push_epsilon(out, at, from, state),
+    }
+}
+
+// From the entry for constant k to the children's entries for it.
+pub fn push_to_children(
+    constants: &[u32],
+    ports: &[u32],
+    out: &mut [u32],
+    at: usize,
+    exit: u32,
+    k: usize,
+) -> usize
+    requires { ⌜ Emits (now constants) (now ports) exit at 5 ⌝ }
+    requires { ⌜ k < length (now constants) ⌝ }
+    ensures { λ r. ⌜ Wrote 4 at (transitionsWords (epsilons (exit + 1 + k) (childEntries (now (constants .entry)) (now (ports .entry)) (getD (now (constants .entry)) k 0)))) (now (out .entry)) (now (out .exit)) r ⌝ }
+{
+    let from = exit + 1 + k as u32;
+    let mut next = at;
+    let mut i = 0;
+    while i < ports.len() {
+        let to = entry_at(constants, ports[i], k);
+        next = push_to(out, next, from, to);
+        i += 1;
+    }
+    next
+}
+
+// The same for a product over c: at c not to the first child.
+fn push_product_entry(
+    constants: &[u32],
+    ports: &[u32],
+    out: &mut [u32],
+    at: usize,
+    exit: u32,
+    c: u32,
+    k: usize,
+) -> usize
+    requires { ⌜ Emits (now constants) (now ports) exit at 5 ⌝ }
+    requires { ⌜ (k < length (now constants)) × (1 ≤ length (now ports)) ⌝ }
+    ensures { λ r. ⌜ Wrote 5 at (transitionsWords (epsilons (exit + 1 + k) (productEntries (now (constants .entry)) (now (ports .entry)) c (getD (now (constants .entry)) k 0)))) (now (out .entry)) (now (out .exit)) r ⌝ }
+{
+    if constants[k] == c {
+        return push_to_children(constants, &ports[1..], out, at, exit, k);
+    }
+    push_to_children(constants, ports, out, at, exit, k)
+}
+
+// The same for a closure over c: at c also to its own exit.
+fn push_closure_entry(
+    constants: &[u32],
+    ports: &[u32],
+    out: &mut [u32],
+    at: usize,
+    exit: u32,
+    c: u32,
+    k: usize,
+) -> usize
+    requires { ⌜ Emits (now constants) (now ports) exit at 5 ⌝ }
+    requires { ⌜ k < length (now constants) ⌝ }
+    ensures { λ r. ⌜ Wrote 5 at (transitionsWords (epsilons (exit + 1 + k) (closureEntries (now (constants .entry)) (now (ports .entry)) c exit (getD (now (constants .entry)) k 0)))) (now (out .entry)) (now (out .exit)) r ⌝ }
+{
+    let next = push_to_children(constants, ports, out, at, exit, k);
+    if constants[k] == c {
+        return push_epsilon(out, next, exit + 1 + k as u32, exit);
+    }
+    next
+}
+
+// From each entry of a word with this exit to the children's entries.
+pub fn push_entries(
+    constants: &[u32],
+    ports: &[u32],
+    out: &mut [u32],
+    at: usize,
+    exit: u32,
+) -> usize
+    requires { ⌜ Emits (now constants) (now ports) exit at 80 ⌝ }
+    ensures { λ r. ⌜ Wrote 80 at (transitionsWords (fan (numbered (suc exit) (now (constants .entry))) (childEntries (now (constants .entry)) (now (ports .entry))))) (now (out .entry)) (now (out .exit)) r ⌝ }
+{
+    let mut next = at;
+    let mut k = 0;
+    while k < constants.len() {
+        next = push_to_children(constants, ports, out, next, exit, k);
+        k += 1;
+    }
+    next
+}
+
+// The same for a product over c.
+pub fn push_product_entries(
+    constants: &[u32],
+    ports: &[u32],
+    out: &mut [u32],
+    at: usize,
+    exit: u32,
+    c: u32,
+) -> usize
+    requires { ⌜ Emits (now constants) (now ports) exit at 80 ⌝ }
+    requires { ⌜ 1 ≤ length (now ports) ⌝ }
+    ensures { λ r. ⌜ Wrote 80 at (transitionsWords (fan (numbered (suc exit) (now (constants .entry))) (productEntries (now (constants .entry)) (now (ports .entry)) c))) (now (out .entry)) (now (out .exit)) r ⌝ }
+{
+    let mut next = at;
+    let mut k = 0;
+    while k < constants.len() {
+        next = push_product_entry(constants, ports, out, next, exit, c, k);
+        k += 1;
+    }
+    next
+}
+
+// The same for a closure over c.
+pub fn push_closure_entries(
+    constants: &[u32],
+    ports: &[u32],
+    out: &mut [u32],
+    at: usize,
+    exit: u32,
+    c: u32,
+) -> usize
+    requires { ⌜ Emits (now constants) (now ports) exit at 80 ⌝ }
+    ensures { λ r. ⌜ Wrote 80 at (transitionsWords (fan (numbered (suc exit) (now (constants .entry))) (closureEntries (now (constants .entry)) (now (ports .entry)) c exit))) (now (out .entry)) (now (out .exit)) r ⌝ }
+{
+    let mut next = at;
+    let mut k = 0;
+    while k < constants.len() {
+        next = push_closure_entry(constants, ports, out, next, exit, c, k);
+        k += 1;
+    }
+    next
+}

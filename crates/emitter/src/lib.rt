@@ -1,0 +1,4 @@
+// The own transitions of one word of a rule, written as words of a table.
+pub mod entries;
+pub mod port;
+pub mod writer;
