@@ -1,9 +1,9 @@
 -- What refusals 4 and 5, and 10 and 11, leave: over an alphabet that 1 does not refuse, words pass them exactly if they are
 -- the words of exactly one expression, or of exactly one subject tree. Assumes nothing.
-use mathlib.Core.Path.{_≡_, refl, subst}
+use mathlib.Core.Path.{_≡_, refl}
 use mathlib.Core.Logic.{_↔_}
 use mathlib.Core.Bool.{true, false, not}
-use mathlib.Core.List.{List, [], _∷_}
+use mathlib.Core.List.{List}
 use Prim.Native.Nat.{ℕ, _≤_}
 use lib.ListN.{length}
 use borrow.Author.Tests.{not-false}
@@ -13,7 +13,7 @@ use Rattle.words.specs.Postfix.{oneTree, notOneTree}
 use Rattle.words.specs.Chapter.{isNode, noNodes, treeRefusals, treeFault}
 use Rattle.words.specs.Expression.{isExpressionWord, noExpressionWords}
 use Rattle.words.proofs.RefusalLaws.{refusal-none, none-refusal}
-use Rattle.words.proofs.WordLaws.{alphabet-most}
+use Rattle.words.proofs.AlphabetLaws.{alphabet-most}
 use Rattle.words.proofs.ExactlyOne.{ExactlyOne}
 use Rattle.language.proofs.SubjectLaws.{SubjectOf, subject-nodes, subject-oneTree, exactly-one-subject}
 use Rattle.language.proofs.ExpressionLaws.{ExpressionOf, expression-words, expression-oneTree, exactly-one-expression}

@@ -3,15 +3,15 @@
 use mathlib.Core.Path.{_≡_, refl, ap, _∙_, sym}
 use mathlib.Core.Bool.{true}
 use mathlib.Core.List.{List, [], _∷_, _++_}
-use Prim.Native.Nat.{ℕ, _%_, _<_, _≤_}
+use Prim.Native.Nat.{ℕ, _<_, _≤_}
 use native.Mathlib.Omega.{arith}
 use lib.ListN.{length}
 use borrow.Author.Tests.{lt-ltb}
 use Rattle.words.specs.Lists.{all}
 use Rattle.words.specs.Word.{Kind, symbolKind, emptyKind, unionKind, productKind, closureKind, fieldRange, wordOf, lowByte}
 use Rattle.words.specs.Alphabet.{isConstant}
-use Rattle.words.specs.Tree.{Tree, Trees, node, none, more, postfix, postfixAll}
-use Rattle.words.specs.Postfix.{arity, oneTree, Ranked, RankedAll}
+use Rattle.words.specs.Tree.{Tree, none, more, postfix, postfixAll}
+use Rattle.words.specs.Postfix.{oneTree, Ranked, RankedAll}
 use Rattle.words.specs.Expression.{namesAt, isExpressionWord}
 use Rattle.language.specs.Expression.{Expression, Expressions, symbol, empty, union, product, closure, noneᵉ, moreᵉ, syntaxTree, syntaxTrees, expressionWords, ExpressionOver, ExpressionsOver}
 use Rattle.words.proofs.TestLaws.{true-and, all-append}

@@ -1,12 +1,11 @@
 -- A tree of expression words is read as an expression over the alphabet whose syntax tree it is, and the syntax tree of an
 -- expression over the alphabet is read as that expression. Assumes nothing.
-use mathlib.Core.Path.{_≡_, refl, ap, ap₂, _∙_, sym}
-use mathlib.Core.Bool.{true, false, false≢true}
+use mathlib.Core.Path.{_≡_, refl, ap, ap₂, _∙_, sym, subst}
+use mathlib.Core.Bool.{true}
 use mathlib.Core.List.{List, [], _∷_}
-use Prim.Native.Nat.{ℕ, suc, _+_, _*_, _/_, _%_, _<_, _≤_}
+use Prim.Native.Nat.{ℕ, suc, _<_, _≤_}
 use native.Mathlib.Omega.{arith}
 use lib.ListN.{length}
-use borrow.Author.Tests.{ltb-true}
 use Rattle.words.specs.Lists.{all}
 use Rattle.words.specs.Word.{Kind, entryKind, symbolKind, emptyKind, unionKind, productKind, closureKind, nodeKind, headKind, transitionKind, epsilonKind, sourceKind, noKind, kindOf, bodyOf, wordOf, lowByte}
 use Rattle.words.specs.Alphabet.{rankOf, isConstant}
@@ -17,7 +16,8 @@ use Rattle.language.specs.Expression.{Expression, Expressions, symbol, e
 use Rattle.words.proofs.TestLaws.{and-true, all-left, all-right}
 use Rattle.words.proofs.KindLaws.{kindOf-wordOf}
 use Rattle.words.proofs.AlphabetLaws.{isConstant-zero}
-use Rattle.words.proofs.WordLaws.{arity-kind, IsExpressionWord, isExpressionWord-facts}
+use Rattle.words.proofs.WordLaws.{IsExpressionWord, isExpressionWord-facts}
+use Rattle.words.proofs.ExpressionWordLaws.{ExpressionWord, symbolWord, emptyWord, unionWord, productWord, closureWord, expressionWord}
 
 -- child i, where there is one
 abbrev firstOf : Expressions → Expression
@@ -61,23 +61,21 @@ module _ (a : List ℕ) where
     over : ExpressionOver a (ofKind k (lowByte w) es)
     tree : syntaxTree (ofKind k (lowByte w) es) ≡ node w (syntaxTrees es)
 
-  module _ (w : ℕ) (h : isExpressionWord a w ≡ true) where
-    -- a word whose body is its low byte
-    named : (k : Kind) → IsExpressionWord a w k → bodyOf w < 256 → wordOf k (lowByte w) ≡ w
-    named k f l = let e : lowByte w ≡ bodyOf w = omega arith in ap (wordOf k) e ∙ sym (f .word)
+  -- a word with a symbol in its low byte, and one without
+  named : (w : ℕ) (k : Kind) → w ≡ wordOf k (bodyOf w) → bodyOf w < 256 → wordOf k (lowByte w) ≡ w
+  named w k f l = let e : lowByte w ≡ bodyOf w = omega arith in ap (wordOf k) e ∙ sym f
 
-    bare : (k : Kind) → IsExpressionWord a w k → bodyOf w < 1 → wordOf k 0 ≡ w
-    bare k f l = let e : 0 ≡ bodyOf w = omega arith in ap (wordOf k) e ∙ sym (f .word)
+  bare : (w : ℕ) (k : Kind) → w ≡ wordOf k (bodyOf w) → bodyOf w < 1 → wordOf k 0 ≡ w
+  bare w k f l = let e : 0 ≡ bodyOf w = omega arith in ap (wordOf k) e ∙ sym f
 
-    root-symbol : (es : Expressions) → IsExpressionWord a w symbolKind → rankOf a (lowByte w) ≡ numberᵉ es → ExpressionsOver a es → Root w es symbolKind
-    root-symbol es f r o =
-        record {
-          over = (ltb-true (lowByte w) (length a) (f .names), r, o);
-          tree = ap (λ (x : ℕ). node x (syntaxTrees es)) (named symbolKind f (f .body));
-        }
+  module _ (w : ℕ) where
+    root-symbol : (es : Expressions) → IsExpressionWord a w symbolKind → lowByte w < length a → rankOf a (lowByte w) ≡ numberᵉ es
+        → ExpressionsOver a es → Root w es symbolKind
+    root-symbol es f s r o =
+        record { over = (s, r, o); tree = ap (λ (x : ℕ). node x (syntaxTrees es)) (named w symbolKind (f .word) (f .body)) }
 
     root-empty : (es : Expressions) → IsExpressionWord a w emptyKind → 0 ≡ numberᵉ es → Root w es emptyKind
-    root-empty noneᵉ f r = record { over = tt; tree = ap (λ (x : ℕ). node x none) (bare emptyKind f (f .body)) }
+    root-empty noneᵉ f r = record { over = tt; tree = ap (λ (x : ℕ). node x none) (bare w emptyKind (f .word) (f .body)) }
     root-empty (moreᵉ e es) f r = absurd (omega arith)
 
     root-union : (es : Expressions) → IsExpressionWord a w unionKind → 2 ≡ numberᵉ es → ExpressionsOver a es → Root w es unionKind
@@ -86,42 +84,40 @@ module _ (a : List ℕ) where
     root-union (moreᵉ F (moreᵉ G noneᵉ)) f r o =
         record {
           over = (o .0, o .1 .0);
-          tree = ap (λ (x : ℕ). node x (more (syntaxTree F) (more (syntaxTree G) none))) (bare unionKind f (f .body));
+          tree = ap (λ (x : ℕ). node x (more (syntaxTree F) (more (syntaxTree G) none))) (bare w unionKind (f .word) (f .body));
         }
     root-union (moreᵉ F (moreᵉ G (moreᵉ H es))) f r o = absurd (omega arith)
 
-    root-product : (es : Expressions) → IsExpressionWord a w productKind → 2 ≡ numberᵉ es → ExpressionsOver a es → Root w es productKind
-    root-product noneᵉ f r o = absurd (omega arith)
-    root-product (moreᵉ F noneᵉ) f r o = absurd (omega arith)
-    root-product (moreᵉ F (moreᵉ G noneᵉ)) f r o =
+    root-product : (es : Expressions) → IsExpressionWord a w productKind → isConstant a (lowByte w) ≡ true → 2 ≡ numberᵉ es
+        → ExpressionsOver a es → Root w es productKind
+    root-product noneᵉ f c r o = absurd (omega arith)
+    root-product (moreᵉ F noneᵉ) f c r o = absurd (omega arith)
+    root-product (moreᵉ F (moreᵉ G noneᵉ)) f c r o =
         record {
-          over = (f .names, o .0, o .1 .0);
-          tree = ap (λ (x : ℕ). node x (more (syntaxTree F) (more (syntaxTree G) none))) (named productKind f (f .body));
+          over = (c, o .0, o .1 .0);
+          tree = ap (λ (x : ℕ). node x (more (syntaxTree F) (more (syntaxTree G) none))) (named w productKind (f .word) (f .body));
         }
-    root-product (moreᵉ F (moreᵉ G (moreᵉ H es))) f r o = absurd (omega arith)
+    root-product (moreᵉ F (moreᵉ G (moreᵉ H es))) f c r o = absurd (omega arith)
 
-    root-closure : (es : Expressions) → IsExpressionWord a w closureKind → 1 ≡ numberᵉ es → ExpressionsOver a es → Root w es closureKind
-    root-closure noneᵉ f r o = absurd (omega arith)
-    root-closure (moreᵉ F noneᵉ) f r o =
-        record {
-          over = (f .names, o .0);
-          tree = ap (λ (x : ℕ). node x (more (syntaxTree F) none)) (named closureKind f (f .body));
-        }
-    root-closure (moreᵉ F (moreᵉ G es)) f r o = absurd (omega arith)
+    root-closure : (es : Expressions) → IsExpressionWord a w closureKind → isConstant a (lowByte w) ≡ true → 1 ≡ numberᵉ es
+        → ExpressionsOver a es → Root w es closureKind
+    root-closure noneᵉ f c r o = absurd (omega arith)
+    root-closure (moreᵉ F noneᵉ) f c r o =
+        record { over = (c, o .0); tree = ap (λ (x : ℕ). node x (more (syntaxTree F) none)) (named w closureKind (f .word) (f .body)) }
+    root-closure (moreᵉ F (moreᵉ G es)) f c r o = absurd (omega arith)
 
-    root : (es : Expressions) (k : Kind) → kindOf w ≡ k → arity a w ≡ numberᵉ es → ExpressionsOver a es → Root w es k
-    root es symbolKind e r o = root-symbol es (isExpressionWord-facts a w symbolKind e h) (sym (arity-kind a w symbolKind e) ∙ r) o
-    root es emptyKind e r o = root-empty es (isExpressionWord-facts a w emptyKind e h) (sym (arity-kind a w emptyKind e) ∙ r)
-    root es unionKind e r o = root-union es (isExpressionWord-facts a w unionKind e h) (sym (arity-kind a w unionKind e) ∙ r) o
-    root es productKind e r o = root-product es (isExpressionWord-facts a w productKind e h) (sym (arity-kind a w productKind e) ∙ r) o
-    root es closureKind e r o = root-closure es (isExpressionWord-facts a w closureKind e h) (sym (arity-kind a w closureKind e) ∙ r) o
-    root es nodeKind e r o = absurd (false≢true (isExpressionWord-facts a w nodeKind e h .names))
-    root es entryKind e r o = absurd (false≢true (isExpressionWord-facts a w entryKind e h .names))
-    root es headKind e r o = absurd (false≢true (isExpressionWord-facts a w headKind e h .names))
-    root es transitionKind e r o = absurd (false≢true (isExpressionWord-facts a w transitionKind e h .names))
-    root es epsilonKind e r o = absurd (false≢true (isExpressionWord-facts a w epsilonKind e h .names))
-    root es sourceKind e r o = absurd (false≢true (isExpressionWord-facts a w sourceKind e h .names))
-    root es noKind e r o = absurd (false≢true (isExpressionWord-facts a w noKind e h .names))
+    root : (es : Expressions) → isExpressionWord a w ≡ true → arity a w ≡ numberᵉ es → ExpressionsOver a es → Root w es (kindOf w)
+    root es h n o = go (expressionWord a w h)
+      where
+        facts : (k : Kind) → kindOf w ≡ k → IsExpressionWord a w k
+        facts k e = isExpressionWord-facts a w k e h
+
+        go : ExpressionWord a w → Root w es (kindOf w)
+        go (symbolWord e s r) = subst (Root w es) (sym e) (root-symbol es (facts symbolKind e) s (sym r ∙ n) o)
+        go (emptyWord e r) = subst (Root w es) (sym e) (root-empty es (facts emptyKind e) (sym r ∙ n))
+        go (unionWord e r) = subst (Root w es) (sym e) (root-union es (facts unionKind e) (sym r ∙ n) o)
+        go (productWord e c r) = subst (Root w es) (sym e) (root-product es (facts productKind e) c (sym r ∙ n) o)
+        go (closureWord e c r) = subst (Root w es) (sym e) (root-closure es (facts closureKind e) c (sym r ∙ n) o)
 
   mutual
     pub tree-expression : (t : Tree) → Ranked a t → all (isExpressionWord a) (postfix t) ≡ true
@@ -130,7 +126,7 @@ module _ (a : List ℕ) where
         let q = trees-expressions ts (r .1) (all-left (isExpressionWord a) (postfixAll ts) (w ∷ []) h) in
         let es = expressionsOf ts in
         let n : arity a w ≡ numberᵉ es = r .0 ∙ ap number (sym (q .1)) ∙ number-syntaxTrees es in
-        let f = root w (and-true (isExpressionWord a w) true (all-right (isExpressionWord a) (postfixAll ts) (w ∷ []) h) .0) es (kindOf w) refl n (q .0) in
+        let f = root w es (and-true (isExpressionWord a w) true (all-right (isExpressionWord a) (postfixAll ts) (w ∷ []) h) .0) n (q .0) in
         (f .over, f .tree ∙ ap (node w) (q .1))
 
     pub trees-expressions : (ts : Trees) → RankedAll a ts → all (isExpressionWord a) (postfixAll ts) ≡ true

@@ -2,7 +2,7 @@
 -- over the alphabet are nodes that make one tree. Assumes nothing.
 use mathlib.Core.Path.{_≡_, refl, ap, ap₂, _∙_, sym}
 use mathlib.Core.Bool.{true}
-use mathlib.Core.List.{List, [], _∷_, _++_, map}
+use mathlib.Core.List.{List, [], _∷_, map}
 use Prim.Native.Nat.{ℕ, _≤_}
 use native.Mathlib.Omega.{arith}
 use lib.ListN.{length}
@@ -14,7 +14,7 @@ use Rattle.words.specs.Chapter.{symbolOf, isNode}
 use Rattle.language.specs.Expression.{treeWords, TreeOver, TreesOver}
 use Rattle.words.proofs.TestLaws.{and-true, true-and, all-left, all-right, all-append}
 use Rattle.words.proofs.ExactlyOne.{ExactlyOne, one-along}
-use Rattle.words.proofs.WordLaws.{arity-wordOf, IsNode, isNode-facts, isNode-wordOf, symbolOf-wordOf}
+use Rattle.words.proofs.WordLaws.{arity-wordOf, isNode-facts, isNode-wordOf, symbolOf-wordOf}
 use Rattle.words.proofs.RelabelLaws.{relabel, relabelAll, number-relabel, postfix-relabel}
 use Rattle.words.proofs.ReadingLaws.{oneTree-tree}
 use Rattle.words.proofs.TreeLaws.{TreeOf, exactly-one-tree}
@@ -93,7 +93,7 @@ module _ (a : List ℕ) where
       symbols-back : (t : Tree) → TreeOver a t → symbolTree (wordTree t) ≡ t
       symbols-back (node s ts) h =
           let l = h .0 in
-          ap₂ node (symbolOf-wordOf a s (omega arith)) (symbols-backAll ts (h .2))
+          ap₂ node (symbolOf-wordOf s (omega arith)) (symbols-backAll ts (h .2))
 
       symbols-backAll : (ts : Trees) → TreesOver a ts → relabelAll symbolOf (relabelAll (λ s. wordOf nodeKind s) ts) ≡ ts
       symbols-backAll none h = refl

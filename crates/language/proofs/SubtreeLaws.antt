@@ -1,6 +1,6 @@
 -- A node's subtree in an accepted chapter is the words of exactly one tree over the alphabet, and a value that looks only
 -- at symbols is the fold of that tree. Assumes nothing.
-use mathlib.Core.Path.{_≡_, refl, ap, ap₂, _∙_, sym}
+use mathlib.Core.Path.{_≡_, refl, ap₂, _∙_}
 use mathlib.Core.Bool.{true}
 use mathlib.Core.List.{List, [], _∷_}
 use Prim.Native.Nat.{ℕ, _+_, _<_, _≤_}
@@ -39,7 +39,7 @@ module _ (a : List ℕ) (m : length a ≤ 64) where
       fold-words : (t : Tree) → TreeOver a t → fold onWord (wordTree t) ≡ fold g t
       fold-words (node s ts) h =
           let l = h .0 in
-          ap₂ g (symbolOf-wordOf a s (omega arith)) (fold-wordsAll ts (h .2))
+          ap₂ g (symbolOf-wordOf s (omega arith)) (fold-wordsAll ts (h .2))
 
       fold-wordsAll : (ts : Trees) → TreesOver a ts → foldAll onWord (relabelAll (λ s. wordOf nodeKind s) ts) ≡ foldAll g ts
       fold-wordsAll none h = refl

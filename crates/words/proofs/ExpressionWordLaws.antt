@@ -1,16 +1,17 @@
 -- What an expression word that refusal 4 lets pass can be: one of five kinds, with its low byte in order and its arity.
 -- Assumes nothing.
 use Prim.Native.Nat.{ℕ, _<_}
-use mathlib.Core.Path.{_≡_, refl, ap}
+use mathlib.Core.Path.{_≡_, refl}
 use mathlib.Core.Bool.{true, false≢true}
 use mathlib.Core.List.{List}
 use lib.ListN.{length}
 use borrow.Author.Tests.{ltb-true}
 use Rattle.words.specs.Word.{Kind, entryKind, symbolKind, emptyKind, unionKind, productKind, closureKind, nodeKind, headKind, transitionKind, epsilonKind, sourceKind, noKind, kindOf, spareBitsClear, lowByte}
 use Rattle.words.specs.Alphabet.{rankOf, isConstant}
-use Rattle.words.specs.Postfix.{arity, arityAt}
+use Rattle.words.specs.Postfix.{arity}
 use Rattle.words.specs.Expression.{namesAt, isExpressionWord}
 use Rattle.words.proofs.TestLaws.{and-true}
+use Rattle.words.proofs.WordLaws.{arity-kind}
 
 pub data ExpressionWord (a : List ℕ) (w : ℕ) : Type 0 where
   symbolWord : kindOf w ≡ symbolKind → lowByte w < length a → arity a w ≡ rankOf a (lowByte w) → ExpressionWord a w
@@ -20,16 +21,12 @@ pub data ExpressionWord (a : List ℕ) (w : ℕ) : Type 0 where
   closureWord : kindOf w ≡ closureKind → isConstant a (lowByte w) ≡ true → arity a w ≡ 1 → ExpressionWord a w
 
 module _ (a : List ℕ) (w : ℕ) where
-  arity-of : {k : Kind} → kindOf w ≡ k → arity a w ≡ arityAt (rankOf a (lowByte w)) k
-  unfolding arity
-  arity-of e = ap (arityAt (rankOf a (lowByte w))) e
-
   named : (k : Kind) → kindOf w ≡ k → namesAt a (lowByte w) k ≡ true → ExpressionWord a w
-  named symbolKind e h = symbolWord e (ltb-true (lowByte w) (length a) h) (arity-of e)
-  named emptyKind e h = emptyWord e (arity-of e)
-  named unionKind e h = unionWord e (arity-of e)
-  named productKind e h = productWord e h (arity-of e)
-  named closureKind e h = closureWord e h (arity-of e)
+  named symbolKind e h = symbolWord e (ltb-true (lowByte w) (length a) h) (arity-kind a w symbolKind e)
+  named emptyKind e h = emptyWord e (arity-kind a w emptyKind e)
+  named unionKind e h = unionWord e (arity-kind a w unionKind e)
+  named productKind e h = productWord e h (arity-kind a w productKind e)
+  named closureKind e h = closureWord e h (arity-kind a w closureKind e)
   named nodeKind e h = absurd (false≢true h)
   named entryKind e h = absurd (false≢true h)
   named headKind e h = absurd (false≢true h)

@@ -3,12 +3,12 @@
 use mathlib.Core.Path.{_≡_, refl, ap, _∙_, sym}
 use mathlib.Core.Bool.{true}
 use mathlib.Core.List.{List, [], _∷_, _++_, head-eq-of-cons-eq}
-use Prim.Native.Nat.{ℕ, zero, suc, _+_, _-_, _<_, _≤_}
+use Prim.Native.Nat.{ℕ, zero, suc, _+_, _-_, _<_}
 use native.Mathlib.Omega.{arith}
 use native.Mathlib.Numerals.{add-one}
 use lib.ListN.{length, getD, take, drop, take-append-drop}
 use lib.Seq.{slice, length-slice}
-use Rattle.words.specs.Tree.{Tree, postfix, fold}
+use Rattle.words.specs.Tree.{Tree, fold}
 use Rattle.words.specs.Postfix.{arity, oneTree, startOf, subtreeOf, valueOn, values, stackAfter}
 use Rattle.words.proofs.PostfixLaws.{run-snoc, start-le, sub-tree}
 use Rattle.words.proofs.StackLaws.{stack-append}

@@ -1,28 +1,19 @@
 -- How many children the word of a kind takes, and what the tests for a node and for an expression word say of a word.
 -- Assumes nothing.
-use mathlib.Core.Path.{_≡_, refl, ap, _∙_, sym}
-use mathlib.Core.Bool.{true, false, not, _||_, false≢true}
-use mathlib.Core.List.{List, [], _∷_}
-use Prim.Native.Nat.{ℕ, _+_, _*_, _/_, _%_, _<_, _≤_}
+use mathlib.Core.Path.{_≡_, ap, _∙_}
+use mathlib.Core.Bool.{true, false≢true}
+use mathlib.Core.List.{List}
+use Prim.Native.Nat.{ℕ, _<_}
 use native.Mathlib.Omega.{arith}
 use lib.ListN.{length}
-use lib.Dec.{ltb, eqb}
-use borrow.Author.Tests.{ltb-true, ltb-false, lt-ltb}
-use Rattle.words.specs.Lists.{all}
-use Rattle.words.specs.Word.{Kind, nodeKind, noKind, kindOf, kindNumber, bodyOf, numberOf, fieldRange, spareBitsClear, isOf, wordOf, lowByte}
-use Rattle.words.specs.Alphabet.{isEntry, rankOf, isSymbol, noAlphabet}
+use borrow.Author.Tests.{ltb-true, lt-ltb}
+use Rattle.words.specs.Word.{Kind, nodeKind, kindOf, bodyOf, fieldRange, spareBitsClear, isOf, wordOf, lowByte}
+use Rattle.words.specs.Alphabet.{rankOf, isSymbol}
 use Rattle.words.specs.Postfix.{arity, arityAt}
 use Rattle.words.specs.Chapter.{symbolOf, isNode}
 use Rattle.words.specs.Expression.{namesAt, isExpressionWord}
-use Rattle.words.proofs.TestLaws.{and-true, true-and, or-false}
-use Rattle.words.proofs.KindLaws.{kindOf-wordOf, bodyOf-wordOf, lowByte-wordOf, kindOf-hasKind, word-wordOf, fieldRange-fits, IsOf, isOf-facts, isOf-wordOf}
-
--- an alphabet that 1 does not refuse has at most 64 symbols
-pub alphabet-most : (a : List ℕ) → noAlphabet a ≡ false → length a ≤ 64
-unfolding noAlphabet
-alphabet-most a h =
-    let p = or-false (eqb (length a) 0 || ltb 64 (length a)) (not (all isEntry a)) h in
-    ltb-false 64 (length a) (or-false (eqb (length a) 0) (ltb 64 (length a)) (p .0) .1)
+use Rattle.words.proofs.TestLaws.{and-true, true-and}
+use Rattle.words.proofs.KindLaws.{kindOf-wordOf, bodyOf-wordOf, lowByte-wordOf, kindOf-hasKind, word-wordOf, fieldRange-fits, isOf-facts, isOf-wordOf}
 
 -- ---- arity
 
@@ -44,6 +35,9 @@ pub record IsNode (a : List ℕ) (w : ℕ) : Type 0 where
   pub word : w ≡ wordOf nodeKind (symbolOf w)
   pub arity-rank : arity a w ≡ rankOf a (symbolOf w)
 
+pub symbolOf-wordOf : (s : ℕ) → s < 256 → symbolOf (wordOf nodeKind s) ≡ s
+symbolOf-wordOf s h = omega arith
+
 module _ (a : List ℕ) where
   pub isNode-facts : (w : ℕ) → isNode a w ≡ true → IsNode a w
   unfolding isNode
@@ -56,9 +50,6 @@ module _ (a : List ℕ) where
         word = f .word ∙ ap (wordOf nodeKind) e;
         arity-rank = arity-kind a w nodeKind (f .kind);
       }
-
-  pub symbolOf-wordOf : (s : ℕ) → s < 256 → symbolOf (wordOf nodeKind s) ≡ s
-  symbolOf-wordOf s h = omega arith
 
   -- the word of a node with a symbol that the alphabet has
   pub isNode-wordOf : (s : ℕ) → s < 256 → s < length a → isNode a (wordOf nodeKind s) ≡ true
