@@ -109,6 +109,9 @@ unfolding constantsOf constantsFrom
 written-none a list = record { counted = counted-none a; same = refl; words = refl }
 
 module _ {a list₀ list : List ℕ} {n i : ℕ} (w : Written a list₀ list n i) where
+  pub written-room : i < length a → isConstant a i ≡ true → length (constantsOf a) ≤ length list₀ → n < length list₀
+  written-room h e r = omega (arith, w .counted .count, constants-room a i h e)
+
   pub written-more : i < length a → isConstant a i ≡ true → n < length list₀ → Written a list₀ (set list n i) (n + 1) (i + 1)
   written-more h e r =
       let before = constantsOf (take i a) in

@@ -22,3 +22,4 @@ pub mod WordLaws
 pub mod RelabelLaws
 pub mod ScanLaws
 pub mod ConstantScanLaws
+pub mod StartLaws

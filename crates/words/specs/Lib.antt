@@ -6,3 +6,4 @@ pub mod Tree
 pub mod Postfix
 pub mod Expression
 pub mod Chapter
+pub mod Room

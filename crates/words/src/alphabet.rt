@@ -3,6 +3,7 @@ ghost use mathlib.Core.Path.{_≡_};
 ghost use mathlib.Core.List.{_++_};
 ghost use lib.ListN.{length, drop};
 ghost use Rattle.words.specs.Lists.{all};
+ghost use Rattle.words.specs.Room.{ConstantRoom};
 ghost use Rattle.words.specs.Alphabet.{isEntry, isSymbol, isConstant, rankOf, constantsOf, alphabetFault};
 use super::word::ENTRY;
 use super::word::is_of;
@@ -75,6 +76,27 @@ pub fn count_constants(alphabet: &[u32]) -> usize
     let mut i = 0;
     while i < alphabet.len() {
         if is_constant(alphabet, i) {
+            n += 1;
+        }
+        i += 1;
+    }
+    n
+}
+
+// Writes the constants in symbol order into the first words of the list, and answers how many.
+pub fn write_constants(alphabet: &[u32], list: &mut [u32]) -> usize
+    requires { ⌜ ConstantRoom (now alphabet) (now list) ⌝ }
+    ensures answer { λ r. ⌜ r ≡ length (constantsOf (now (alphabet .entry))) ⌝ }
+    ensures list { λ _. ⌜
+        now (list .exit)
+        ≡ constantsOf (now (alphabet .entry)) ++ drop (length (constantsOf (now (alphabet .entry)))) (now (list .entry))
+        ⌝ }
+{
+    let mut n: usize = 0;
+    let mut i = 0;
+    while i < alphabet.len() {
+        if is_constant(alphabet, i) {
+            list[n] = i as u32;
             n += 1;
         }
         i += 1;

@@ -1,1 +1,45 @@
-// chapter
+// The words of a chapter, and refusals 10 and 11.
+ghost use mathlib.Core.Path.{_≡_};
+ghost use Rattle.words.specs.Lists.{all};
+ghost use Rattle.words.specs.Chapter.{isNode, treeFault};
+use super::alphabet::LOW_BYTE;
+use super::alphabet::is_symbol;
+use super::postfix::one_tree;
+use super::word::NODE;
+use super::word::is_of;
+
+// Whether a word is a chapter element with a symbol that the alphabet has.
+pub fn is_node(alphabet: &[u32], w: u32) -> bool
+    ensures { λ r. ⌜ r ≡ isNode (now (alphabet .entry)) w ⌝ }
+{
+    if is_of(NODE, w) {
+        return is_symbol(alphabet, (w % LOW_BYTE) as usize);
+    }
+    false
+}
+
+fn nodes_only(alphabet: &[u32], words: &[u32]) -> bool
+    ensures { λ r. ⌜ r ≡ all (isNode (now (alphabet .entry))) (now (words .entry)) ⌝ }
+{
+    let mut i = 0;
+    while i < words.len() {
+        if !is_node(alphabet, words[i]) {
+            return false;
+        }
+        i += 1;
+    }
+    true
+}
+
+// Document 01's number 10 or 11, the first that applies, or 0. Every word is judged for 10 before 11.
+pub fn tree_fault(alphabet: &[u32], words: &[u32]) -> u32
+    ensures { λ r. ⌜ r ≡ treeFault (now (alphabet .entry)) (now (words .entry)) ⌝ }
+{
+    if !nodes_only(alphabet, words) {
+        return 10;
+    }
+    if !one_tree(alphabet, words) {
+        return 11;
+    }
+    0
+}

@@ -1,1 +1,82 @@
-// expression
+// The words of a rule, and refusals 3, 4 and 5.
+ghost use mathlib.Core.Path.{_≡_};
+ghost use Rattle.words.specs.Lists.{all};
+ghost use Rattle.words.specs.Expression.{isExpressionWord, expressionFault};
+use super::alphabet::LOW_BYTE;
+use super::alphabet::is_constant;
+use super::alphabet::is_symbol;
+use super::postfix::one_tree;
+use super::word::CLOSURE;
+use super::word::EMPTY;
+use super::word::ENTRY;
+use super::word::EPSILON;
+use super::word::HEAD;
+use super::word::KIND_UNIT;
+use super::word::NODE;
+use super::word::PRODUCT;
+use super::word::SOURCE;
+use super::word::SYMBOL;
+use super::word::TRANSITION;
+use super::word::UNION;
+use super::word::spare_bits_clear;
+
+// The most words of a rule.
+pub const EXPRESSION_MOST: usize = 64;
+
+// Whether a word is a rule word with a known symbol or a constant where it names one.
+pub fn is_expression_word(alphabet: &[u32], w: u32) -> bool
+    ensures { λ r. ⌜ r ≡ isExpressionWord (now (alphabet .entry)) w ⌝ }
+{
+    if !spare_bits_clear(w) {
+        return false;
+    }
+    let symbol = (w % LOW_BYTE) as usize;
+    let kind = w / KIND_UNIT;
+    match kind {
+        ENTRY => false,
+        SYMBOL => is_symbol(alphabet, symbol),
+        EMPTY => true,
+        UNION => true,
+        PRODUCT => is_constant(alphabet, symbol),
+        CLOSURE => is_constant(alphabet, symbol),
+        NODE => false,
+        HEAD => false,
+        TRANSITION => false,
+        EPSILON => false,
+        SOURCE => false,
+        _ => false,
+    }
+}
+
+fn expression_words_only(alphabet: &[u32], expression: &[u32]) -> bool
+    ensures { λ r. ⌜ r ≡ all (isExpressionWord (now (alphabet .entry))) (now (expression .entry)) ⌝ }
+{
+    let mut i = 0;
+    while i < expression.len() {
+        if !is_expression_word(alphabet, expression[i]) {
+            return false;
+        }
+        i += 1;
+    }
+    true
+}
+
+// Document 01's number 3, 4 or 5, the first that applies, or 0. Every word is judged for 4 before 5.
+pub fn expression_fault(alphabet: &[u32], expression: &[u32]) -> u32
+    ensures { λ r. ⌜ r ≡ expressionFault (now (alphabet .entry)) (now (expression .entry)) ⌝ }
+{
+    let size = expression.len();
+    if size == 0 {
+        return 3;
+    }
+    if size > EXPRESSION_MOST {
+        return 3;
+    }
+    if !expression_words_only(alphabet, expression) {
+        return 4;
+    }
+    if !one_tree(alphabet, expression) {
+        return 5;
+    }
+    0
+}

@@ -53,3 +53,33 @@ pub fn one_tree(alphabet: &[u32], words: &[u32]) -> bool
     }
     made == 1
 }
+
+// The index of the first word of the node's subtree. Going back from the node, `needed` trees still end before `start`;
+// where fewer words are left than trees needed, they do not suffice and the answer is 0.
+pub fn subtree_start(alphabet: &[u32], words: &[u32], node: usize) -> usize
+    ensures { λ r. ⌜ r ≡ startOf (now (alphabet .entry)) (now (words .entry)) node ⌝ }
+{
+    if node >= words.len() {
+        return node;
+    }
+    let mut start = node;
+    let mut needed = arity(alphabet, words[node]);
+    while needed > 0 {
+        if start <= needed {
+            return 0;
+        }
+        start -= 1;
+        needed = needed - 1 + arity(alphabet, words[start]);
+    }
+    start
+}
+
+// Whether node `j` is an ancestor of node `i`: its subtree holds `i`.
+pub fn is_ancestor(alphabet: &[u32], words: &[u32], i: usize, j: usize) -> bool
+    ensures { λ r. ⌜ r ≡ isAncestor (now (alphabet .entry)) (now (words .entry)) i j ⌝ }
+{
+    if i < j {
+        return subtree_start(alphabet, words, j) <= i;
+    }
+    false
+}

@@ -1,0 +1,88 @@
+-- `alphabet::write_constants` meets its contract. The loop's invariant: the constants of the first `i` entries are the first `n`
+-- words of the list, and the others are as they were. Assumes nothing.
+use mathlib.Core.Path.{_∙_, sym}
+use mathlib.Core.Logic.{⊎-elim}
+use Prim.Native.Nat.{_-_}
+use native.Mathlib.Omega.{arith}
+use lib.ListN.{length}
+use borrow.Author.Needs.{needs}
+use Rattle.words.proofs.ConstantScanLaws.{Written, written-none, written-room, written-more, written-skip, written-end, counted-end}
+use Rattle.words.proofs.alphabet.write_constants.Statement.{statement}
+use Rattle.words.proofs.alphabet.write_constants.Tie as tie
+
+abbrev Inv-loop : tie.InvT-loop
+Inv-loop alphabet list₀ n₀ i₀ list n i = Written alphabet list₀ list n i
+
+abbrev μ-loop : tie.MeasureT-loop
+μ-loop alphabet list₀ n₀ i₀ list n i = length alphabet - i
+
+loop-holds : tie.Need-loop-holds Inv-loop μ-loop
+loop-holds c = written-none _ _
+
+is-constant-requires : tie.Need-is-constant-requires Inv-loop μ-loop
+is-constant-requires c κs = search needs
+
+cast-list : tie.Need-cast-list Inv-loop μ-loop
+cast-list c = search needs
+
+mul-list : tie.Need-mul-list Inv-loop μ-loop
+mul-list c =
+    let t = c .before .before in
+    let s = t .before .before .before .before in
+    let h = written-room (t .before .loop .inv) (t .loop-test .taken) (sym (c .before .is-constant .ensures) ∙ c .if1 .taken) (s .pre .room) in
+    omega arith
+
+slice-write-list : tie.Need-slice-write-list Inv-loop μ-loop
+slice-write-list c =
+    let t = c .before .before in
+    let s = t .before .before .before .before in
+    let h = written-room (t .before .loop .inv) (t .loop-test .taken) (sym (c .before .is-constant .ensures) ∙ c .if1 .taken) (s .pre .room) in
+    omega (arith, t .before .loop .inv .same)
+
+add-n : tie.Need-add-n Inv-loop μ-loop
+add-n c = search needs
+
+add-i : tie.Need-add-i Inv-loop μ-loop
+add-i c = search needs
+
+loop-less : tie.Need-loop-less Inv-loop μ-loop
+loop-less c = search needs
+
+loop-again : tie.Need-loop-again Inv-loop μ-loop
+loop-again c =
+    let t = c .before .before in
+    let s = t .before .before .before .before in
+    let inv = t .before .loop .inv in
+    let e = sym (c .before .is-constant .ensures) in
+    ⊎-elim
+    (λ w.
+    let r = written-room inv (t .loop-test .taken) (e ∙ w .0 .taken) (s .pre .room) in
+    rw (w .1, w .2) (written-more inv (t .loop-test .taken) (e ∙ w .0 .taken) r))
+    (λ w. rw (w .1, w .2) (written-skip inv (t .loop-test .taken) (e ∙ w .0 .left)))
+    (c .if1 .came)
+
+same-length : tie.Need-same-length Inv-loop μ-loop
+same-length c = search needs
+
+returns : tie.Need-returns Inv-loop μ-loop
+returns c =
+    let w = c .before .loop .inv in
+    (counted-end (w .counted) (c .loop-test .left), written-end w (c .loop-test .left))
+
+pub write-constants-spec : {M : Type 1} → statement M
+write-constants-spec =
+    tie.close
+    (tie.spec
+    Inv-loop
+    μ-loop
+    loop-holds
+    is-constant-requires
+    cast-list
+    mul-list
+    slice-write-list
+    add-n
+    add-i
+    loop-less
+    loop-again
+    same-length
+    returns)

@@ -1,0 +1,88 @@
+-- `postfix::subtree_start` meets its contract. The loop's invariant: the node's subtree begins where the trees that are still
+-- needed before `start` begin. Assumes nothing.
+use mathlib.Core.Path.{sym}
+use Prim.Native.Nat.{_-_}
+use native.Mathlib.Omega.{arith}
+use lib.ListN.{getD}
+use borrow.Author.Needs.{needs}
+use Rattle.words.proofs.StartLaws.{arity-most, start-missing, Backward, backward-first, backward-short, backward-more, backward-end}
+use Rattle.words.proofs.postfix.subtree_start.Statement.{statement}
+use Rattle.words.proofs.postfix.subtree_start.Tie as tie
+
+abbrev Inv-loop : tie.InvT-loop
+Inv-loop alphabet words node start₀ needed₀ start needed = Backward alphabet words node start needed
+
+abbrev μ-loop : tie.MeasureT-loop
+μ-loop alphabet words node start₀ needed₀ start needed = start
+
+returns : tie.Need-returns Inv-loop μ-loop
+returns c = sym (start-missing _ _ _ (c .if1 .taken))
+
+mul-arity : tie.Need-mul-arity Inv-loop μ-loop
+mul-arity c = search needs
+
+shared-slice-read-arity : tie.Need-shared-slice-read-arity Inv-loop μ-loop
+shared-slice-read-arity c = search needs
+
+arity-requires : tie.Need-arity-requires Inv-loop μ-loop
+arity-requires c κs = search needs
+
+loop-holds : tie.Need-loop-holds Inv-loop μ-loop
+loop-holds c = backward-first _ _ _ _ (c .arity .ensures)
+
+returns-2 : tie.Need-returns-2 Inv-loop μ-loop
+returns-2 c = backward-short (c .before .before .loop .inv) (c .if2 .taken)
+
+sub-start : tie.Need-sub-start Inv-loop μ-loop
+sub-start c = search needs
+
+sub-needed : tie.Need-sub-needed Inv-loop μ-loop
+sub-needed c = search needs
+
+mul-arity-2 : tie.Need-mul-arity-2 Inv-loop μ-loop
+mul-arity-2 c = search needs
+
+shared-slice-read-arity-2 : tie.Need-shared-slice-read-arity-2 Inv-loop μ-loop
+shared-slice-read-arity-2 c = search needs
+
+arity-requires-2 : tie.Need-arity-requires-2 Inv-loop μ-loop
+arity-requires-2 c κs = search needs
+
+add-needed : tie.Need-add-needed Inv-loop μ-loop
+add-needed c =
+    let s = c .before .before .before .before .before .before .before .before .before .before .args in
+    omega
+    (arith, c .arity2 .ensures, arity-most (s .alphabet .now) (getD (s .words .now) (c .before .before .before .before .loop .start - 1) 0))
+
+loop-less : tie.Need-loop-less Inv-loop μ-loop
+loop-less c = search needs
+
+loop-again : tie.Need-loop-again Inv-loop μ-loop
+loop-again c =
+    let t = c .before .before .before in
+    backward-more (t .before .loop .inv) _ (t .loop-test .taken) (omega arith) (c .arity2 .ensures)
+
+returns-3 : tie.Need-returns-3 Inv-loop μ-loop
+returns-3 c = backward-end (c .before .loop .inv) (c .loop-test .left)
+
+pub subtree-start-spec : {M : Type 1} → statement M
+subtree-start-spec =
+    tie.close
+    (tie.spec
+    Inv-loop
+    μ-loop
+    returns
+    mul-arity
+    shared-slice-read-arity
+    arity-requires
+    loop-holds
+    returns-2
+    sub-start
+    sub-needed
+    mul-arity-2
+    shared-slice-read-arity-2
+    arity-requires-2
+    add-needed
+    loop-less
+    loop-again
+    returns-3)
