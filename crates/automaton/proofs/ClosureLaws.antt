@@ -88,9 +88,8 @@ module _ (A : Automaton) (f : ℕ) (rs : List StateSet) where
   pub words-stateSet : Words (stateSet A f rs)
   unfolding stateSet
   words-stateSet =
-      let r = emptySet (A .states) in
-      sweeps-keeps Words words-insert (A .states) (A .transitions) (move f rs (A .transitions) r)
-      (move-keeps Words words-insert f rs (A .transitions) r (words-replicate (sizeFor (A .states))))
+      sweeps-keeps Words words-insert _ (A .transitions) (move f rs (A .transitions) (emptySet (A .states)))
+      (move-keeps Words words-insert f rs (A .transitions) (emptySet (A .states)) (words-replicate (sizeFor (A .states))))
 
   -- it holds only what is reached, whatever the targets
   stateSet-within : Within (Reached (A .transitions) f rs) (stateSet A f rs)
@@ -98,7 +97,7 @@ module _ (A : Automaton) (f : ℕ) (rs : List StateSet) where
   stateSet-within =
       let r = emptySet (A .states) in
       let P = Reached (A .transitions) f rs in
-      sweeps-within P (A .states) (A .transitions) (move f rs (A .transitions) r) (λ p q m. byEpsilon m)
+      sweeps-within P _ (A .transitions) (move f rs (A .transitions) r) (λ p q m. byEpsilon m)
       (move-within P f rs (A .transitions) r (λ ps q m. bySymbol m) (λ q e. absurd (true≢false (sym e ∙ contains-replicate (sizeFor (A .states)) q))))
 
   module _ (below : TargetsBelow (A .states) (A .transitions)) where
@@ -107,7 +106,7 @@ module _ (A : Automaton) (f : ℕ) (rs : List StateSet) where
     stateSet-seeded ps q m e =
         let r = emptySet (A .states) in
         let l = below (onSymbol f ps q) m in
-        sweeps-grows (A .states) (A .transitions) (move f rs (A .transitions) r) q
+        sweeps-grows _ (A .transitions) (move f rs (A .transitions) r) q
         (move-adds f rs (A .transitions) r ps q m (rw (length-replicate {A = ℕ} (sizeFor (A .states)) 0) (omega arith)) e)
 
     stateSet-closed : ClosedUnder (A .transitions) (In (stateSet A f rs))

@@ -2,7 +2,7 @@
 use mathlib.Core.Path.{_≡_, refl, _∙_}
 use mathlib.Core.List.{List}
 use Prim.Native.Nat.{ℕ}
-use lib.ListN.{length, replicate, length-replicate}
+use lib.ListN.{length, length-replicate}
 use Rattle.automaton.specs.Transition.{Transition, Automaton}
 use Rattle.automaton.specs.StateSet.{StateSet, sizeFor, insert, moved, swept, move, sweep, sweeps, stateSet}
 use Rattle.automaton.proofs.BitLaws.{length-insert}
@@ -31,6 +31,4 @@ length-move f rs ts r = move-keeps (Size (length r)) (size-kept (length r)) f rs
 
 pub length-stateSet : (A : Automaton) (f : ℕ) (rs : List StateSet) → length (stateSet A f rs) ≡ sizeFor (A .states)
 unfolding stateSet
-length-stateSet A f rs =
-    length-sweeps (A .states) (A .transitions) (move f rs (A .transitions) (replicate (sizeFor (A .states)) 0))
-    ∙ length-move f rs (A .transitions) (replicate (sizeFor (A .states)) 0) ∙ length-replicate (sizeFor (A .states)) 0
+length-stateSet A f rs = simp (length-sweeps, length-move, length-replicate)
