@@ -4,6 +4,8 @@ pub mod Ports
 pub mod Reading
 pub mod TargetLaws
 pub mod TransitionOrder
+pub mod LastPort
+pub mod CompiledOver
 pub mod SetLength
 pub mod SweepLaws
 pub mod ClosureLaws

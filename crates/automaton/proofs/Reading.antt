@@ -9,14 +9,14 @@ use native.Mathlib.Nat.{suc-add, add-suc}
 use native.Mathlib.Numerals.{add-one}
 use lib.ListN.{length, take, drop, length-drop, length-reverse}
 use lib.Seq.{length-take-le}
-use lib.Dec.{leb}
-use borrow.Author.Tests.{leb-true, ne-eqb, not-false}
+use lib.Dec.{ltb, leb, eqb}
+use borrow.Author.Tests.{leb-true, ltb-false, eqb-false, ne-eqb, not-false}
 use Rattle.words.specs.Lists.{all}
 use Rattle.words.specs.Word.{Kind, symbolKind, unionKind, productKind, closureKind, kindNumber, kindOf, hasKind, lowByte}
 use Rattle.words.specs.Alphabet.{constantsOf, rankOf}
 use Rattle.words.specs.Postfix.{arity, trees, oneTree, notOneTree}
-use Rattle.words.specs.Expression.{isExpressionWord, noExpressionWords, expressionRefusals, expressionFault}
-use Rattle.words.proofs.TestLaws.{and-true}
+use Rattle.words.specs.Expression.{isExpressionWord, wrongLength, noExpressionWords, expressionRefusals, expressionFault}
+use Rattle.words.proofs.TestLaws.{and-true, or-false}
 use Rattle.words.proofs.RefusalLaws.{refusal-none}
 use Rattle.words.proofs.KindLaws.{kindOf-hasKind, kindOf-hasNot}
 use Rattle.words.proofs.PostfixLaws.{picked}
@@ -171,3 +171,11 @@ module _ (a : List ℕ) where
   expression-reading e h =
       let f = refusal-none (expressionRefusals a e) refl h in
       reading e 0 1 [] (not-false (all (isExpressionWord a) e) (f .1 .0)) (not-false (oneTree a e) (f .1 .1 .0)) bottom
+
+  pub expression-length : (e : List ℕ) → expressionFault a e ≡ 0 → (0 < length e) × (length e ≤ 64)
+  unfolding wrongLength
+  expression-length e h =
+      let f = refusal-none (expressionRefusals a e) refl h in
+      let p = or-false (eqb (length e) 0) (ltb 64 (length e)) (f .0) in
+      let z = eqb-false (length e) 0 (p .0) in
+      (omega arith, ltb-false 64 (length e) (p .1))

@@ -1,5 +1,5 @@
--- The states found for a constant in a word's entries, and in those of its children from left to right, ascend. Assumes
--- nothing.
+-- The targets of a word's entry for a constant: the states found for the constant in its children's entries, and how they
+-- ascend. Assumes nothing.
 use Prim.Native.Nat.{ℕ, suc, _≤_}
 use mathlib.Core.Bool.{Bool, true, false, cond}
 use mathlib.Core.List.{List, [], _∷_, _++_, flatMap}
@@ -9,6 +9,19 @@ use lib.Dec.{eqb}
 use Rattle.words.proofs.Ascending.{Ascending, end, next, ascending-from, ascending-append, ascending-one}
 use Rattle.automaton.specs.Numbering.{Port, lookup, entryFor}
 use Rattle.automaton.proofs.Ports.{statesIn, PortIn, Children, noChild, child}
+
+-- where the entry for b of a word leads, by the word's kind
+abbrev pub symbolTargets : List Port → ℕ → List ℕ
+symbolTargets Ps b = flatMap (λ P. entryFor P b) Ps
+
+abbrev pub unionTargets : Port → Port → ℕ → List ℕ
+unionTargets F G b = entryFor F b ++ entryFor G b
+
+abbrev pub productTargets : ℕ → Port → Port → ℕ → List ℕ
+productTargets c F G b = cond (eqb b c) [] (entryFor F b) ++ entryFor G b
+
+abbrev pub closureTargets : ℕ → ℕ → Port → ℕ → List ℕ
+closureTargets c x F b = entryFor F b ++ cond (eqb b c) (x ∷ []) []
 
 pub lookup-ascending : {lo hi : ℕ} (c : ℕ) (es : List (ℕ × ℕ)) → Ascending lo hi (statesIn es) → Ascending lo hi (lookup es c)
 lookup-ascending c [] h = h
@@ -22,23 +35,24 @@ module _ {a : List ℕ} where
   pub entryFor-ascending : {lo hi : ℕ} (c : ℕ) (P : Port) → PortIn a lo hi P → Ascending lo hi (entryFor P c)
   entryFor-ascending c P p = ascending-from (p .from) (lookup-ascending c (P .entries) (p .states))
 
-  pub children-ascending : {lo hi : ℕ} (c : ℕ) (Ps : List Port) → Children a lo hi Ps → Ascending lo hi (flatMap (λ P. entryFor P c) Ps)
+  pub symbol-ascending : {lo hi : ℕ} {Ps : List Port} → Children a lo hi Ps → (b : ℕ) → Ascending lo hi (symbolTargets Ps b)
   unfolding flatMap
-  children-ascending c [] (noChild l) = end l
-  children-ascending c (P ∷ Ps) (child p ps) = ascending-append (entryFor-ascending c P p) (children-ascending c Ps ps)
+  symbol-ascending (noChild l) b = end l
+  symbol-ascending (child {P} p ps) b = ascending-append (entryFor-ascending b P p) (symbol-ascending ps b)
 
-  -- of an entry of a product, of which c's entry goes to G's alone
+  pub union-ascending : {lo m hi : ℕ} {F G : Port} → PortIn a lo m F → PortIn a m hi G → (b : ℕ) → Ascending lo hi (unionTargets F G b)
+  union-ascending {F} {G} p q b = ascending-append (entryFor-ascending b F p) (entryFor-ascending b G q)
+
   pub product-ascending : {lo m hi : ℕ} (c : ℕ) {F G : Port} → PortIn a lo m F → PortIn a m hi G → (b : ℕ)
-      → Ascending lo hi (cond (eqb b c) [] (entryFor F b) ++ entryFor G b)
+      → Ascending lo hi (productTargets c F G b)
   product-ascending {lo} {m} c {F} {G} p q b = ascending-append (go (eqb b c)) (entryFor-ascending b G q)
     where
       go : (t : Bool) → Ascending lo m (cond t [] (entryFor F b))
       go true = end (le-trans (p .from) (le-of-lt (p .below)))
       go false = entryFor-ascending b F p
 
-  -- of an entry of a closure with exit x, to which c's entry goes
   pub closure-ascending : {lo hi x : ℕ} (c : ℕ) {F : Port} → PortIn a lo hi F → hi ≤ x → (b : ℕ)
-      → Ascending lo (suc x) (entryFor F b ++ cond (eqb b c) (x ∷ []) [])
+      → Ascending lo (suc x) (closureTargets c x F b)
   closure-ascending {hi} {x} c {F} p l b = ascending-append (entryFor-ascending b F p) (go (eqb b c))
     where
       go : (t : Bool) → Ascending hi (suc x) (cond t (x ∷ []) [])

@@ -2,22 +2,20 @@
 -- from and then by to". Assumes nothing.
 use Prim.Native.Nat.{ℕ, suc, _+_, _<_, _≤_, zero-le}
 use mathlib.Core.Path.{_≡_, subst}
-use mathlib.Core.Bool.{cond}
-use mathlib.Core.List.{List, [], _∷_, _++_, flatMap}
+use mathlib.Core.List.{List, [], _∷_, _++_}
 use native.Mathlib.Omega.{arith}
 use native.Mathlib.Nat.{le-refl, le-trans, lt-trans, lt-of-le-of-lt}
 use native.Mathlib.Decide.{decLe}
 use lib.ListN.{drop}
-use lib.Dec.{eqb}
 use Rattle.words.specs.Word.{lowByte}
 use Rattle.words.specs.Postfix.{arity}
 use Rattle.words.specs.Expression.{expressionFault}
 use Rattle.words.proofs.Ascending.{Ascending, end, next, ascending-append, ascending-one}
 use Rattle.automaton.specs.Transition.{Transition, onSymbol, epsilon}
-use Rattle.automaton.specs.Numbering.{Port, statesOf, portOf, entryFor, epsilons, fan, ownTransitions}
+use Rattle.automaton.specs.Numbering.{Port, statesOf, portOf, epsilons, fan, ownTransitions}
 use Rattle.automaton.proofs.Ports.{statesIn, Children, noChild, child}
 use Rattle.automaton.proofs.Reading.{Own, leaf, ofSymbol, ofUnion, ofProduct, ofClosure, Reading, ended, word, childrenOn, expression-reading}
-use Rattle.automaton.proofs.TargetLaws.{entryFor-ascending, children-ascending, product-ascending, closure-ascending}
+use Rattle.automaton.proofs.TargetLaws.{symbolTargets, unionTargets, productTargets, closureTargets, entryFor-ascending, symbol-ascending, union-ascending, product-ascending, closure-ascending}
 
 -- epsilon transitions strictly ordered by from and then by to, none before the one from p to q
 pub data OrderedFrom : ℕ → ℕ → List Transition → Type 0 where
@@ -65,25 +63,25 @@ own-ordered : {a : List ℕ} {hi w lo n : ℕ} {E : Port} {Ps : List Port} {ts :
     → Children a lo n Ps → Own a hi w E Ps ts → InOrder ts
 own-ordered x c (leaf l) = withoutSymbol none
 own-ordered {E} x c (ofSymbol {P} {Ps} i f r) =
-    withSymbol (from-first 0 zero-le (fan-ordered (λ b. flatMap (λ Q. entryFor Q b) (P ∷ Ps)) (E .entries) (i .states) (λ b. children-ascending b (P ∷ Ps) c)))
+    withSymbol (from-first 0 zero-le (fan-ordered (symbolTargets (P ∷ Ps)) (E .entries) (i .states) (symbol-ascending c)))
 own-ordered {E} x (child p (child q (noChild l))) (ofUnion {F} {G} i) =
-    let f : F .exit < G .exit = omega (arith, p .below, q .from) in
-    let g : G .exit < suc (E .exit) = omega (arith, q .below) in
-    let ts = fan-ordered (λ b. entryFor F b ++ entryFor G b) (E .entries) (i .states) (λ b. ascending-append (entryFor-ascending b F p) (entryFor-ascending b G q)) in
+    let f : F .exit < G .exit = omega arith in
+    let g : G .exit < suc (E .exit) = omega arith in
+    let ts = fan-ordered (unionTargets F G) (E .entries) (i .states) (union-ascending p q) in
     withoutSymbol (from-first 0 zero-le (toLater (le-refl (E .exit)) (fromLater f (from-earlier g ts))))
 own-ordered {w} {E} x (child p (child q (noChild l))) (ofProduct {F} {G} i) =
     let c = lowByte w in
-    let f : F .exit < G .exit = omega (arith, p .below, q .from) in
-    let g : suc (G .exit) ≤ suc (E .exit) = omega (arith, q .below) in
-    let ts = fan-ordered (λ b. cond (eqb b c) [] (entryFor F b) ++ entryFor G b) (E .entries) (i .states) (product-ascending c p q) in
+    let f : F .exit < G .exit = omega arith in
+    let g : suc (G .exit) ≤ suc (E .exit) = omega arith in
+    let ts = fan-ordered (productTargets c F G) (E .entries) (i .states) (product-ascending c p q) in
     let us = epsilons-ordered (entryFor-ascending c F p) (from-first (suc (G .exit)) g ts) in
     withoutSymbol (from-first 0 zero-le (toLater (le-refl (E .exit)) (from-earlier f us)))
 own-ordered {w} {E} x (child p (noChild l)) (ofClosure {F} i) =
     let c = lowByte w in
-    let g : suc (F .exit) ≤ suc (E .exit) = omega (arith, p .below) in
-    let ts = fan-ordered (λ b. entryFor F b ++ cond (eqb b c) (E .exit ∷ []) []) (E .entries) (i .states) (closure-ascending c p (le-trans l x)) in
-    let own = ascending-append (entryFor-ascending c F p) (ascending-one (le-trans l x) (le-refl (suc (E .exit)))) in
-    withoutSymbol (from-first 0 zero-le (epsilons-ordered own (from-first (suc (F .exit)) g ts)))
+    let g : suc (F .exit) ≤ suc (E .exit) = omega arith in
+    let ts = fan-ordered (closureTargets c (E .exit) F) (E .entries) (i .states) (closure-ascending c p (le-trans l x)) in
+    let qs = ascending-append (entryFor-ascending c F p) (ascending-one (le-trans l x) (le-refl (suc (E .exit)))) in
+    withoutSymbol (from-first 0 zero-le (epsilons-ordered qs (from-first (suc (F .exit)) g ts)))
 
 -- ---- every word
 

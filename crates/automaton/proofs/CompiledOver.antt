@@ -1,0 +1,136 @@
+-- The compiled automaton of an accepted expression is an automaton over the alphabet: its symbols are known and stand over
+-- as many states as their ranks, and every state is below the state count. Assumes nothing.
+use Prim.Native.Nat.{ℕ, suc, _+_, _<_, _≤_}
+use mathlib.Core.Path.{_≡_, _∙_, sym}
+use mathlib.Core.Bool.{true}
+use mathlib.Core.List.{List, [], _∷_, _++_, map, List·Memᴰ}
+use native.Mathlib.Omega.{arith}
+use native.Mathlib.Nat.{le-refl, le-trans, lt-of-lt-of-le, le-of-lt}
+use lib.ListN.{length, drop, length-map}
+use Rattle.words.specs.Word.{lowByte}
+use Rattle.words.specs.Alphabet.{constantsOf, isConstant}
+use Rattle.words.specs.Postfix.{arity}
+use Rattle.words.specs.Expression.{expressionFault}
+use Rattle.words.proofs.AllLaws.{All, all-append, all-map, all-both, all-self}
+use Rattle.words.proofs.AlphabetLaws.{constantsOf-isConstant, isConstant-zero}
+use Rattle.words.proofs.Ascending.{Ascending, end, next, ascending-le, ascending-append, ascending-one}
+use Rattle.automaton.specs.Transition.{Transition, onSymbol, epsilon}
+use Rattle.automaton.specs.Numbering.{Port, statesOf, portOf, entryFor, epsilons, fan, statesAfter, ownTransitions, transitionsFrom, lastPort, compiled}
+use Rattle.automaton.specs.Table.{AllBelow, TransitionOver, TransitionsOver, AutomatonOver}
+use Rattle.automaton.proofs.EntryLaws.{to-epsilons, to-fan, to-constants, numbered-all, constantTransitions}
+use Rattle.automaton.proofs.Ports.{statesIn, Entries, every, own, missing, PortIn, Children, noChild, child, children-le}
+use Rattle.automaton.proofs.Reading.{Own, leaf, ofSymbol, ofUnion, ofProduct, ofClosure, Reading, ended, word, childrenOn, expression-reading, expression-length}
+use Rattle.automaton.proofs.LastPort.{statesAfter-le, lastPort-from, last-in}
+use Rattle.automaton.proofs.TargetLaws.{symbolTargets, unionTargets, productTargets, closureTargets, entryFor-ascending, symbol-ascending, union-ascending, product-ascending, closure-ascending}
+
+-- ---- states below a bound
+
+below-of : {lo hi : ℕ} (n : ℕ) {xs : List ℕ} → Ascending lo hi xs → hi ≤ n → All (λ x. x < n) xs
+below-of n (end h) l = tt
+below-of n (next h a) l = (lt-of-lt-of-le (ascending-le a) l, below-of n a l)
+
+entries-below : {lo hi : ℕ} (es : List (ℕ × ℕ)) → Ascending lo hi (statesIn es) → All (λ e. e .1 < hi) es
+entries-below [] h = tt
+entries-below (e ∷ es) (next l h) = (ascending-le h, entries-below es h)
+
+exits-below : {a : List ℕ} {lo hi : ℕ} (n : ℕ) {Ps : List Port} → Children a lo hi Ps → hi ≤ n → AllBelow n (map (λ P. P .exit) Ps)
+exits-below n (noChild h) l = tt
+exits-below n (child p c) l = (omega (arith, p .below, children-le _ c), exits-below n c l)
+
+over-all : (a : List ℕ) (n : ℕ) (ts : List Transition) → All (TransitionOver a n) ts → TransitionsOver a n ts
+over-all a n [] h = tt
+over-all a n (t ∷ ts) h = (h .0, over-all a n ts (h .1))
+
+module _ (a : List ℕ) where
+  over-more : (m n : ℕ) → m ≤ n → (t : Transition) → TransitionOver a m t → TransitionOver a n t
+  over-more m n l (onSymbol f ps q) h = (h .0, h .1, go ps (h .2), lt-of-lt-of-le (h .3) l)
+    where
+      go : (ps : List ℕ) → AllBelow m ps → AllBelow n ps
+      go [] b = tt
+      go (p ∷ ps) b = (lt-of-lt-of-le (b .0) l, go ps (b .1))
+  over-more m n l (epsilon p q) h = (lt-of-lt-of-le (h .0) l, lt-of-lt-of-le (h .1) l)
+
+  -- ---- the own transitions of a word
+
+  epsilons-over : {lo hi : ℕ} (n p : ℕ) {qs : List ℕ} → p < n → Ascending lo hi qs → hi ≤ n → All (TransitionOver a n) (epsilons p qs)
+  epsilons-over n p {qs} l s h =
+      to-epsilons (TransitionOver a n) p qs (all-map (λ q. q < n) (λ q. TransitionOver a n (epsilon p q)) (λ q k. (l, k)) qs (below-of n s h))
+
+  fan-over : {lo hi l h : ℕ} (targets : ℕ → List ℕ) (es : List (ℕ × ℕ)) → Ascending lo hi (statesIn es)
+      → ((c : ℕ) → Ascending l h (targets c)) → h ≤ hi → All (TransitionOver a hi) (fan es targets)
+  fan-over {hi} targets es s t k =
+      to-fan (TransitionOver a hi) targets es
+      (all-map (λ e. e .1 < hi) (λ e. All (λ p. TransitionOver a hi (epsilon (e .1) p)) (targets (e .0)))
+      (λ e m. all-map (λ q. q < hi) (λ q. (e .1 < hi) × (q < hi)) (λ q j. (m, j)) (targets (e .0)) (below-of hi (t (e .0)) k)) es (entries-below es s))
+
+  own-over : {hi w lo n : ℕ} {E : Port} {Ps : List Port} {ts : List Transition} → PortIn a n hi E → Children a lo n Ps
+      → Own a hi w E Ps ts → All (TransitionOver a hi) ts
+  own-over x c (leaf l) = tt
+  own-over {hi} {E} x c (ofSymbol {P} {Ps} i f r) =
+      let l = le-trans (x .from) (le-of-lt (x .below)) in (
+        (f, r ∙ sym (length-map (P ∷ Ps) (λ Q. Q .exit)), exits-below hi c l, x .below),
+        fan-over (symbolTargets (P ∷ Ps)) (E .entries) (i .states) (symbol-ascending c) l,
+      )
+  own-over {hi} {E} x (child p (child q (noChild l))) (ofUnion {F} {G} i) =
+      let ts = fan-over (unionTargets F G) (E .entries) (i .states) (union-ascending p q) (omega arith) in
+      ((omega arith, x .below), ((omega arith, x .below), ts))
+  own-over {hi} {w} {E} x (child p (child q (noChild l))) (ofProduct {F} {G} i) =
+      let c = lowByte w in
+      let us = epsilons-over hi (G .exit) (omega arith) (entryFor-ascending c F p) (omega arith) in
+      let ts = fan-over (productTargets c F G) (E .entries) (i .states) (product-ascending c p q) (omega arith) in
+      ((omega arith, x .below), all-append (TransitionOver a hi) (epsilons (G .exit) (entryFor F c)) (fan (E .entries) (productTargets c F G)) us ts)
+  own-over {hi} {w} {E} x (child p (noChild l)) (ofClosure {F} i) =
+      let c = lowByte w in
+      let qs = ascending-append (entryFor-ascending c F p) (ascending-one (le-trans l (x .from)) (x .below)) in
+      let us = epsilons-over hi (F .exit) (omega arith) qs (le-refl hi) in
+      let ts = fan-over (closureTargets c (E .exit) F) (E .entries) (i .states) (closure-ascending c p (le-trans l (x .from))) (x .below) in
+      all-append (TransitionOver a hi) (epsilons (F .exit) (entryFor F c ++ (E .exit ∷ []))) (fan (E .entries) (closureTargets c (E .exit) F)) us ts
+
+  -- ---- every word
+
+  reading-over : {n : ℕ} {ws : List ℕ} {stack : List Port} → Reading a n ws stack
+      → All (TransitionOver a (statesAfter a n ws)) (transitionsFrom a n ws stack)
+  unfolding statesAfter transitionsFrom
+  reading-over ended = tt
+  reading-over (word {n} {w} {ws} {stack} d r) =
+      let m = n + statesOf a w in
+      let N = statesAfter a m ws in
+      let ts = ownTransitions w (portOf a n w) (childrenOn a w stack) in
+      all-append (TransitionOver a N) ts (transitionsFrom a m ws (portOf a n w ∷ drop (arity a w) stack))
+      (all-map (TransitionOver a m) (TransitionOver a N) (over-more m N (statesAfter-le a ws m)) ts (own-over (d .port) (d .children) (d .own)))
+      (reading-over r)
+
+  -- ---- the transitions on constants
+
+  entries-constants : {x : ℕ} {es : List (ℕ × ℕ)} → Entries a x es → All (λ e. isConstant a (e .0) ≡ true) es
+  entries-constants {x} every =
+      numbered-all (λ c. isConstant a c ≡ true) (suc x) (constantsOf a)
+      (all-map (λ c. List·Memᴰ c (constantsOf a)) (λ c. isConstant a c ≡ true) (λ c m. constantsOf-isConstant a c .0 m) (constantsOf a) (all-self (constantsOf a)))
+  entries-constants (own c h) = (h, tt)
+  entries-constants missing = tt
+
+  constants-over : {lo n : ℕ} {P : Port} → PortIn a lo n P → All (TransitionOver a n) (constantTransitions (P .entries))
+  constants-over {n} {P} p =
+      to-constants (TransitionOver a n) (P .entries)
+      (all-map (λ e. (isConstant a (e .0) ≡ true) × (e .1 < n)) (λ e. TransitionOver a n (onSymbol (e .0) [] (e .1)))
+      (λ e h. let z = isConstant-zero a (e .0) (h .0) in (z .0, z .1, tt, h .1)) (P .entries)
+      (all-both (λ e. isConstant a (e .0) ≡ true) (λ e. e .1 < n) (P .entries) (entries-constants (p .shape)) (entries-below (P .entries) (p .states))))
+
+  pub compiled-over : (e : List ℕ) → expressionFault a e ≡ 0 → compiled a e .states ≤ 1024 → AutomatonOver a (compiled a e)
+  unfolding compiled
+  compiled-over e f m = go e (expression-length a e f .0) (expression-reading a e f) m
+    where
+      go : (e : List ℕ) → 0 < length e → Reading a 0 e [] → statesAfter a 0 e ≤ 1024 → AutomatonOver a (compiled a e)
+      go [] l r m = absurd (omega arith)
+      go (w ∷ ws) l r m =
+          let N = statesAfter a 0 (w ∷ ws) in
+          let P = lastPort a (w ∷ ws) in
+          let p : PortIn a 0 N P = rw (lastPort-from a w ws) (last-in a ws r) in
+          let cs = constantTransitions (P .entries) in
+          let ts = transitionsFrom a 0 (w ∷ ws) [] in
+          record {
+            some = omega arith;
+            most = m;
+            final = p .below;
+            transitions = over-all a N (cs ++ ts) (all-append (TransitionOver a N) cs ts (constants-over p) (reading-over r));
+          }

@@ -1,0 +1,36 @@
+-- The states of an accepted expression's last word are the compiled automaton's last states. Assumes nothing.
+use Prim.Native.Nat.{ℕ, suc, _+_, _-_, _≤_}
+use mathlib.Core.Path.{_≡_, refl}
+use mathlib.Core.List.{List, [], _∷_}
+use native.Mathlib.Omega.{arith}
+use native.Mathlib.Nat.{le-refl, le-trans}
+use lib.ListN.{length}
+use Rattle.automaton.specs.Numbering.{Port, statesOf, portOf, childPort, portsFrom, statesAfter, lastPort}
+use Rattle.automaton.proofs.Ports.{PortIn, portIn-from}
+use Rattle.automaton.proofs.Reading.{Reading, word}
+
+-- the states of the last of the words w and ws, from state n on
+abbrev pub lastFrom : List ℕ → ℕ → ℕ → List ℕ → Port
+lastFrom a n w [] = portOf a n w
+lastFrom a n w (v ∷ ws) = lastFrom a (n + statesOf a w) v ws
+
+module _ (a : List ℕ) where
+  pub statesAfter-le : (ws : List ℕ) (n : ℕ) → n ≤ statesAfter a n ws
+  unfolding statesAfter
+  statesAfter-le [] n = le-refl n
+  statesAfter-le (w ∷ ws) n = le-trans (omega arith) (statesAfter-le ws (n + statesOf a w))
+
+  last-from : (ws : List ℕ) (n w : ℕ) → childPort (portsFrom a n (w ∷ ws)) (length ws) ≡ lastFrom a n w ws
+  unfolding portsFrom
+  last-from [] n w = refl
+  last-from (v ∷ ws) n w = last-from ws (n + statesOf a w) v
+
+  pub lastPort-from : (w : ℕ) (ws : List ℕ) → lastPort a (w ∷ ws) ≡ lastFrom a 0 w ws
+  lastPort-from w ws =
+      let e : suc (length ws) - 1 ≡ length ws = omega arith in
+      rw e (last-from ws 0 w)
+
+  pub last-in : (ws : List ℕ) {n w : ℕ} {stack : List Port} → Reading a n (w ∷ ws) stack → PortIn a n (statesAfter a n (w ∷ ws)) (lastFrom a n w ws)
+  unfolding statesAfter
+  last-in [] (word d r) = d .port
+  last-in (v ∷ ws) (word d r) = portIn-from (omega arith) (last-in ws r)
