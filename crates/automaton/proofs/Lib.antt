@@ -1,3 +1,4 @@
+pub mod CompiledExample
 pub mod BitLaws
 pub mod KeepLaws
 pub mod Ports

@@ -1,3 +1,4 @@
+pub mod Examples
 pub mod SubstitutionLaws
 pub mod SubjectLaws
 pub mod SubtreeLaws

@@ -1,0 +1,111 @@
+-- Document 01's marked examples that speak of the language of a rule alone, over a, b, c, d and f, numbered 0 to 4. Assumes
+-- nothing.
+use Prim.Native.Nat.{ℕ, zero, suc}
+use mathlib.Core.Path.{_≡_, refl, sym}
+use mathlib.Core.Logic.{_⊎_, inl, inr, _↔_}
+use native.Mathlib.Omega.{arith}
+use Rattle.words.specs.Tree.{Tree, Trees, node, none, more}
+use Rattle.language.specs.Expression.{Expression, symbol, empty, union, product, closure, noneᵉ, moreᵉ}
+use Rattle.language.specs.Membership.{constant, only, Substitution, Substitutions, atConstant, atSymbol, atNone, atMore, Step, Member, Members}
+use Rattle.language.proofs.SubstitutionLaws.{constant-under}
+
+abbrev pub a : ℕ
+a = 0
+
+abbrev pub b : ℕ
+b = 1
+
+abbrev pub c : ℕ
+c = 2
+
+abbrev pub d : ℕ
+d = 3
+
+-- a constant, and f over two parts, as expressions
+abbrev pub con : ℕ → Expression
+con s = symbol s noneᵉ
+
+abbrev pub fᵉ : Expression → Expression → Expression
+fᵉ E F = symbol 4 (moreᵉ E (moreᵉ F noneᵉ))
+
+-- f over two trees
+abbrev pub f : Tree → Tree → Tree
+f t u = node 4 (more t (more u none))
+
+a≢c : a ≡ c → ⊥
+a≢c e = omega arith
+
+b≢c : b ≡ c → ⊥
+b≢c e = omega arith
+
+-- f over constants has itself as a member
+f-constants : (x y : ℕ) → Member (fᵉ (con x) (con y)) (f (constant x) (constant y))
+f-constants x y = (refl, ((refl, tt), ((refl, tt), tt)))
+
+-- "Rule d alone, chapter d: one hit"
+pub constant-itself : Member (con d) (constant d)
+constant-itself = (refl, tt)
+
+-- "Empty rule: no hit anywhere."
+pub empty-none : (t : Tree) → Member empty t → ⊥
+empty-none t m = m
+
+-- "Its closure over c: hits at c only."
+pub closure-empty : (t : Tree) → Member (closure c empty) t ↔ (t ≡ constant c)
+closure-empty t = (λ m. steps (m .0) (m .1), λ e. (0, e))
+  where
+    steps : (n : ℕ) → Step c (λ s. Member empty s) n t → t ≡ constant c
+    steps zero e = e
+    steps (suc n) (inl s) = steps n s
+    steps (suc n) (inr p) = absurd (p .1)
+
+-- "f(a,b) by the empty rule over c keeps f(a,b)"
+pub by-empty : Member (product c (fᵉ (con a) (con b)) empty) (f (constant a) (constant b))
+by-empty = (
+  f (constant a) (constant b),
+  f-constants a b,
+  atSymbol (atConstant (inr (a≢c, refl))) (atMore (atConstant (inr (b≢c, refl))) atNone),
+)
+
+-- "f(a,c) by it has no member"
+no-constant : {u t : Tree} → Member (con c) u → Substitution (only c (Member empty)) u t → ⊥
+no-constant m (atConstant (inl p)) = p .1
+no-constant m (atConstant (inr p)) = p .0 (sym (m .0))
+no-constant m (atSymbol p ps) = m .1
+
+no-second : {us ts : Trees} → Members (moreᵉ (con c) noneᵉ) us → Substitutions (only c (Member empty)) us ts → ⊥
+no-second m atNone = m
+no-second m (atMore p ps) = no-constant (m .0) p
+
+pub by-empty-none : (t : Tree) → Member (product c (fᵉ (con a) (con c)) empty) t → ⊥
+by-empty-none t (u, m, s) = go m s
+  where
+    go : {u t : Tree} → Member (fᵉ (con a) (con c)) u → Substitution (only c (Member empty)) u t → ⊥
+    go m (atConstant s) = m .1
+    go m (atSymbol p ps) = no-second (m .1 .1) ps
+
+-- "f(c,c) by a + b over c has f(a,b)"
+pub separately : Member (product c (fᵉ (con c) (con c)) (union (con a) (con b))) (f (constant a) (constant b))
+separately = (
+  f (constant c) (constant c),
+  f-constants c c,
+  atSymbol (atConstant (inl (refl, inl (refl, tt)))) (atMore (atConstant (inl (refl, inr (refl, tt)))) atNone),
+)
+
+-- "c by f(c,a) over c has f(c,a), and not f(f(c,a),a)"
+pub put-once : Member (product c (con c) (fᵉ (con c) (con a))) (f (constant c) (constant a))
+put-once = (constant c, (refl, tt), atConstant (inl (refl, f-constants c a)))
+
+pub not-twice : Member (product c (con c) (fᵉ (con c) (con a))) (f (f (constant c) (constant a)) (constant a)) → ⊥
+not-twice m = go (constant-under c (only c (Member (fᵉ (con c) (con a)))) (f (f (constant c) (constant a)) (constant a)) m)
+  where
+    go : only c (Member (fᵉ (con c) (con a))) c (f (f (constant c) (constant a)) (constant a)) → ⊥
+    go (inl p) = let e : _≡_ {A = ℕ} 2 4 = p .1 .1 .0 .0 in omega arith
+    go (inr p) = p .0 refl
+
+-- "Closure over c of f(c,c) + a has f(c, f(c,c))": c at step 0, f(c,c) at step 1, where c is still
+pub joined : Member (closure c (union (fᵉ (con c) (con c)) (con a))) (f (constant c) (f (constant c) (constant c)))
+joined = (2, inr (f (constant c) (constant c), inl (f-constants c c), atSymbol (atConstant (inl (refl, inl refl))) (atMore (atConstant (inl (refl, first))) atNone)))
+  where
+    first : Step c (λ s. Member (union (fᵉ (con c) (con c)) (con a)) s) 1 (f (constant c) (constant c))
+    first = inr (f (constant c) (constant c), inl (f-constants c c), atSymbol (atConstant (inl (refl, refl))) (atMore (atConstant (inl (refl, refl))) atNone))
