@@ -8,3 +8,5 @@ pub mod OutcomeLaws
 pub mod AcceptedLaws
 pub mod RunLaws
 pub mod Demand3
+pub mod CompileLaws
+pub mod Demand2

@@ -1,0 +1,191 @@
+-- Demand 2: after an accepted Compile, an accepted Run with that table and alphabet and an accepted List with the element
+-- count and the marks that Run left, List names an element if and only if the tree of its subtree belongs to the language of
+-- the rule's expression. Assumes nothing.
+use Prim.Native.Nat.{ℕ, zero, suc, _+_, _<_, _≤_}
+use mathlib.Core.Path.{_≡_, refl, sym, _∙_, ap, ap₂, subst}
+use mathlib.Core.Logic.{_↔_}
+use mathlib.Core.Bool.{true}
+use mathlib.Core.List.{List, [], _∷_, _++_, flatten, head-eq-of-cons-eq, List·Memᴰ}
+use native.Mathlib.Omega.{arith}
+use native.Mathlib.Nat.{zero-add}
+use lib.ListN.{length, getD, take, drop}
+use lib.Seq.{take-at}
+use Rattle.words.specs.Tree.{Tree, fold}
+use Rattle.words.specs.Postfix.{subtreeOf, values}
+use Rattle.words.proofs.ExactlyOne.{ExactlyOne}
+use Rattle.language.specs.Expression.{Expression, expressionWords}
+use Rattle.language.specs.Membership.{Member}
+use Rattle.language.proofs.SubjectLaws.{SubjectOf}
+use Rattle.language.proofs.ExpressionLaws.{ExpressionOf}
+use Rattle.language.proofs.SubtreeLaws.{exactly-one-subtree, value-subject}
+use Rattle.automaton.specs.Transition.{Automaton, automatonOf}
+use Rattle.automaton.specs.Numbering.{compiled}
+use Rattle.automaton.specs.StateSet.{StateSet, contains, stateSet}
+use Rattle.automaton.specs.Reached.{Reaches}
+use Rattle.automaton.proofs.ClosureLaws.{TargetsBelow, targets-below}
+use Rattle.automaton.proofs.TreeSets.{treeSet, treeSet-reaches}
+use Rattle.automaton.proofs.Thompson.{thompson}
+use Rattle.operations.specs.Answer.{accepted}
+use Rattle.operations.specs.Compile.{compiledTable, compileAnswer, compileExit}
+use Rattle.operations.specs.Marks.{sizeOf, finalOf, nodeSet, nodeSets}
+use Rattle.operations.specs.Run.{runFault, runMarks, runAnswer, runExit, cellsIn}
+use Rattle.operations.specs.Listing.{listFault, matchesIn, matchesOf, listAnswer, listExit}
+use Rattle.operations.proofs.AcceptedLaws.{accepted-values, RunAccepted, run-accepted}
+use Rattle.operations.proofs.CompileLaws.{CompileAccepted, compile-accepted}
+use Rattle.operations.proofs.MarksLaws.{length-nodeSets}
+use Rattle.operations.proofs.MatchLaws.{Holding, holding-named, named-holding}
+use Rattle.operations.proofs.RunLaws.{run-writes, run-exit, matches-nodeSets}
+
+-- the three calls, one after the other: what is lent, and what each accepted call answers
+pub record Calls : Type 0 where
+  pub alphabet : List ℕ
+  pub rule : List ℕ
+  pub tableSlice : List ℕ
+  pub chapter : List ℕ
+  pub marksSlice : List ℕ
+  pub listSlice : List ℕ
+  -- Compile's word count; Run's element count and cells; List's number of hits
+  pub words : ℕ
+  pub elements : ℕ
+  pub cells : ℕ
+  pub hits : ℕ
+
+-- the table that Compile wrote, the marks that Run left, the numbers that List wrote
+abbrev pub tableOf : Calls → List ℕ
+tableOf c = take (c .words) (compileExit (c .alphabet) (c .rule) (c .tableSlice))
+
+abbrev pub marksOf : Calls → List ℕ
+marksOf c = runExit (c .alphabet) (tableOf c) (c .chapter) (c .marksSlice)
+
+abbrev pub namesOf : Calls → List ℕ
+namesOf c = take (c .hits) (listExit (c .alphabet) (tableOf c) (c .elements) (marksOf c) (c .listSlice))
+
+pub record AllAccepted (c : Calls) : Type 0 where
+  pub compiles : compileAnswer (c .alphabet) (c .rule) (c .tableSlice) ≡ accepted (c .words ∷ [])
+  pub runs : runAnswer (c .alphabet) (tableOf c) (c .chapter) (c .marksSlice) ≡ accepted (c .elements ∷ c .cells ∷ [])
+  pub lists : listAnswer (c .alphabet) (tableOf c) (c .elements) (marksOf c) (c .listSlice) ≡ accepted (c .hits ∷ [])
+
+-- what demand 2 says
+pub record Demand2 (c : Calls) : Type 0 where
+  -- "A rule that Compile accepts becomes exactly the numbered Thompson tree automaton of the rules."
+  pub automaton : tableOf c ≡ compiledTable (c .alphabet) (c .rule)
+  -- the rule is the words of exactly one expression, and an element's subtree those of exactly one tree
+  pub expression : ExactlyOne (ExpressionOf (c .alphabet) (c .rule))
+  pub subtrees : (i : ℕ) → i < length (c .chapter) → ExactlyOne (SubjectOf (c .alphabet) (subtreeOf (c .alphabet) (c .chapter) i))
+  -- every number that List writes is an element's
+  pub within : (i : ℕ) → List·Memᴰ i (namesOf c) → i < length (c .chapter)
+  -- "names an element if and only if its subtree belongs to the rule's language"
+  pub names : (i : ℕ) (l : i < length (c .chapter)) → List·Memᴰ i (namesOf c) ↔ Member (expression .the) (subtrees i l .the)
+
+-- ---- a compiled table
+
+module _ (a e ch : List ℕ) (few : length a ≤ 64) (auto : automatonOf (compiledTable a e) ≡ compiled a e)
+    (below : TargetsBelow (compiled a e .states) (compiled a e .transitions)) where
+  abbrev table : List ℕ
+  table = compiledTable a e
+
+  -- the state set of a node is that of its subtree's tree
+  node-tree : (i : ℕ) (t : Tree) → i < length ch → SubjectOf a (subtreeOf a ch i) t
+      → getD (nodeSets a table ch) i [] ≡ treeSet (compiled a e) t
+  unfolding nodeSets nodeSet
+  node-tree i t l k = value-subject a few (λ f rs. stateSet (automatonOf table) f rs) ch i [] t l k ∙ ap (λ A. treeSet A t) auto
+
+  -- it holds the final state exactly if the tree belongs to the language
+  holds-member : (E : Expression) (i : ℕ) (t : Tree) → ExpressionOf a e E → i < length ch → SubjectOf a (subtreeOf a ch i) t
+      → (contains (getD (nodeSets a table ch) i []) (finalOf table) ≡ true) ↔ Member E t
+  unfolding finalOf
+  holds-member E i t x l k =
+      let q : contains (getD (nodeSets a table ch) i []) (automatonOf table .final) ≡ contains (treeSet (compiled a e) t) (compiled a e .final) =
+      ap₂ contains (node-tree i t l k) (ap (λ A. A .final) auto) in
+      let r = treeSet-reaches (compiled a e) below t (compiled a e .final) in
+      let m : Reaches (compiled a e .transitions) (compiled a e .final) t ↔ Member E t =
+      subst (λ w. Reaches (compiled a w .transitions) (compiled a w .final) t ↔ Member E t) (x .words) (thompson a E few (x .over) t) in
+      (λ h. m .0 (r .0 (sym q ∙ h)), λ h. q ∙ r .1 (m .1 h))
+
+-- ---- what Run and List leave, with any table
+
+module _ (a table ch marks slice : List ℕ) (n cells hits : ℕ)
+    (runs : runAnswer a table ch marks ≡ accepted (n ∷ cells ∷ []))
+    (lists : listAnswer a table n (runExit a table ch marks) slice ≡ accepted (hits ∷ [])) where
+  run-values : (runFault a table ch (length marks) ≡ 0) × (n ≡ length ch)
+  unfolding runAnswer
+  run-values =
+      let v = accepted-values (runFault a table ch (length marks)) (length ch ∷ cellsIn (flatten (nodeSets a table ch)) ∷ []) (n ∷ cells ∷ []) runs in
+      (v .0, cc)
+
+  run-is : RunAccepted a table ch (length marks)
+  run-is = run-accepted a table ch (length marks) (run-values .0)
+
+  -- List writes the numbers of the nodes whose state sets hold the final state
+  names-are : take hits (listExit a table n (runExit a table ch marks) slice) ≡ matchesIn (finalOf table) 0 (nodeSets a table ch)
+  unfolding listAnswer listExit
+  names-are =
+      let left = runExit a table ch marks in
+      let m = matchesOf table n left in
+      let v = accepted-values (listFault a table n (length left) (length slice)) (length m ∷ []) (hits ∷ []) lists in
+      let k : length m ≡ hits = head-eq-of-cons-eq (v .1) in
+      let e : left ≡ runMarks a table ch marks = run-exit a table ch marks (run-values .0) in
+      rw (v .0) (take-at m (drop (length m) slice) hits k)
+      ∙ ap (λ (i : ℕ). matchesOf table i left) (run-values .1)
+      ∙ ap (matchesOf table (length ch)) e
+      ∙ matches-nodeSets a table ch (runMarks a table ch marks) (run-writes a table ch marks)
+
+  -- a number is written exactly if it is that of such a node
+  named : (i : ℕ) → List·Memᴰ i (take hits (listExit a table n (runExit a table ch marks) slice)) ↔ Holding (finalOf table) (nodeSets a table ch) i
+  named i = (to, from)
+    where
+      to : List·Memᴰ i (take hits (listExit a table n (runExit a table ch marks) slice)) → Holding (finalOf table) (nodeSets a table ch) i
+      to x =
+          let y = named-holding (finalOf table) (nodeSets a table ch) 0 i (subst (List·Memᴰ i) names-are x) in
+          subst (Holding (finalOf table) (nodeSets a table ch)) (sym (y .1 ∙ zero-add (y .0))) (y .2)
+
+      from : Holding (finalOf table) (nodeSets a table ch) i → List·Memᴰ i (take hits (listExit a table n (runExit a table ch marks) slice))
+      from x =
+          subst (List·Memᴰ i) (sym names-are)
+          (subst (λ (k : ℕ). List·Memᴰ k (matchesIn (finalOf table) 0 (nodeSets a table ch))) (zero-add i) (holding-named (finalOf table) (nodeSets a table ch) 0 i x))
+
+-- ---- the three calls
+
+module _ (c : Calls) (h : AllAccepted c) where
+  abbrev a : List ℕ
+  a = c .alphabet
+
+  abbrev T : List ℕ
+  T = compiledTable (c .alphabet) (c .rule)
+
+  compiles : CompileAccepted a (c .rule) (c .tableSlice) (c .words)
+  compiles = compile-accepted a (c .rule) (c .tableSlice) (c .words) (h .compiles)
+
+  runs : runAnswer a T (c .chapter) (c .marksSlice) ≡ accepted (c .elements ∷ c .cells ∷ [])
+  runs = rw (compiles .table) at (h .runs)
+
+  lists : listAnswer a T (c .elements) (runExit a T (c .chapter) (c .marksSlice)) (c .listSlice) ≡ accepted (c .hits ∷ [])
+  lists = rw (compiles .table) at (h .lists)
+
+  run : RunAccepted a T (c .chapter) (length (c .marksSlice))
+  run = run-is a T (c .chapter) (c .marksSlice) (c .listSlice) (c .elements) (c .cells) (c .hits) runs lists
+
+  names-holding : (i : ℕ) → List·Memᴰ i (namesOf c) ↔ Holding (finalOf T) (nodeSets a T (c .chapter)) i
+  names-holding i =
+      rw (compiles .table) (named a T (c .chapter) (c .marksSlice) (c .listSlice) (c .elements) (c .cells) (c .hits) runs lists i)
+
+  subtree : (i : ℕ) → i < length (c .chapter) → ExactlyOne (SubjectOf a (subtreeOf a (c .chapter) i))
+  subtree i l = exactly-one-subtree a (compiles .few) (c .chapter) i (run .nodes) (run .tree) l
+
+  holding-member : (i : ℕ) (l : i < length (c .chapter))
+      → (contains (getD (nodeSets a T (c .chapter)) i []) (finalOf T) ≡ true) ↔ Member (compiles .expression .the) (subtree i l .the)
+  holding-member i l =
+      holds-member a (c .rule) (c .chapter) (compiles .few) (compiles .automaton) (targets-below (compiles .over))
+      (compiles .expression .the) i (subtree i l .the) (compiles .expression .has) l (subtree i l .has)
+
+  pub demand2 : Demand2 c
+  demand2 = record {
+    automaton = compiles .table;
+    expression = compiles .expression;
+    subtrees = subtree;
+    within = λ i x. omega (arith, length-nodeSets a T (c .chapter), names-holding i .0 x .0);
+    names = λ i l. (
+      (λ x. holding-member i l .0 (names-holding i .0 x .1)),
+      (λ x. names-holding i .1 (omega (arith, length-nodeSets a T (c .chapter)), holding-member i l .1 x)),
+    );
+  }
