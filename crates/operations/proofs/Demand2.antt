@@ -189,3 +189,9 @@ module _ (c : Calls) (h : AllAccepted c) where
       (λ x. names-holding i .1 (omega (arith, length-nodeSets a T (c .chapter)), holding-member i l .1 x)),
     );
   }
+
+  -- the same of any expression whose words the rule is
+  pub demand2-of : (E : Expression) → ExpressionOf (c .alphabet) (c .rule) E → (i : ℕ) (l : i < length (c .chapter))
+      → List·Memᴰ i (namesOf c) ↔ Member E (demand2 .subtrees i l .the)
+  demand2-of E x i l =
+      subst (λ (F : Expression). List·Memᴰ i (namesOf c) ↔ Member F (demand2 .subtrees i l .the)) (sym (demand2 .expression .only E x)) (demand2 .names i l)

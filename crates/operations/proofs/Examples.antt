@@ -1,8 +1,10 @@
--- The marked examples of document 01 about the operations, and rows beside them that a wrong Exchange would fail: one
--- table of rows, one theorem. Assumes nothing.
-use Prim.Native.Nat.{ℕ, _+_, _-_}
-use mathlib.Core.Path.{_≡_, refl}
-use mathlib.Core.List.{List, [], _∷_, _++_, flatten, flatMap, map}
+-- The marked examples of document 01, with the source's own example and rows beside them that a wrong Exchange would fail:
+-- one table of rows, one theorem. Assumes nothing.
+use Prim.Native.Nat.{ℕ, _+_, _-_, _<_}
+use mathlib.Core.Path.{_≡_, refl, sym}
+use mathlib.Core.Logic.{_↔_}
+use mathlib.Core.Bool.{true}
+use mathlib.Core.List.{List, [], _∷_, _++_, flatten, flatMap, map, List·Memᴰ}
 use lib.ListN.{length, getD, replicate, set}
 use lib.Count.{ones, onesIn}
 use Rattle.words.specs.Word.{kindAt, spareBitsClear, isOf}
@@ -10,6 +12,10 @@ use Rattle.words.specs.Alphabet.{isEntry, rankOf, isConstant, constantsFrom, co
 use Rattle.words.specs.Postfix.{arity, trees, notOneTree, startFrom, startOf, isAncestor, splice, valueOn, values, stackAfter, stackGiven}
 use Rattle.words.specs.Expression.{isExpressionWord, wrongLength, noExpressionWords}
 use Rattle.words.specs.Chapter.{symbolOf, isNode, noNodes}
+use Rattle.words.specs.Tree.{Tree}
+use Rattle.language.specs.Expression.{Expression, empty, union, product, closure}
+use Rattle.language.specs.Membership.{constant, Member}
+use Rattle.language.proofs.Examples.{con, fᵉ, f as fᵗ, closure-empty, by-empty, by-empty-none, separately, put-once, not-twice, joined}
 use Rattle.automaton.specs.Transition.{transitionsAt, automatonOf, headWord}
 use Rattle.automaton.specs.Numbering.{hasEntries, statesOf, portOf, ownTransitions, portsFrom, statesAfter, transitionsFrom, compiled}
 use Rattle.automaton.specs.Table.{isHead, isTableWord, sourcesLeft, areTransitions, isTable, noTable}
@@ -19,6 +25,7 @@ use Rattle.operations.specs.Compile.{compiledTable, compileFault, tooMan
 use Rattle.operations.specs.Marks.{sizeOf, finalOf, nodeSet, nodeSets, storedSet, sameWords, refit}
 use Rattle.operations.specs.Run.{wrongCount, fewMarks, runFault, runMarks, cellsIn, runAnswer}
 use Rattle.operations.specs.Listing.{listTooShort, listFault, matchesIn, matchesOf, listExit}
+use Rattle.operations.proofs.Demand2.{Calls, AllAccepted, namesOf, demand2, demand2-of}
 use Rattle.operations.specs.Exchange.{wrongUse, noElement, noReplacement, resultTooLong, recomputedIn, climb, rootSet, outcomesBehind, outcomesAfter, fault, newTree, outcomes, exchangeAnswer, exchangeChapter, exchangeMarks}
 
 -- "Alphabet a, b, c, d of rank 0, f of rank 2, g and h of rank 1, numbered 0 to 6."
@@ -78,13 +85,30 @@ pub record Exchanged (stored : List ℕ) (e : ℕ) (xs : List ℕ) (answer : Ans
   pub marksLeft : exchangeMarks alphabet (compiledTable alphabet rule) (chapter ++ (1 ∷ 2 ∷ 3 ∷ [])) stored 7 e xs ≡ leftMarks
   pub lists : matchesOf (compiledTable alphabet rule) (firstValue answer 7) leftMarks ≡ hits
 
+-- every call of Compile, Run and List with the alphabet and this rule, whatever the chapter: List names exactly the nodes
+-- whose subtrees have the property
+abbrev pub Names : List ℕ → (Tree → Type 0) → Type 0
+Names e P =
+    (q : Calls) → q .alphabet ≡ alphabet → q .rule ≡ e → (h : AllAccepted q)
+    → (i : ℕ) (l : i < length (q .chapter)) → List·Memᴰ i (namesOf q) ↔ P (demand2 q h .subtrees i l .the)
+
 -- a row of the table
 pub data Row : Type 0 where
+  member : Expression → Tree → Row
+  noMember : Expression → Tree → Row
+  noMembers : Expression → Row
+  noHits : (e : List ℕ) → Row
+  hitsAt : (e : List ℕ) (c : ℕ) → Row
   running : (al e ch : List ℕ) (answer : Answer) → Row
   listing : (al e ch : List ℕ) (states words head : ℕ) (lines : List (ℕ × ℕ × ℕ)) → Row
   exchanging : (stored : List ℕ) (e : ℕ) (xs : List ℕ) (answer : Answer) (left leftMarks hits : List ℕ) → Row
 
 abbrev pub Holds : Row → Type 0
+Holds (member E t) = Member E t
+Holds (noMember E t) = Member E t → ⊥
+Holds (noMembers E) = (t : Tree) → Member E t → ⊥
+Holds (noHits e) = Names e (λ t. ⊥)
+Holds (hitsAt e c) = Names e (λ t. t ≡ constant c)
 Holds (listing al e ch states words head lines) = Listed al e ch states words head lines
 Holds (running al e ch answer) = runAnswer al (compiledTable al e) ch (replicate (length ch) 0) ≡ answer
 Holds (exchanging stored e xs answer left leftMarks hits) = Exchanged stored e xs answer left leftMarks hits
@@ -110,6 +134,19 @@ rows =
     (a ∷ b ∷ f ∷ a ∷ b ∷ f ∷ g ∷ h ∷ f ∷ 3 ∷ [])
     (34636297 ∷ 69272594 ∷ 25966788 ∷ 34636297 ∷ 69272594 ∷ 25966788 ∷ 25983424 ∷ 0 ∷ 0 ∷ 7 ∷ [])
     (2 ∷ 5 ∷ 6 ∷ [])
+    -- "Empty rule: no hit anywhere. Its closure over c: hits at c only."
+    ∷ noHits (0x3000_0000 ∷ [])
+    ∷ hitsAt (0x3000_0000 ∷ 0x6000_0002 ∷ []) 2
+    -- "f(a,b) by the empty rule over c keeps f(a,b); f(a,c) by it has no member."
+    ∷ member (product 2 (fᵉ (con 0) (con 1)) empty) (fᵗ (constant 0) (constant 1))
+    ∷ noMembers (product 2 (fᵉ (con 0) (con 2)) empty)
+    -- "f(c,c) by a + b over c has f(a,b)."
+    ∷ member (product 2 (fᵉ (con 2) (con 2)) (union (con 0) (con 1))) (fᵗ (constant 0) (constant 1))
+    -- "c by f(c,a) over c has f(c,a), and not f(f(c,a),a)."
+    ∷ member (product 2 (con 2) (fᵉ (con 2) (con 0))) (fᵗ (constant 2) (constant 0))
+    ∷ noMember (product 2 (con 2) (fᵉ (con 2) (con 0))) (fᵗ (fᵗ (constant 2) (constant 0)) (constant 0))
+    -- "Closure over c of f(c,c) + a has f(c, f(c,c))."
+    ∷ member (closure 2 (union (fᵉ (con 2) (con 2)) (con 0))) (fᵗ (constant 2) (fᵗ (constant 2) (constant 2)))
     -- the same for the same: the root's marks are unchanged, no ancestor is worked out
     ∷ exchanging marks 3 (d ∷ []) (accepted (7 ∷ 1 ∷ [])) (chapter ++ (1 ∷ 2 ∷ 3 ∷ [])) marks (2 ∷ 3 ∷ 4 ∷ [])
     -- a false mark at the element itself: one ancestor is worked out, and comes out unchanged
@@ -131,6 +168,20 @@ rows =
     ∷ exchanging marks 3 (d ∷ g ∷ g ∷ g ∷ g ∷ []) (refused 16) (chapter ++ (1 ∷ 2 ∷ 3 ∷ [])) marks (2 ∷ 3 ∷ 4 ∷ [])
     ∷ []
 
+-- the empty rule, and its closure over c, are the words of these expressions
+names-empty : Names (0x3000_0000 ∷ []) (λ t. ⊥)
+names-empty q ea ee h i l = demand2-of q h empty (record { over = tt; words = sym ee }) i l
+
+is-c : isConstant alphabet 2 ≡ true
+unfolding isConstant rankOf
+is-c = refl
+
+names-closure : Names (0x3000_0000 ∷ 0x6000_0002 ∷ []) (λ t. t ≡ constant 2)
+names-closure q ea ee h i l =
+    let m = demand2-of q h (closure 2 empty) (record { over = (rw ea is-c, tt); words = sym ee }) i l in
+    let k = closure-empty (demand2 q h .subtrees i l .the) in
+    (λ x. k .0 (m .0 x), λ x. m .1 (k .1 x))
+
 -- the count of ones is computed for a small number alone
 one-cell : accepted (1 ∷ (ones 1 + 0) ∷ []) ≡ accepted (1 ∷ 1 ∷ [])
 unfolding ones onesIn
@@ -144,4 +195,4 @@ unfolding kindAt spareBitsClear isOf isEntry rankOf isConstant constantsFrom con
     matchesIn matchesOf splice isAncestor stackAfter stackGiven sameWords refit wrongUse noElement noReplacement resultTooLong recomputedIn climb rootSet
     outcomesBehind outcomesAfter fault newTree outcomes exchangeAnswer exchangeChapter exchangeMarks
 examples =
-    (record { compiles = refl; stateCount = refl; wordCount = refl; headIs = refl; runs = refl; hits = refl }, (record { compiles = refl; stateCount = refl; wordCount = refl; headIs = refl; runs = refl; hits = refl }, (one-cell, (record { answers = refl; chapterLeft = refl; marksLeft = refl; lists = refl }, (record { answers = refl; chapterLeft = refl; marksLeft = refl; lists = refl }, (record { answers = refl; chapterLeft = refl; marksLeft = refl; lists = refl }, (record { answers = refl; chapterLeft = refl; marksLeft = refl; lists = refl }, (record { answers = refl; chapterLeft = refl; marksLeft = refl; lists = refl }, (record { answers = refl; chapterLeft = refl; marksLeft = refl; lists = refl }, (record { answers = refl; chapterLeft = refl; marksLeft = refl; lists = refl }, (record { answers = refl; chapterLeft = refl; marksLeft = refl; lists = refl }, (record { answers = refl; chapterLeft = refl; marksLeft = refl; lists = refl }, tt))))))))))))
+    (record { compiles = refl; stateCount = refl; wordCount = refl; headIs = refl; runs = refl; hits = refl }, (record { compiles = refl; stateCount = refl; wordCount = refl; headIs = refl; runs = refl; hits = refl }, (one-cell, (record { answers = refl; chapterLeft = refl; marksLeft = refl; lists = refl }, (record { answers = refl; chapterLeft = refl; marksLeft = refl; lists = refl }, (names-empty, (names-closure, (by-empty, (by-empty-none, (separately, (put-once, (not-twice, (joined, (record { answers = refl; chapterLeft = refl; marksLeft = refl; lists = refl }, (record { answers = refl; chapterLeft = refl; marksLeft = refl; lists = refl }, (record { answers = refl; chapterLeft = refl; marksLeft = refl; lists = refl }, (record { answers = refl; chapterLeft = refl; marksLeft = refl; lists = refl }, (record { answers = refl; chapterLeft = refl; marksLeft = refl; lists = refl }, (record { answers = refl; chapterLeft = refl; marksLeft = refl; lists = refl }, (record { answers = refl; chapterLeft = refl; marksLeft = refl; lists = refl }, tt))))))))))))))))))))
