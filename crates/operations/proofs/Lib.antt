@@ -10,3 +10,4 @@ pub mod RunLaws
 pub mod Demand3
 pub mod CompileLaws
 pub mod Demand2
+pub mod BehindLaws

@@ -1,14 +1,14 @@
 -- Laws of lists: map over parts of a list, lists by their index, parts side by side, counts, and lists of numbers below a
 -- bound. Assumes nothing.
 use mathlib.Core.Path.{_≡_, refl, ap, ap₂, _∙_, sym}
-use mathlib.Core.Bool.{Bool, cond}
+use mathlib.Core.Bool.{Bool, cond, _&&_}
 use mathlib.Core.List.{List, [], _∷_, _++_, map, reverse, reverseAux}
 use Prim.Native.Nat.{ℕ, zero, suc, _+_, _<_, _≤_}
 use native.Mathlib.Omega.{arith}
 use native.Mathlib.Nat.{zero-add, add-zero, add-suc, suc-add, add-assoc}
 use lib.ListN.{length, getD, take, drop, set, take-append-drop}
 use lib.Seq.{slice, getD-set-other, take-take, length-take-le, drop-append-le}
-use Rattle.words.specs.Lists.{count, listFrom}
+use Rattle.words.specs.Lists.{all, count, listFrom}
 
 -- ---- map
 
@@ -54,6 +54,10 @@ module _ {A : Type 0} (f : ℕ → A) where
   listFrom-shift g zero j h = refl
   listFrom-shift g (suc n) j h = ap₂ (λ (x : A) (y : List A). x ∷ y) (h j) (listFrom-shift g n (suc j) h)
 
+  pub listFrom-offset : (j n i : ℕ) → listFrom (λ k. f (j + k)) i n ≡ listFrom f (j + i) n
+  listFrom-offset j zero i = refl
+  listFrom-offset j (suc n) i = ap (λ (t : List A). f (j + i) ∷ t) (listFrom-offset j n (suc i) ∙ ap (λ (k : ℕ). listFrom f k n) (add-suc j i))
+
   pub map-listFrom : {B : Type 0} (g : A → B) (n j : ℕ) → map g (listFrom f j n) ≡ listFrom (λ i. g (f i)) j n
   map-listFrom g zero j = refl
   map-listFrom {B} g (suc n) j = ap (λ (t : List B). g (f j) ∷ t) (map-listFrom g n (suc j))
@@ -75,7 +79,16 @@ slice-slice {A} l s m t hs hm ht =
     sym (drop-append-le s (take m l) (slice m t l) (rw n hs))
     ∙ ap (drop s) (ap (λ (x : List A). x ++ slice m t l) (sym q) ∙ take-append-drop m (take t l))
 
--- ---- counts
+-- ---- tests and counts
+
+module _ (f : ℕ → Bool) (g : ℕ → ℕ) where
+  pub all-map : (l : List ℕ) → all f (map g l) ≡ all (λ x. f (g x)) l
+  all-map [] = refl
+  all-map (x ∷ l) = ap (λ (b : Bool). f (g x) && b) (all-map l)
+
+  pub count-map : (l : List ℕ) → count f (map g l) ≡ count (λ x. f (g x)) l
+  count-map [] = refl
+  count-map (x ∷ l) = ap (λ (i : ℕ). cond (f (g x)) 1 0 + i) (count-map l)
 
 pub count-append : (f : ℕ → Bool) (l k : List ℕ) → count f (l ++ k) ≡ count f l + count f k
 count-append f [] k = sym (zero-add (count f k))

@@ -1,0 +1,93 @@
+-- Which nodes behind a replaced subtree are recomputed, whatever the stored state sets are: the ancestors, nearest first,
+-- as long as work goes on; all others keep their stored sets. Assumes nothing.
+use mathlib.Core.Path.{_≡_, refl, ap, _∙_, sym, subst}
+use mathlib.Core.Bool.{Bool, true, false, not, cond, _&&_}
+use mathlib.Core.List.{List, [], _∷_, map}
+use Prim.Native.Nat.{ℕ, zero, suc, _+_, _<_, _≤_}
+use native.Mathlib.Omega.{arith}
+use native.Mathlib.Nat.{add-zero, add-suc, suc-add}
+use lib.ListN.{length, getD, drop}
+use Rattle.words.specs.Lists.{all, count, listFrom}
+use Rattle.words.specs.Postfix.{arity, isAncestor, valueOn}
+use Rattle.words.proofs.TestLaws.{Tested, holds, fails, tested}
+use Rattle.words.proofs.ListLaws.{length-listFrom, listFrom-shift, listFrom-offset, map-listFrom, all-map, count-map}
+use Rattle.automaton.specs.StateSet.{StateSet}
+use Rattle.operations.specs.Marks.{sizeOf, nodeSet, sameWords}
+use Rattle.operations.specs.Exchange.{Outcome, kept, recomputed, setIn, isRecomputed, recomputedIn, keptFrom, climb, rootSet, outcomesBehind}
+use Rattle.operations.proofs.MarksLaws.{Sized, length-nodeSet}
+use Rattle.operations.proofs.ClimbLaws.{climb-beside, climb-last, climb-onward}
+
+-- the outcome of a node by its number
+abbrev pub outcomeAt : List Outcome → ℕ → Outcome
+outcomeAt os i = getD os i (kept [])
+
+module _ (stored : ℕ → StateSet) (above : ℕ → Bool) where
+  -- work ends at node j with this outcome: it is an ancestor, and its words are as stored
+  abbrev pub endsAt : ℕ → Outcome → Bool
+  endsAt j o = above j && sameWords (setIn o) (stored j)
+
+  -- a node is recomputed where work goes on and it is an ancestor; otherwise its stored set is kept
+  abbrev pub chosen : ℕ → Bool → Outcome → Outcome
+  chosen j on o = cond (on && above j) (recomputed (setIn o)) (kept (stored j))
+
+  -- the outcomes of the nodes from j on; `on` tells whether work goes on
+  abbrev pub Chosen : ℕ → Bool → List Outcome → Type 0
+  Chosen j on [] = Unit {0}
+  Chosen j on (o ∷ os) = (o ≡ chosen j on o) × Chosen (suc j) (on && not (endsAt j o)) os
+
+  pub chosen-kept : (n j : ℕ) → Chosen j false (keptFrom stored j n)
+  chosen-kept zero j = tt
+  chosen-kept (suc n) j = (refl, chosen-kept n (suc j))
+
+  pub chosen-climb : (a table ws : List ℕ) (j : ℕ) (stack : List StateSet) → Chosen j true (climb a table stored above j ws stack)
+  unfolding climb
+  chosen-climb a table [] j stack = tt
+  chosen-climb a table (w ∷ ws) j stack =
+      go (tested (above j)) (tested (sameWords new (stored j))) (chosen-climb a table ws (suc j) (stored j ∷ rest)) (chosen-climb a table ws (suc j) (new ∷ rest))
+    where
+      new : StateSet
+      new = valueOn a (nodeSet table) w stack
+
+      rest : List StateSet
+      rest = drop (arity a w) stack
+
+      go : Tested (above j) → Tested (sameWords new (stored j)) → Chosen (suc j) true (climb a table stored above (suc j) ws (stored j ∷ rest))
+          → Chosen (suc j) true (climb a table stored above (suc j) ws (new ∷ rest)) → Chosen j true (climb a table stored above j (w ∷ ws) stack)
+      go (fails x) y l m = subst (Chosen j true) (sym (climb-beside a table stored above j w ws stack x)) (rw x, rw x l)
+      go (holds x) (holds y) l m =
+          subst (Chosen j true) (sym (climb-last a table stored above j w ws stack x y)) (rw x, rw (x, y) (chosen-kept (length ws) (suc j)))
+      go (holds x) (fails y) l m =
+          subst (Chosen j true) (sym (climb-onward a table stored above j w ws stack x y)) (rw x, rw (x, y) m)
+
+  -- the same by number: work goes on up to the node k places behind j if it goes on at j and ends at none between
+  abbrev pub goesOnFrom : ℕ → Bool → List Outcome → ℕ → Bool
+  goesOnFrom j on os k = on && all (λ i. not (endsAt (j + i) (outcomeAt os i))) (listFrom (λ i. i) 0 k)
+
+  and-same : (b : Bool) → b && true ≡ b
+  and-same true = refl
+  and-same false = refl
+
+  and-assoc : (b c d : Bool) → b && (c && d) ≡ b && c && d
+  and-assoc true c d = refl
+  and-assoc false c d = refl
+
+  goes-more : (j : ℕ) (on : Bool) (o : Outcome) (os : List Outcome) (k : ℕ)
+      → goesOnFrom j on (o ∷ os) (suc k) ≡ goesOnFrom (suc j) (on && not (endsAt j o)) os k
+  goes-more j on o os k =
+      ap (λ (i : ℕ). on && (not (endsAt i o) && all P (listFrom (λ i. i) 1 k))) (add-zero j)
+      ∙ and-assoc on (not (endsAt j o)) (all P (listFrom (λ i. i) 1 k))
+      ∙ ap (λ (b : Bool). on && not (endsAt j o) && b) shifted
+    where
+      P : ℕ → Bool
+      P i = not (endsAt (j + i) (outcomeAt (o ∷ os) i))
+
+      shifted : all P (listFrom (λ i. i) 1 k) ≡ all (λ i. not (endsAt (suc j + i) (outcomeAt os i))) (listFrom (λ i. i) 0 k)
+      shifted =
+          ap (all P) (listFrom-shift (λ i. i) suc k 0 (λ i. refl) ∙ sym (map-listFrom (λ i. i) suc k 0))
+          ∙ all-map P suc (listFrom (λ i. i) 0 k) ∙ simp (add-suc, suc-add)
+
+  pub chosen-at : (os : List Outcome) (j : ℕ) (on : Bool) (k : ℕ) → Chosen j on os → k < length os
+      → outcomeAt os k ≡ chosen (j + k) (goesOnFrom j on os k) (outcomeAt os k)
+  chosen-at [] j on k h l = absurd (omega arith)
+  chosen-at (o ∷ os) j on zero h l = rw (and-same on, add-zero j) (h .0)
+  chosen-at (o ∷ os) j on (suc k) h l = rw (goes-more j on o os k, add-suc, ← suc-add) (chosen-at os (suc j) (on && not (endsAt j o)) k (h .1) (omega arith))
