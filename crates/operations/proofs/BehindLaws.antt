@@ -1,6 +1,6 @@
 -- Which nodes behind a replaced subtree are recomputed, whatever the stored state sets are: the ancestors, nearest first,
 -- as long as work goes on; all others keep their stored sets. Assumes nothing.
-use mathlib.Core.Path.{_≡_, refl, ap, _∙_, sym, subst}
+use mathlib.Core.Path.{_≡_, refl, ap, ap₂, _∙_, sym, subst}
 use mathlib.Core.Bool.{Bool, true, false, not, cond, _&&_}
 use mathlib.Core.List.{List, [], _∷_, map}
 use Prim.Native.Nat.{ℕ, zero, suc, _+_, _<_, _≤_}
@@ -10,11 +10,10 @@ use lib.ListN.{length, getD, drop}
 use Rattle.words.specs.Lists.{all, count, listFrom}
 use Rattle.words.specs.Postfix.{arity, isAncestor, valueOn}
 use Rattle.words.proofs.TestLaws.{Tested, holds, fails, tested}
-use Rattle.words.proofs.ListLaws.{length-listFrom, listFrom-shift, listFrom-offset, map-listFrom, all-map, count-map}
+use Rattle.words.proofs.ListLaws.{listFrom-shift, map-listFrom, all-map, count-map}
 use Rattle.automaton.specs.StateSet.{StateSet}
-use Rattle.operations.specs.Marks.{sizeOf, nodeSet, sameWords}
+use Rattle.operations.specs.Marks.{nodeSet, sameWords}
 use Rattle.operations.specs.Exchange.{Outcome, kept, recomputed, setIn, isRecomputed, recomputedIn, keptFrom, climb, rootSet, outcomesBehind}
-use Rattle.operations.proofs.MarksLaws.{Sized, length-nodeSet}
 use Rattle.operations.proofs.ClimbLaws.{climb-beside, climb-last, climb-onward}
 
 -- the outcome of a node by its number
@@ -91,3 +90,38 @@ module _ (stored : ℕ → StateSet) (above : ℕ → Bool) where
   chosen-at [] j on k h l = absurd (omega arith)
   chosen-at (o ∷ os) j on zero h l = rw (and-same on, add-zero j) (h .0)
   chosen-at (o ∷ os) j on (suc k) h l = rw (goes-more j on o os k, add-suc, ← suc-add) (chosen-at os (suc j) (on && not (endsAt j o)) k (h .1) (omega arith))
+
+-- ---- how many are recomputed
+
+-- where a test tells which outcomes are recomputed, it counts them
+pub recomputed-count : (os : List Outcome) (f : ℕ → Bool) → ((k : ℕ) → k < length os → isRecomputed (outcomeAt os k) ≡ cond (f k) 1 0)
+    → recomputedIn os ≡ count f (listFrom (λ i. i) 0 (length os))
+unfolding recomputedIn
+recomputed-count [] f h = refl
+recomputed-count (o ∷ os) f h =
+    ap₂ (λ (x y : ℕ). x + y) (h 0 (omega arith))
+    (recomputed-count os (λ k. f (suc k)) (λ k l. h (suc k) (omega arith))
+    ∙ sym
+    (ap (count f) (listFrom-shift (λ i. i) suc (length os) 0 (λ i. refl) ∙ sym (map-listFrom (λ i. i) suc (length os) 0))
+    ∙ count-map f suc (listFrom (λ i. i) 0 (length os))))
+
+pub is-chosen : (o : Outcome) (b : Bool) (r s : StateSet) → o ≡ cond b (recomputed r) (kept s) → isRecomputed o ≡ cond b 1 0
+is-chosen o true r s e = ap isRecomputed e
+is-chosen o false r s e = ap isRecomputed e
+
+-- ---- the nodes behind the replaced subtree
+
+module _ (a table : List ℕ) (stored : ℕ → StateSet) (used : List ℕ) (e : ℕ) (xs : List ℕ) where
+  abbrev behind : List ℕ
+  behind = drop (e + 1) used
+
+  abbrev changed : Bool
+  changed = not (sameWords (rootSet a table xs) (stored e))
+
+  pub chosen-behind : Chosen stored (isAncestor a used e) (e + 1) changed (outcomesBehind a table stored used e xs)
+  unfolding outcomesBehind
+  chosen-behind = go (tested (sameWords (rootSet a table xs) (stored e)))
+    where
+      go : Tested (sameWords (rootSet a table xs) (stored e)) → Chosen stored (isAncestor a used e) (e + 1) changed (outcomesBehind a table stored used e xs)
+      go (holds b) = rw b (chosen-kept stored (isAncestor a used e) (length behind) (e + 1))
+      go (fails b) = rw b (chosen-climb stored (isAncestor a used e) a table behind (e + 1) _)

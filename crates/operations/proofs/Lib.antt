@@ -11,3 +11,4 @@ pub mod Demand3
 pub mod CompileLaws
 pub mod Demand2
 pub mod BehindLaws
+pub mod RuleLaws

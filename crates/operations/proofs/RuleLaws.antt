@@ -1,0 +1,171 @@
+-- Every recomputed node's state set comes from its children's as they stand in the outcomes: those just recomputed,
+-- otherwise those stored, whatever the stored sets are. Assumes nothing.
+use mathlib.Core.Path.{_≡_, refl, ap, ap₂, _∙_, sym, subst}
+use mathlib.Core.Bool.{Bool, true, false}
+use mathlib.Core.List.{List, [], _∷_, _++_, map}
+use Prim.Native.Nat.{ℕ, zero, suc, _+_, _<_, _≤_}
+use native.Mathlib.Omega.{arith}
+use lib.ListN.{length, getD, take, drop}
+use lib.Seq.{drop-cons, length-take-le}
+use Rattle.words.specs.Postfix.{arity, oneTree, startOf, isAncestor, splice, valueOn, values, stackAfter, stackGiven, childrenOf}
+use Rattle.words.proofs.TestLaws.{Tested, holds, fails, tested}
+use Rattle.words.proofs.ListLaws.{map-drop}
+use Rattle.words.proofs.PostfixLaws.{start-le}
+use Rattle.words.proofs.StackLaws.{read, Read}
+use Rattle.words.proofs.ChildLaws.{numbers, numbers-more, children-value}
+use Rattle.automaton.specs.StateSet.{StateSet}
+use Rattle.operations.specs.Marks.{nodeSet, nodeSets, sameWords}
+use Rattle.operations.specs.Exchange.{Outcome, kept, recomputed, setIn, keptFrom, climb, rootSet, outcomesBehind, outcomesAfter}
+use Rattle.operations.proofs.ClimbLaws.{climb-beside, climb-last, climb-onward}
+use Rattle.operations.proofs.OutcomeLaws.{root-read}
+use Rattle.operations.proofs.BehindLaws.{outcomeAt}
+
+module _ (a table : List ℕ) where
+  abbrev on : ℕ → List StateSet → StateSet
+  on = valueOn a (nodeSet table)
+
+  -- a recomputed set is this one
+  abbrev Is : Outcome → StateSet → Type 0
+  Is (kept r) v = Unit {0}
+  Is (recomputed r) v = r ≡ v
+
+  -- the outcomes of the words over a stack: each recomputed set is the one that the word and the stack give, and each set
+  -- goes on the stack
+  abbrev pub Follows : List ℕ → List StateSet → List Outcome → Type 0
+  Follows [] s [] = Unit {0}
+  Follows [] s (o ∷ os) = ⊥
+  Follows (w ∷ ws) s [] = ⊥
+  Follows (w ∷ ws) s (o ∷ os) = Is o (on w s) × Follows ws (setIn o ∷ drop (arity a w) s) os
+
+  -- the stack behind them
+  abbrev stackOf : List ℕ → List Outcome → List StateSet → List StateSet
+  stackOf [] os s = s
+  stackOf (w ∷ ws) [] s = s
+  stackOf (w ∷ ws) (o ∷ os) s = stackOf ws os (setIn o ∷ drop (arity a w) s)
+
+  pub follows-length : (ws : List ℕ) (s : List StateSet) (os : List Outcome) → Follows ws s os → length os ≡ length ws
+  follows-length [] s [] h = refl
+  follows-length [] s (o ∷ os) h = absurd h
+  follows-length (w ∷ ws) s [] h = absurd h
+  follows-length (w ∷ ws) s (o ∷ os) h = ap suc (follows-length ws (setIn o ∷ drop (arity a w) s) os (h .1))
+
+  follows-append : (ws vs : List ℕ) (s : List StateSet) (os qs : List Outcome) → Follows ws s os → Follows vs (stackOf ws os s) qs
+      → Follows (ws ++ vs) s (os ++ qs)
+  follows-append [] vs s [] qs h g = g
+  follows-append [] vs s (o ∷ os) qs h g = absurd h
+  follows-append (w ∷ ws) vs s [] qs h g = absurd h
+  follows-append (w ∷ ws) vs s (o ∷ os) qs h g = (h .0, follows-append ws vs (setIn o ∷ drop (arity a w) s) os qs (h .1) g)
+
+  -- ---- the three parts of the new tree
+
+  module _ (stored : ℕ → StateSet) where
+    follows-kept : (ws : List ℕ) (j : ℕ) (s : List StateSet) → Follows ws s (keptFrom stored j (length ws))
+    follows-kept [] j s = tt
+    follows-kept (w ∷ ws) j s = (tt, follows-kept ws (suc j) (stored j ∷ drop (arity a w) s))
+
+    stack-kept : (ws : List ℕ) (j : ℕ) (s : List StateSet) → stackOf ws (keptFrom stored j (length ws)) s ≡ stackGiven a stored j ws s
+    unfolding stackGiven
+    stack-kept [] j s = refl
+    stack-kept (w ∷ ws) j s = stack-kept ws (suc j) (stored j ∷ drop (arity a w) s)
+
+    follows-climb : (above : ℕ → Bool) (ws : List ℕ) (j : ℕ) (s : List StateSet) → Follows ws s (climb a table stored above j ws s)
+    unfolding climb
+    follows-climb above [] j s = tt
+    follows-climb above (w ∷ ws) j s =
+        go (tested (above j)) (tested (sameWords new (stored j))) (follows-climb above ws (suc j) (stored j ∷ rest)) (follows-climb above ws (suc j) (new ∷ rest))
+      where
+        new : StateSet
+        new = on w s
+
+        rest : List StateSet
+        rest = drop (arity a w) s
+
+        go : Tested (above j) → Tested (sameWords new (stored j)) → Follows ws (stored j ∷ rest) (climb a table stored above (suc j) ws (stored j ∷ rest))
+            → Follows ws (new ∷ rest) (climb a table stored above (suc j) ws (new ∷ rest)) → Follows (w ∷ ws) s (climb a table stored above j (w ∷ ws) s)
+        go (fails x) y l m = subst (Follows (w ∷ ws) s) (sym (climb-beside a table stored above j w ws s x)) (tt, l)
+        go (holds x) (holds y) l m = subst (Follows (w ∷ ws) s) (sym (climb-last a table stored above j w ws s x y)) (refl, follows-kept ws (suc j) (new ∷ rest))
+        go (holds x) (fails y) l m = subst (Follows (w ∷ ws) s) (sym (climb-onward a table stored above j w ws s x y)) (refl, m)
+
+  follows-values : (ws : List ℕ) (s : List StateSet) → Follows ws s (map recomputed (values a (nodeSet table) ws s))
+  unfolding values
+  follows-values [] s = tt
+  follows-values (w ∷ ws) s = (refl, follows-values ws (on w s ∷ drop (arity a w) s))
+
+  stack-values : (ws : List ℕ) (s : List StateSet) → stackOf ws (map recomputed (values a (nodeSet table) ws s)) s ≡ stackAfter a (nodeSet table) ws s
+  unfolding values stackAfter
+  stack-values [] s = refl
+  stack-values (w ∷ ws) s = stack-values ws (on w s ∷ drop (arity a w) s)
+
+  module _ (stored : ℕ → StateSet) (used : List ℕ) (e : ℕ) (xs : List ℕ) (he : e < length used) (hx : oneTree a xs ≡ true) where
+    σ : List StateSet
+    σ = stackGiven a stored 0 (take (startOf a used e) used) []
+
+    follows-replaced : Follows xs σ (map recomputed (nodeSets a table xs))
+    unfolding nodeSets
+    follows-replaced =
+        subst (λ (l : List StateSet). Follows xs σ (map recomputed l)) (read a (nodeSet table) xs hx .values-on σ) (follows-values xs σ)
+
+    stack-replaced : stackOf xs (map recomputed (nodeSets a table xs)) σ ≡ rootSet a table xs ∷ σ
+    unfolding nodeSets
+    stack-replaced =
+        ap (λ (l : List StateSet). stackOf xs (map recomputed l) σ) (sym (read a (nodeSet table) xs hx .values-on σ))
+        ∙ stack-values xs σ ∙ read a (nodeSet table) xs hx .stack-on σ
+        ∙ ap (λ (r : StateSet). r ∷ σ) (sym (root-read a table xs hx))
+
+    follows-behind : Follows (drop (e + 1) used) (rootSet a table xs ∷ σ) (outcomesBehind a table stored used e xs)
+    unfolding outcomesBehind σ
+    follows-behind = go (tested (sameWords (rootSet a table xs) (stored e)))
+      where
+        go : Tested (sameWords (rootSet a table xs) (stored e)) → Follows (drop (e + 1) used) (rootSet a table xs ∷ σ) (outcomesBehind a table stored used e xs)
+        go (holds b) = rw b (follows-kept stored (drop (e + 1) used) (e + 1) (rootSet a table xs ∷ σ))
+        go (fails b) = rw b (follows-climb stored (isAncestor a used e) (drop (e + 1) used) (e + 1) (rootSet a table xs ∷ σ))
+
+    pub follows-outcomes : Follows (splice a used e xs) [] (outcomesAfter a table stored used e xs)
+    unfolding splice outcomesAfter σ
+    follows-outcomes =
+        follows-append front (xs ++ drop (e + 1) used) [] (keptFrom stored 0 (startOf a used e)) _
+        (subst (λ (i : ℕ). Follows front [] (keptFrom stored 0 i)) many (follows-kept stored front 0 []))
+        (subst (λ (s : List StateSet). Follows (xs ++ drop (e + 1) used) s (map recomputed (nodeSets a table xs) ++ outcomesBehind a table stored used e xs)) (sym stack-front)
+        (follows-append xs (drop (e + 1) used) σ (map recomputed (nodeSets a table xs)) (outcomesBehind a table stored used e xs) follows-replaced
+        (subst (λ (s : List StateSet). Follows (drop (e + 1) used) s (outcomesBehind a table stored used e xs)) (sym stack-replaced) follows-behind)))
+      where
+        front : List ℕ
+        front = take (startOf a used e) used
+
+        many : length front ≡ startOf a used e
+        many = let le = start-le a used e in length-take-le (startOf a used e) used (omega arith)
+
+        stack-front : stackOf front (keptFrom stored 0 (startOf a used e)) [] ≡ σ
+        stack-front = ap (λ (i : ℕ). stackOf front (keptFrom stored 0 i) []) (sym many) ∙ stack-kept stored front 0 []
+
+  -- ---- by node number
+
+  module _ (ws : List ℕ) (os : List Outcome) (h : Follows ws [] os) where
+    abbrev setAt : ℕ → StateSet
+    setAt i = setIn (outcomeAt os i)
+
+    opened : (j : ℕ) (s : List StateSet) → j < length ws → Follows (drop j ws) s (drop j os)
+        → Follows (getD ws j 0 ∷ drop (suc j) ws) s (outcomeAt os j ∷ drop (suc j) os)
+    opened j s l g =
+        subst (λ (t : List ℕ). Follows t s (outcomeAt os j ∷ drop (suc j) os)) (drop-cons ws j 0 l)
+        (subst (Follows (drop j ws) s) (drop-cons os j (kept []) (omega (arith, follows-length ws [] os h))) g)
+
+    -- the words from j on, over the sets of the roots of the first j
+    follows-from : (j : ℕ) → j ≤ length ws → Follows (drop j ws) (map setAt (numbers a ws j)) (drop j os)
+    unfolding stackGiven
+    follows-from zero l = h
+    follows-from (suc j) l =
+        subst (λ (s : List StateSet). Follows (drop (suc j) ws) s (drop (suc j) os)) (sym stack)
+        (opened j (map setAt (numbers a ws j)) l (follows-from j (omega arith)) .1)
+      where
+        stack : map setAt (numbers a ws (suc j)) ≡ setAt j ∷ drop (arity a (getD ws j 0)) (map setAt (numbers a ws j))
+        stack =
+            ap (map setAt) (numbers-more a ws j l)
+            ∙ ap (λ (t : List StateSet). setAt j ∷ t) (map-drop setAt (arity a (getD ws j 0)) (numbers a ws j))
+
+    pub from-children : (j : ℕ) (r : StateSet) → j < length ws → outcomeAt os j ≡ recomputed r
+        → r ≡ nodeSet table (getD ws j 0) (map (λ i. setIn (outcomeAt os i)) (childrenOf a ws j))
+    from-children j r l e =
+        subst (λ (o : Outcome). Is o (on (getD ws j 0) (map setAt (numbers a ws j)))) e
+        (opened j (map setAt (numbers a ws j)) l (follows-from j (omega arith)) .0)
+        ∙ sym (children-value a ws (nodeSet table) setAt j (map setAt (numbers a ws j)) refl)
