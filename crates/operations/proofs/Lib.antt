@@ -12,3 +12,4 @@ pub mod CompileLaws
 pub mod Demand2
 pub mod BehindLaws
 pub mod RuleLaws
+pub mod OutcomeParts

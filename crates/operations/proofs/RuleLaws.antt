@@ -120,6 +120,9 @@ module _ (a table : List ℕ) where
         go (holds b) = rw b (follows-kept stored (drop (e + 1) used) (e + 1) (rootSet a table xs ∷ σ))
         go (fails b) = rw b (follows-climb stored (isAncestor a used e) (drop (e + 1) used) (e + 1) (rootSet a table xs ∷ σ))
 
+    pub length-behind : length (outcomesBehind a table stored used e xs) ≡ length (drop (e + 1) used)
+    length-behind = follows-length (drop (e + 1) used) (rootSet a table xs ∷ σ) (outcomesBehind a table stored used e xs) follows-behind
+
     pub follows-outcomes : Follows (splice a used e xs) [] (outcomesAfter a table stored used e xs)
     unfolding splice outcomesAfter σ
     follows-outcomes =

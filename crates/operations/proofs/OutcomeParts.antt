@@ -1,0 +1,183 @@
+-- The outcomes of an exchange by node number, whatever the stored state sets are: those before the replaced subtree, those of
+-- the replacement, those behind; and how many are recomputed. Assumes nothing.
+use mathlib.Core.Path.{_≡_, refl, ap, ap₂, _∙_, sym, subst}
+use mathlib.Core.Bool.{Bool, true, false, not, cond, _&&_}
+use mathlib.Core.List.{List, [], _∷_, _++_, map}
+use Prim.Native.Nat.{ℕ, zero, suc, _+_, _-_, _<_, _≤_}
+use native.Mathlib.Omega.{arith}
+use native.Mathlib.Nat.{zero-add, add-zero, add-assoc}
+use native.Mathlib.Numerals.{add-one}
+use lib.ListN.{length, getD, take, drop, length-drop, length-map, List·getD-append, List·getD-map}
+use lib.Seq.{getD-append-add, take-suc, take-length, length-take-le}
+use Rattle.words.specs.Lists.{all, count, listFrom}
+use Rattle.words.specs.Postfix.{oneTree, startOf, isAncestor, depthOf, values, stackAfter}
+use Rattle.words.proofs.TestLaws.{and-true}
+use Rattle.words.proofs.ListLaws.{length-listFrom, listFrom-add, getD-listFrom, listFrom-getD, listFrom-offset, map-listFrom, count-append, count-map}
+use Rattle.words.proofs.CountLaws.{count-wider}
+use Rattle.words.proofs.StackLaws.{length-values, read, Right, list-right, right-last}
+use Rattle.automaton.specs.StateSet.{StateSet}
+use Rattle.operations.specs.Marks.{nodeSet, nodeSets, sameWords}
+use Rattle.operations.specs.Exchange.{Outcome, kept, recomputed, setIn, isRecomputed, recomputedIn, keptFrom, rootSet, outcomesBehind, outcomesAfter}
+use Rattle.operations.proofs.MarksLaws.{length-nodeSets}
+use Rattle.operations.proofs.OutcomeLaws.{root-read}
+use Rattle.operations.proofs.BehindLaws.{outcomeAt, chosen, goesOnFrom, chosen-at, chosen-behind, recomputed-count, is-chosen}
+use Rattle.operations.proofs.RuleLaws.{length-behind}
+
+-- the last state set of a tree is its root's
+pub root-last : (a table xs : List ℕ) → oneTree a xs ≡ true → 0 < length xs → getD (nodeSets a table xs) (length xs - 1) [] ≡ rootSet a table xs
+unfolding nodeSets
+root-last a table xs h l =
+    ap f (sym place)
+    ∙ right-last a (nodeSet table) f (take m xs) (getD xs m 0) 0 [] [] (read a (nodeSet table) xs h .root)
+    (subst (λ (t : List ℕ). Right a (nodeSet table) f 0 t []) parts right)
+    (ap (λ (t : List ℕ). stackAfter a (nodeSet table) t []) (sym parts) ∙ read a (nodeSet table) xs h .alone)
+    ∙ sym (root-read a table xs h)
+  where
+    vs : List StateSet
+    vs = values a (nodeSet table) xs []
+
+    f : ℕ → StateSet
+    f i = getD vs i []
+
+    m : ℕ
+    m = length xs - 1
+
+    parts : xs ≡ take m xs ++ getD xs m 0 ∷ []
+    parts =
+        let n : length xs ≡ suc m = omega arith in
+        sym (take-length xs) ∙ ap (λ (i : ℕ). take i xs) n ∙ take-suc xs m 0 (omega arith)
+
+    place : 0 + length (take m xs) ≡ m
+    place = zero-add _ ∙ length-take-le m xs (omega arith)
+
+    right : Right a (nodeSet table) f 0 xs []
+    right =
+        list-right a (nodeSet table) f xs 0 []
+        (ap (listFrom f 0) (sym (length-values a (nodeSet table) xs [])) ∙ listFrom-getD [] vs)
+
+module _ (a table : List ℕ) (stored : ℕ → StateSet) (used : List ℕ) (e : ℕ) (xs : List ℕ) where
+  abbrev start : ℕ
+  start = startOf a used e
+
+  abbrev front : List Outcome
+  front = keptFrom stored 0 start
+
+  abbrev replaced : List Outcome
+  replaced = map recomputed (nodeSets a table xs)
+
+  abbrev rest : List Outcome
+  rest = outcomesBehind a table stored used e xs
+
+  abbrev os : List Outcome
+  os = outcomesAfter a table stored used e xs
+
+  length-front : length front ≡ start
+  length-front = length-listFrom (λ i. kept (stored i)) start 0
+
+  length-replaced : length replaced ≡ length xs
+  length-replaced = length-map (nodeSets a table xs) recomputed ∙ length-nodeSets a table xs
+
+  -- ---- by node number
+
+  pub outcome-before : (j : ℕ) → j < start → outcomeAt os j ≡ kept (stored j)
+  unfolding outcomesAfter
+  outcome-before j l =
+      List·getD-append front (replaced ++ rest) (kept []) j (rw length-front l)
+      ∙ getD-listFrom (λ i. kept (stored i)) (kept []) start 0 j l ∙ ap (λ (i : ℕ). kept (stored i)) (zero-add j)
+
+  pub outcome-replaced : (k : ℕ) → k < length xs → outcomeAt os (start + k) ≡ recomputed (getD (nodeSets a table xs) k [])
+  unfolding outcomesAfter
+  outcome-replaced k l =
+      ap (λ (i : ℕ). outcomeAt os (i + k)) (sym length-front)
+      ∙ getD-append-add front (replaced ++ rest) k (kept [])
+      ∙ List·getD-append replaced rest (kept []) k (rw length-replaced l)
+      ∙ getD-replaced (nodeSets a table xs) k (rw (length-nodeSets a table xs) l)
+    where
+      getD-replaced : (rs : List StateSet) (k : ℕ) → k < length rs → getD (map recomputed rs) k (kept []) ≡ recomputed (getD rs k [])
+      getD-replaced [] k l = absurd (omega arith)
+      getD-replaced (r ∷ rs) zero l = refl
+      getD-replaced (r ∷ rs) (suc k) l = getD-replaced rs k (omega arith)
+
+  pub outcome-behind : (k : ℕ) → outcomeAt os (start + length xs + k) ≡ outcomeAt rest k
+  unfolding outcomesAfter
+  outcome-behind k =
+      ap (outcomeAt os) (add-assoc start (length xs) k)
+      ∙ ap₂ (λ (i j : ℕ). outcomeAt os (i + (j + k))) (sym length-front) (sym length-replaced)
+      ∙ getD-append-add front (replaced ++ rest) (length replaced + k) (kept [])
+      ∙ getD-append-add replaced rest k (kept [])
+
+  -- ---- how many are recomputed
+
+  recomputed-append : (l k : List Outcome) → recomputedIn (l ++ k) ≡ recomputedIn l + recomputedIn k
+  unfolding recomputedIn
+  recomputed-append [] k = sym (zero-add (recomputedIn k))
+  recomputed-append (o ∷ l) k =
+      ap (λ (i : ℕ). isRecomputed o + i) (recomputed-append l k) ∙ sym (add-assoc (isRecomputed o) (recomputedIn l) (recomputedIn k))
+
+  none-kept : (n j : ℕ) → recomputedIn (keptFrom stored j n) ≡ 0
+  unfolding recomputedIn
+  none-kept zero j = refl
+  none-kept (suc n) j = zero-add (recomputedIn (keptFrom stored (suc j) n)) ∙ none-kept n (suc j)
+
+  all-recomputed : (rs : List StateSet) → recomputedIn (map recomputed rs) ≡ length rs
+  unfolding recomputedIn
+  all-recomputed [] = refl
+  all-recomputed (r ∷ rs) = let ih = all-recomputed rs in omega arith
+
+  pub recomputed-parts : recomputedIn os ≡ length xs + recomputedIn rest
+  unfolding outcomesAfter
+  recomputed-parts =
+      recomputed-append front (replaced ++ rest)
+      ∙ ap₂ (λ (x y : ℕ). x + y) (none-kept start 0) (recomputed-append replaced rest)
+      ∙ zero-add (recomputedIn replaced + recomputedIn rest)
+      ∙ ap (λ (i : ℕ). i + recomputedIn rest) (all-recomputed (nodeSets a table xs) ∙ length-nodeSets a table xs)
+
+  -- ---- the nodes behind
+
+  abbrev changed : Bool
+  changed = not (sameWords (rootSet a table xs) (stored e))
+
+  -- work goes on up to the node k places behind the replaced subtree
+  abbrev goes : ℕ → Bool
+  goes k = goesOnFrom stored (isAncestor a used e) (e + 1) changed rest k
+
+  module _ (he : e < length used) (hx : oneTree a xs ≡ true) where
+    many : length rest ≡ length (drop (e + 1) used)
+    many = length-behind a table stored used e xs he hx
+
+    pub chosen-rest : (k : ℕ) → k < length (drop (e + 1) used)
+        → outcomeAt rest k ≡ chosen stored (isAncestor a used e) (e + 1 + k) (goes k) (outcomeAt rest k)
+    chosen-rest k l =
+        chosen-at stored (isAncestor a used e) rest (e + 1) changed k (chosen-behind a table stored used e xs) (rw many l)
+
+    pub count-rest : recomputedIn rest ≡ count (λ k. goes k && isAncestor a used e (e + 1 + k)) (listFrom (λ i. i) 0 (length (drop (e + 1) used)))
+    count-rest =
+        recomputed-count rest (λ k. goes k && isAncestor a used e (e + 1 + k))
+        (λ k l. is-chosen (outcomeAt rest k) (goes k && isAncestor a used e (e + 1 + k)) (setIn (outcomeAt rest k)) (stored (e + 1 + k)) (chosen-rest k (rw (← many) l)))
+        ∙ ap (λ (n : ℕ). count (λ k. goes k && isAncestor a used e (e + 1 + k)) (listFrom (λ i. i) 0 n)) many
+
+    -- "it is at most the replacement's elements plus the depth of the place"
+    pub count-most : recomputedIn rest ≤ depthOf a used e
+    unfolding depthOf
+    count-most =
+        let w = count-wider (λ k. goes k && above (e + 1 + k)) (λ k. above (e + 1 + k)) (λ k h. and-true (goes k) (above (e + 1 + k)) h .1) (listFrom (λ i. i) 0 m) in
+        omega (arith, count-rest, shifted, parts)
+      where
+        above : ℕ → Bool
+        above = isAncestor a used e
+
+        m : ℕ
+        m = length (drop (e + 1) used)
+
+        shifted : count above (listFrom (λ i. i) (e + 1) m) ≡ count (λ k. above (e + 1 + k)) (listFrom (λ i. i) 0 m)
+        shifted =
+            ap (λ (j : ℕ). count above (listFrom (λ i. i) j m)) (sym (add-zero (e + 1)))
+            ∙ ap (count above) (sym (map-listFrom (λ i. i) (λ k. e + 1 + k) m 0 ∙ listFrom-offset (λ i. i) (e + 1) m 0))
+            ∙ count-map above (λ k. e + 1 + k) (listFrom (λ i. i) 0 m)
+
+        parts : count above (listFrom (λ i. i) 0 (length used)) ≡ count above (listFrom (λ i. i) 0 (e + 1)) + count above (listFrom (λ i. i) (e + 1) m)
+        parts =
+            let n : length used ≡ e + 1 + m = rw (length-drop (e + 1) used) (omega arith) in
+            ap (λ (i : ℕ). count above (listFrom (λ k. k) 0 i)) n
+            ∙ ap (count above) (listFrom-add (λ i. i) (e + 1) m 0 ∙ ap (λ (j : ℕ). listFrom (λ i. i) 0 (e + 1) ++ listFrom (λ i. i) j m) (zero-add (e + 1)))
+            ∙ count-append above (listFrom (λ i. i) 0 (e + 1)) (listFrom (λ i. i) (e + 1) m)
