@@ -14,11 +14,8 @@ use Rattle.words.proofs.ListLaws.{listFrom-shift, map-listFrom, all-map, count-
 use Rattle.automaton.specs.StateSet.{StateSet}
 use Rattle.operations.specs.Marks.{nodeSet, sameWords}
 use Rattle.operations.specs.Exchange.{Outcome, kept, recomputed, setIn, isRecomputed, recomputedIn, keptFrom, climb, rootSet, outcomesBehind}
+use Rattle.operations.proofs.Recomputation.{outcomeAt}
 use Rattle.operations.proofs.ClimbLaws.{climb-beside, climb-last, climb-onward}
-
--- the outcome of a node by its number
-abbrev pub outcomeAt : List Outcome → ℕ → Outcome
-outcomeAt os i = getD os i (kept [])
 
 module _ (stored : ℕ → StateSet) (above : ℕ → Bool) where
   -- work ends at node j with this outcome: it is an ancestor, and its words are as stored

@@ -13,3 +13,5 @@ pub mod Demand2
 pub mod BehindLaws
 pub mod RuleLaws
 pub mod OutcomeParts
+pub mod Recomputed
+pub mod Recomputation

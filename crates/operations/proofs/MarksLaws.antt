@@ -46,9 +46,9 @@ module _ (a table : List ℕ) where
 -- ---- state sets one behind the other
 
 module _ (size : ℕ) where
-  pub sized-append : (rs ts : List StateSet) → Sized size rs → Sized size ts → Sized size (rs ++ ts)
-  sized-append [] ts h g = g
-  sized-append (r ∷ rs) ts h g = (h .0, sized-append rs ts (h .1) g)
+  pub sized-getD : (rs : List StateSet) → ((j : ℕ) → j < length rs → length (getD rs j []) ≡ size) → Sized size rs
+  sized-getD [] h = tt
+  sized-getD (r ∷ rs) h = (h 0 (omega arith), sized-getD rs (λ j l. h (suc j) (omega arith)))
 
   pub length-flatten : (rs : List StateSet) → Sized size rs → length (flatten rs) ≡ length rs * size
   unfolding flatten

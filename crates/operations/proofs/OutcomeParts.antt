@@ -20,7 +20,8 @@ use Rattle.operations.specs.Marks.{nodeSet, nodeSets, sameWords}
 use Rattle.operations.specs.Exchange.{Outcome, kept, recomputed, setIn, isRecomputed, recomputedIn, keptFrom, rootSet, outcomesBehind, outcomesAfter}
 use Rattle.operations.proofs.MarksLaws.{length-nodeSets}
 use Rattle.operations.proofs.OutcomeLaws.{root-read}
-use Rattle.operations.proofs.BehindLaws.{outcomeAt, chosen, goesOnFrom, chosen-at, chosen-behind, recomputed-count, is-chosen}
+use Rattle.operations.proofs.Recomputation.{outcomeAt, goesOn, reached}
+use Rattle.operations.proofs.BehindLaws.{chosen-at, chosen-behind, recomputed-count, is-chosen}
 use Rattle.operations.proofs.RuleLaws.{length-behind}
 
 -- the last state set of a tree is its root's
@@ -134,33 +135,31 @@ module _ (a table : List ℕ) (stored : ℕ → StateSet) (used : List ℕ) (e :
 
   -- ---- the nodes behind
 
-  abbrev changed : Bool
-  changed = not (sameWords (rootSet a table xs) (stored e))
-
-  -- work goes on up to the node k places behind the replaced subtree
-  abbrev goes : ℕ → Bool
-  goes k = goesOnFrom stored (isAncestor a used e) (e + 1) changed rest k
+  abbrev reaches : ℕ → Bool
+  reaches k = reached a table stored used e xs k
 
   module _ (he : e < length used) (hx : oneTree a xs ≡ true) where
     many : length rest ≡ length (drop (e + 1) used)
     many = length-behind a table stored used e xs he hx
 
-    pub chosen-rest : (k : ℕ) → k < length (drop (e + 1) used)
-        → outcomeAt rest k ≡ chosen stored (isAncestor a used e) (e + 1 + k) (goes k) (outcomeAt rest k)
-    chosen-rest k l =
-        chosen-at stored (isAncestor a used e) rest (e + 1) changed k (chosen-behind a table stored used e xs) (rw many l)
+    pub outcome-rest : (k : ℕ) → k < length (drop (e + 1) used)
+        → outcomeAt os (start + length xs + k) ≡ cond (reaches k) (recomputed (setIn (outcomeAt os (start + length xs + k)))) (kept (stored (e + 1 + k)))
+    outcome-rest k l =
+        simp outcome-behind
+        (chosen-at stored (isAncestor a used e) rest (e + 1) (not (sameWords (rootSet a table xs) (stored e))) k (chosen-behind a table stored used e xs) (rw many l))
 
-    pub count-rest : recomputedIn rest ≡ count (λ k. goes k && isAncestor a used e (e + 1 + k)) (listFrom (λ i. i) 0 (length (drop (e + 1) used)))
+    pub count-rest : recomputedIn rest ≡ count reaches (listFrom (λ i. i) 0 (length (drop (e + 1) used)))
     count-rest =
-        recomputed-count rest (λ k. goes k && isAncestor a used e (e + 1 + k))
-        (λ k l. is-chosen (outcomeAt rest k) (goes k && isAncestor a used e (e + 1 + k)) (setIn (outcomeAt rest k)) (stored (e + 1 + k)) (chosen-rest k (rw (← many) l)))
-        ∙ ap (λ (n : ℕ). count (λ k. goes k && isAncestor a used e (e + 1 + k)) (listFrom (λ i. i) 0 n)) many
+        recomputed-count rest reaches
+        (λ k l. is-chosen (outcomeAt rest k) (reaches k) (setIn (outcomeAt os (start + length xs + k))) (stored (e + 1 + k))
+        (sym (outcome-behind k) ∙ outcome-rest k (rw (← many) l)))
+        ∙ ap (λ (n : ℕ). count reaches (listFrom (λ i. i) 0 n)) many
 
     -- "it is at most the replacement's elements plus the depth of the place"
     pub count-most : recomputedIn rest ≤ depthOf a used e
     unfolding depthOf
     count-most =
-        let w = count-wider (λ k. goes k && above (e + 1 + k)) (λ k. above (e + 1 + k)) (λ k h. and-true (goes k) (above (e + 1 + k)) h .1) (listFrom (λ i. i) 0 m) in
+        let w = count-wider reaches (λ k. above (e + 1 + k)) (λ k h. and-true (goesOn a table stored used e xs k) (above (e + 1 + k)) h .1) (listFrom (λ i. i) 0 m) in
         omega (arith, count-rest, shifted, parts)
       where
         above : ℕ → Bool

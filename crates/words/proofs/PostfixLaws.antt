@@ -7,7 +7,7 @@ use native.Mathlib.Omega.{arith}
 use native.Mathlib.Decide.{decLe}
 use native.Mathlib.Numerals.{add-one}
 use native.Mathlib.Nat.{zero-add, suc-add, add-zero}
-use lib.ListN.{length, getD, take, drop, length-take, take-append-drop}
+use lib.ListN.{length, getD, take, drop, length-append, length-take, take-append-drop}
 use lib.Seq.{slice, take-suc, drop-append-le, length-take-le, slice-empty, take-take}
 use lib.Dec.{leb, eqb}
 use borrow.Author.Tests.{le-leb, lt-leb, leb-true, eq-eqb, eqb-true}
@@ -197,3 +197,11 @@ module _ (a ch : List ℕ) (e : ℕ) (h : oneTree a ch ≡ true) (he : e < lengt
   pub splice-tree : (x : List ℕ) → oneTree a x ≡ true → oneTree a (splice a ch e x) ≡ true
   unfolding splice
   splice-tree x hx = trees-replace a front sub x behind sub-tree hx (rw parts-tree h)
+
+pub length-splice : (a ch : List ℕ) (e : ℕ) (x : List ℕ) → e < length ch
+    → length (splice a ch e x) ≡ startOf a ch e + (length x + length (drop (e + 1) ch))
+unfolding splice
+length-splice a ch e x he =
+    let le = start-le a ch e in
+    length-append (take (startOf a ch e) ch) (x ++ drop (e + 1) ch)
+    ∙ ap₂ (λ (i j : ℕ). i + j) (length-take-le (startOf a ch e) ch (omega arith)) (length-append x (drop (e + 1) ch))
