@@ -7,7 +7,6 @@ use mathlib.Core.List.{List, [], _∷_, _++_, map}
 use lib.ListN.{length}
 use native.Mathlib.Nat.{suc-add, add-zero, add-suc}
 use Rattle.words.specs.Tree.{Tree}
-use Rattle.words.proofs.AllLaws.{All}
 use Rattle.language.specs.Expression.{Expression, Expressions, symbol, empty, union, product, closure, noneᵉ, moreᵉ}
 use Rattle.language.specs.Membership.{Language, Assignment, constant, atConstant, Member}
 use Rattle.language.proofs.SubstitutionLaws.{assigned, Under, constant-under}

@@ -1,22 +1,21 @@
 -- The last word of an expression over an alphabet: its arity, its states and its own transitions are those of the
 -- expression numbered as a tree. Assumes nothing.
-use Prim.Native.Nat.{ℕ, zero, suc, _+_, _<_, _≤_, _%_}
+use Prim.Native.Nat.{ℕ, suc, _+_, _<_, _≤_, _%_}
 use mathlib.Core.Path.{_≡_, refl, sym, _∙_, ap, ap₂}
-use mathlib.Core.Bool.{Bool, true, false, not, cond}
-use mathlib.Core.List.{List, [], _∷_, _++_}
+use mathlib.Core.Bool.{true, false, not, cond}
+use mathlib.Core.List.{List, [], _∷_}
 use native.Mathlib.Omega.{arith}
 use native.Mathlib.Nat.{add-suc, suc-add}
 use native.Mathlib.Numerals.{add-one}
 use lib.ListN.{length}
 use lib.Dec.{eqb, eqb·suc-zero}
-use Rattle.words.specs.Word.{Kind, symbolKind, emptyKind, unionKind, productKind, closureKind, kindNumber, kindOf, hasKind, wordOf, lowByte}
-use Rattle.words.specs.Alphabet.{rankOf, isConstant, constantsOf}
+use Rattle.words.specs.Word.{Kind, symbolKind, emptyKind, unionKind, productKind, closureKind, kindNumber, hasKind, wordOf, lowByte}
+use Rattle.words.specs.Alphabet.{rankOf, constantsOf}
 use Rattle.words.specs.Postfix.{arity, arityAt}
 use Rattle.words.proofs.KindLaws.{numberOf-wordOf, kindOf-wordOf, lowByte-wordOf}
 use Rattle.words.proofs.AlphabetLaws.{isConstant-zero}
 use Rattle.language.specs.Expression.{Expression, Expressions, symbol, empty, union, product, closure, noneᵉ, moreᵉ, numberᵉ, ExpressionOver}
-use Rattle.automaton.specs.Transition.{Transition}
-use Rattle.automaton.specs.Numbering.{Port, numbered, hasEntries, statesOf, ownEntry, portOf, symbolTransitions, unionTransitions, productTransitions, closureTransitions, childPort, ownTransitions}
+use Rattle.automaton.specs.Numbering.{Port, numbered, hasEntries, statesOf, ownEntry, portOf, symbolTransitions, productTransitions, closureTransitions, childPort, ownTransitions}
 use Rattle.automaton.proofs.TreeNumbering.{next, exitState, port, ports, own}
 
 abbrev pub lastWord : Expression → ℕ

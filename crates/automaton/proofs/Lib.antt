@@ -13,8 +13,10 @@ pub mod ClosureLaws
 pub mod TreeSets
 pub mod EntryLaws
 pub mod TreeNumbering
+pub mod ReachedBy
 pub mod Completeness
 pub mod IntendedLanguages
+pub mod IntendedTransitions
 pub mod Soundness
 pub mod Thompson
 pub mod LastWord

@@ -1,75 +1,27 @@
 -- Every tree that reaches an expression's exit is a member of its language: no transition leaves the languages intended for
 -- the states. Assumes nothing.
-use Prim.Native.Nat.{ℕ, suc}
+use Prim.Native.Nat.{ℕ}
 use mathlib.Core.Path.{_≡_, refl, subst}
-use mathlib.Core.Logic.{_⊎_, inl, inr, _↔_}
+use mathlib.Core.Logic.{inl, inr, _↔_}
 use mathlib.Core.Bool.{Bool, true, false, cond}
-use mathlib.Core.List.{List, [], _∷_, _++_, flatMap}
+use mathlib.Core.List.{List, [], _∷_, _++_}
 use lib.Dec.{eqb}
 use borrow.Author.Tests.{eqb-true, eqb-false}
 use native.Mathlib.Decide.{ℕ-discrete}
 use Rattle.words.specs.Tree.{Tree, Trees, node, none, more}
-use Rattle.words.proofs.AllLaws.{All, all-append, all-at, all-map}
+use Rattle.words.proofs.AllLaws.{All, all-append, all-map}
 use Rattle.language.specs.Expression.{Expression, Expressions, symbol, empty, union, product, closure, noneᵉ, moreᵉ}
 use Rattle.language.specs.Membership.{Language, Assignment, constant, Substitutions, atSymbol, atNone, atMore, Member, Members}
 use Rattle.language.proofs.SubstitutionLaws.{itself, assigned, Under, product-out, closure-base, closure-step}
-use Rattle.automaton.specs.Transition.{Transition, onSymbol, epsilon}
+use Rattle.automaton.specs.Transition.{Transition, onSymbol}
 use Rattle.automaton.specs.Numbering.{epsilons, fan}
-use Rattle.automaton.specs.Reached.{Reaches, ReachesAll, onNode, onEpsilon, onNone, onMore}
-use Rattle.automaton.proofs.EntryLaws.{constantTransitions, every-found, to-epsilons, to-fan, to-constants}
+use Rattle.automaton.specs.Reached.{Reaches}
+use Rattle.automaton.proofs.EntryLaws.{constantTransitions, to-epsilons, to-constants}
 use Rattle.automaton.proofs.TreeNumbering.{next, exitState, entryStates, entry, exits, childEntries, own, transitionsOf, transitionsOfAll, treeTransitions}
-use Rattle.automaton.proofs.IntendedLanguages.{Intended, Has, has-left, nth, has-nth, block, symbolBlock, languages, languagesAll, behind-part, exit-is, EntriesAre, entries-are}
-
--- ---- transitions that keep to the intended languages
-
--- each child belongs to its state's language
-abbrev Intend : Intended → List ℕ → Trees → Type 0
-Intend I [] none = Unit {0}
-Intend I [] (more t ts) = ⊥
-Intend I (p ∷ ps) none = ⊥
-Intend I (p ∷ ps) (more t ts) = I p t × Intend I ps ts
-
-abbrev Keeps : Intended → Transition → Type 0
-Keeps I (onSymbol f ps q) = (us : Trees) → Intend I ps us → I q (node f us)
-Keeps I (epsilon p q) = (t : Tree) → I p t → I q t
-
--- what is reached is then intended
-module _ (I : Intended) (ts : List Transition) (k : All (Keeps I) ts) where
-  mutual
-    intended : {q : ℕ} {t : Tree} → Reaches ts q t → I q t
-    intended (onNode {us = us} m r) = all-at (Keeps I) ts k m us (intended-all r)
-    intended (onEpsilon {t = t} m r) = all-at (Keeps I) ts k m t (intended r)
-
-    intended-all : {ps : List ℕ} {us : Trees} → ReachesAll ts ps us → Intend I ps us
-    intended-all onNone = tt
-    intended-all (onMore r rs) = (intended r, intended-all rs)
+use Rattle.automaton.proofs.IntendedLanguages.{Intended, Has, has-left, nth, has-nth, block, symbolBlock, languages, languagesAll, behind-part, exit-is, entries-are}
+use Rattle.automaton.proofs.IntendedTransitions.{Intend, Keeps, intended, Into, into-append, into-entry, into-children, keeps-fan}
 
 module _ (cs : List ℕ) (I : Intended) where
-  -- whatever is intended for q is intended for each state of a list
-  abbrev Into : ℕ → List ℕ → Type 0
-  Into q ps = All (λ p. (t : Tree) → I q t → I p t) ps
-
-  into-append : (q : ℕ) (ps rs : List ℕ) → Into q ps → Into q rs → Into q (ps ++ rs)
-  into-append q ps rs = all-append (λ p. (t : Tree) → I q t → I p t) ps rs
-
-  into-entry : (E : Expression) (n : ℕ) (σ : Assignment) → Has I n (languages cs E σ) → (c q : ℕ) → ((t : Tree) → I q t → σ c t) → Into q (entry cs E n c)
-  into-entry E n σ h c q f =
-      all-map (λ p. (t : Tree) → I p t ↔ σ c t) (λ p. (t : Tree) → I q t → I p t) (λ p e t i. e t .1 (f t i)) (entry cs E n c)
-      (every-found (λ b p. (t : Tree) → I p t ↔ σ b t) c (entryStates cs E n) (entries-are cs I E n σ h))
-
-  into-children : (es : Expressions) (n : ℕ) (σ : Assignment) → Has I n (languagesAll cs es σ) → (c q : ℕ) → ((t : Tree) → I q t → σ c t) → Into q (childEntries cs es n c)
-  unfolding flatMap
-  into-children noneᵉ n σ h c q f = tt
-  into-children (moreᵉ e es) n σ h c q f =
-      into-append q (entry cs e n c) (childEntries cs es (next cs e n) c)
-      (into-entry e n σ (has-left I n (languages cs e σ) (languagesAll cs es σ) h) c q f)
-      (into-children es (next cs e n) σ (behind-part cs I e n σ (languagesAll cs es σ) h) c q f)
-
-  keeps-fan : (σ : Assignment) (es : List (ℕ × ℕ)) (targets : ℕ → List ℕ) → EntriesAre cs I σ es → ((c q : ℕ) → ((t : Tree) → I q t → σ c t) → Into q (targets c)) → All (Keeps I) (fan es targets)
-  keeps-fan σ es targets h f =
-      to-fan (Keeps I) targets es
-      (all-map (λ e. (t : Tree) → I (e .1) t ↔ σ (e .0) t) (λ e. Into (e .1) (targets (e .0))) (λ e x. f (e .0) (e .1) (λ t i. x t .0 i)) es h)
-
   -- ---- the own transitions of each word
 
   keeps-union : (F G : Expression) (n : ℕ) (σ : Assignment) → Has I n (languages cs (union F G) σ) → All (Keeps I) (own cs (union F G) n)
@@ -77,8 +29,8 @@ module _ (cs : List ℕ) (I : Intended) where
     λ t i. let d = exit-is cs I F n σ hF t .0 i in out t (d .0, inl (d .1), d .2),
     (
       λ t i. let d = exit-is cs I G g σ hG t .0 i in out t (d .0, inr (d .1), d .2),
-      keeps-fan σ (entryStates cs (union F G) n) (λ c. entry cs F n c ++ entry cs G g c) (entries-are cs I (union F G) n σ h)
-          (λ c q f. into-append q (entry cs F n c) (entry cs G g c) (into-entry F n σ hF c q f) (into-entry G g σ hG c q f)),
+      keeps-fan cs I σ (entryStates cs (union F G) n) (λ c. entry cs F n c ++ entry cs G g c) (entries-are cs I (union F G) n σ h)
+          (λ c q f. into-append I q (entry cs F n c) (entry cs G g c) (into-entry cs I F n σ hF c q f) (into-entry cs I G g σ hG c q f)),
     ),
   )
     where
@@ -101,9 +53,9 @@ module _ (cs : List ℕ) (I : Intended) where
   keeps-product c F G n σ h = (
     λ t i. exit-is cs I (product c F G) n σ h t .1 (product-out c (Member F) (Member G) σ t (exit-is cs I F n τ hF t .0 i)),
     all-append (Keeps I) (epsilons (exitState cs G g) (entry cs F n c)) (fan (entryStates cs (product c F G) n) (λ a. but-c a (eqb a c) ++ entry cs G g a))
-        (to-epsilons (Keeps I) (exitState cs G g) (entry cs F n c) (into-entry F n τ hF c (exitState cs G g) (λ t i. inl (refl, exit-is cs I G g σ hG t .0 i))))
-        (keeps-fan σ (entryStates cs (product c F G) n) (λ a. but-c a (eqb a c) ++ entry cs G g a) (entries-are cs I (product c F G) n σ h)
-        (λ a q f. into-append q (but-c a (eqb a c)) (entry cs G g a) (into-F a q f (eqb a c) refl) (into-entry G g σ hG a q f))),
+        (to-epsilons (Keeps I) (exitState cs G g) (entry cs F n c) (into-entry cs I F n τ hF c (exitState cs G g) (λ t i. inl (refl, exit-is cs I G g σ hG t .0 i))))
+        (keeps-fan cs I σ (entryStates cs (product c F G) n) (λ a. but-c a (eqb a c) ++ entry cs G g a) (entries-are cs I (product c F G) n σ h)
+        (λ a q f. into-append I q (but-c a (eqb a c)) (entry cs G g a) (into-F a q f (eqb a c) refl) (into-entry cs I G g σ hG a q f))),
   )
     where
       g : ℕ
@@ -124,17 +76,17 @@ module _ (cs : List ℕ) (I : Intended) where
       hG : Has I g (languages cs G σ)
       hG = has-left I g (languages cs G σ) B (behind-part cs I F n τ (languages cs G σ ++ B) h)
 
-      into-F : (a q : ℕ) → ((t : Tree) → I q t → σ a t) → (b : Bool) → eqb a c ≡ b → Into q (but-c a b)
+      into-F : (a q : ℕ) → ((t : Tree) → I q t → σ a t) → (b : Bool) → eqb a c ≡ b → Into I q (but-c a b)
       into-F a q f true e = tt
-      into-F a q f false e = into-entry F n τ hF a q (λ t i. inr (eqb-false a c e, f t i))
+      into-F a q f false e = into-entry cs I F n τ hF a q (λ t i. inr (eqb-false a c e, f t i))
 
   keeps-closure : (c : ℕ) (F : Expression) (n : ℕ) (σ : Assignment) → Has I n (languages cs (closure c F) σ) → All (Keeps I) (own cs (closure c F) n)
   keeps-closure c F n σ h =
       all-append (Keeps I) (epsilons (exitState cs F n) (entry cs F n c ++ (x ∷ []))) (fan (entryStates cs (closure c F) n) (λ a. entry cs F n a ++ straight (eqb a c)))
       (to-epsilons (Keeps I) (exitState cs F n) (entry cs F n c ++ (x ∷ []))
-      (into-append (exitState cs F n) (entry cs F n c) (x ∷ []) (into-entry F n τ hF c (exitState cs F n) (λ t i. inl (refl, turn t i))) (λ t i. out t (turn t i), tt)))
-      (keeps-fan σ (entryStates cs (closure c F) n) (λ a. entry cs F n a ++ straight (eqb a c)) (entries-are cs I (closure c F) n σ h)
-      (λ a q f. into-append q (entry cs F n a) (straight (eqb a c)) (into-entry F n τ hF a q (λ t i. widen a t (ℕ-discrete a c) (f t i))) (into-exit a q f (eqb a c) refl)))
+      (into-append I (exitState cs F n) (entry cs F n c) (x ∷ []) (into-entry cs I F n τ hF c (exitState cs F n) (λ t i. inl (refl, turn t i))) (λ t i. out t (turn t i), tt)))
+      (keeps-fan cs I σ (entryStates cs (closure c F) n) (λ a. entry cs F n a ++ straight (eqb a c)) (entries-are cs I (closure c F) n σ h)
+      (λ a q f. into-append I q (entry cs F n a) (straight (eqb a c)) (into-entry cs I F n τ hF a q (λ t i. widen a t (ℕ-discrete a c) (f t i))) (into-exit a q f (eqb a c) refl)))
     where
       x : ℕ
       x = next cs F n
@@ -164,7 +116,7 @@ module _ (cs : List ℕ) (I : Intended) where
       widen a t (yes e) s = inl (e, base a t e s)
       widen a t (no m) s = inr (m, s)
 
-      into-exit : (a q : ℕ) → ((t : Tree) → I q t → σ a t) → (b : Bool) → eqb a c ≡ b → Into q (straight b)
+      into-exit : (a q : ℕ) → ((t : Tree) → I q t → σ a t) → (b : Bool) → eqb a c ≡ b → Into I q (straight b)
       into-exit a q f true e = (λ t i. out t (base a t (eqb-true a c e) (f t i)), tt)
       into-exit a q f false e = tt
 
@@ -182,7 +134,7 @@ module _ (cs : List ℕ) (I : Intended) where
   keeps-symbol f noneᵉ n σ h = tt
   keeps-symbol f (moreᵉ e es) n σ h = (
     λ ts k. let d = children-members ds n σ hs ts k in exit-is cs I (symbol f ds) n σ h (node f ts) .1 (whole ts (d .0) (d .1) (d .2)),
-    keeps-fan σ (entryStates cs (symbol f ds) n) (childEntries cs ds n) (entries-are cs I (symbol f ds) n σ h) (λ c q g. into-children ds n σ hs c q g),
+    keeps-fan cs I σ (entryStates cs (symbol f ds) n) (childEntries cs ds n) (entries-are cs I (symbol f ds) n σ h) (λ c q g. into-children cs I ds n σ hs c q g),
   )
     where
       ds : Expressions

@@ -17,7 +17,8 @@ use Rattle.automaton.specs.Numbering.{compiled}
 use Rattle.automaton.specs.Reached.{Reaches, onNode, onNone}
 use Rattle.automaton.proofs.EntryLaws.{constantTransitions, of-constants}
 use Rattle.automaton.proofs.TreeNumbering.{exitState, entryStates, transitionsOf, treeTransitions, Listed, ConstantsListed, ConstantsListedAll}
-use Rattle.automaton.proofs.Completeness.{Present, ReachedBy, complete}
+use Rattle.automaton.proofs.ReachedBy.{Present, ReachedBy}
+use Rattle.automaton.proofs.Completeness.{complete}
 use Rattle.automaton.proofs.Soundness.{sound}
 use Rattle.automaton.proofs.WordNumbering.{compiled-tree}
 
@@ -32,11 +33,11 @@ module _ (cs : List ℕ) (E : Expression) where
 
   member-reaches : ConstantsListed cs E → (t : Tree) → Member E t → Reaches ts (exitState cs E 0) t
   member-reaches k t m =
-      complete cs ts E 0 k (all-right (Present cs ts) (constantTransitions (entryStates cs E 0)) (transitionsOf cs E 0) (all-self ts)) itself
-      (all-map (λ e. Present cs ts (onSymbol (e .0) [] (e .1))) (λ e. ReachedBy cs ts (itself (e .0)) (e .1))
+      complete cs ts E 0 k (all-right (Present ts) (constantTransitions (entryStates cs E 0)) (transitionsOf cs E 0) (all-self ts)) itself
+      (all-map (λ e. Present ts (onSymbol (e .0) [] (e .1))) (λ e. ReachedBy ts (itself (e .0)) (e .1))
       (λ e l s p. subst (λ z. Reaches ts (e .1) z) (sym p) (onNode l onNone)) (entryStates cs E 0)
-      (of-constants (Present cs ts) (entryStates cs E 0)
-      (all-left (Present cs ts) (constantTransitions (entryStates cs E 0)) (transitionsOf cs E 0) (all-self ts))))
+      (of-constants (Present ts) (entryStates cs E 0)
+      (all-left (Present ts) (constantTransitions (entryStates cs E 0)) (transitionsOf cs E 0) (all-self ts))))
       t (t, m, substitution-same t)
 
   pub thompson-tree : ConstantsListed cs E → (t : Tree) → Reaches ts (exitState cs E 0) t ↔ Member E t

@@ -1,20 +1,20 @@
 -- The automaton that `compiled` numbers word by word is the one numbered as a tree, for every expression over an alphabet.
 -- Assumes nothing.
-use Prim.Native.Nat.{ℕ, zero, suc, _+_, _-_, _≤_}
+use Prim.Native.Nat.{ℕ, suc, _+_, _-_, _≤_}
 use mathlib.Core.Path.{_≡_, refl, sym, _∙_, ap, ap₂}
-use mathlib.Core.List.{List, [], _∷_, _++_, map, reverse, reverseAux, append-assoc, append-nil}
+use mathlib.Core.List.{List, [], _∷_, _++_, reverseAux, append-assoc, append-nil}
 use native.Mathlib.Omega.{arith}
-use lib.ListN.{length, getD, take, drop, length-append}
+use lib.ListN.{length, length-append}
 use lib.Seq.{getD-append-add}
 use Rattle.words.specs.Alphabet.{constantsOf}
 use Rattle.words.specs.Tree.{postfixAll}
 use Rattle.words.specs.Postfix.{arity}
 use Rattle.words.proofs.ReadingLaws.{take-pushed, drop-pushed}
-use Rattle.language.specs.Expression.{Expression, Expressions, symbol, empty, union, product, closure, noneᵉ, moreᵉ, syntaxTree, syntaxTrees, expressionWords, numberᵉ, ExpressionOver, ExpressionsOver}
+use Rattle.language.specs.Expression.{Expression, Expressions, symbol, empty, union, product, closure, noneᵉ, moreᵉ, syntaxTrees, expressionWords, numberᵉ, ExpressionOver, ExpressionsOver}
 use Rattle.automaton.specs.Transition.{Transition, Automaton}
 use Rattle.automaton.specs.Numbering.{Port, statesOf, portOf, childPort, ownTransitions, portsFrom, statesAfter, transitionsFrom, lastPort, compiled}
 use Rattle.automaton.proofs.EntryLaws.{constantTransitions}
-use Rattle.automaton.proofs.TreeNumbering.{next, nextAll, exitState, entryStates, port, ports, own, transitionsOf, transitionsOfAll, treeTransitions}
+use Rattle.automaton.proofs.TreeNumbering.{next, nextAll, exitState, port, ports, own, transitionsOf, transitionsOfAll, treeTransitions}
 use Rattle.automaton.proofs.LastWord.{lastWord, parts, LastWord, last-word}
 
 module _ (a : List ℕ) where

@@ -2,7 +2,7 @@
 -- nothing.
 use Prim.Native.Nat.{ℕ, zero, suc}
 use mathlib.Core.Path.{_≡_, refl, sym}
-use mathlib.Core.Logic.{_⊎_, inl, inr, _↔_}
+use mathlib.Core.Logic.{inl, inr, _↔_}
 use native.Mathlib.Omega.{arith}
 use Rattle.words.specs.Tree.{Tree, Trees, node, none, more}
 use Rattle.language.specs.Expression.{Expression, symbol, empty, union, product, closure, noneᵉ, moreᵉ}

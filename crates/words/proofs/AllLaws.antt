@@ -1,5 +1,5 @@
 -- A property of every member of a list. Assumes nothing.
-use mathlib.Core.Path.{_≡_, refl, sym, subst}
+use mathlib.Core.Path.{refl, sym, subst}
 use mathlib.Core.List.{List, [], _∷_, _++_, List·Memᴰ, List·Memᴰ·head, List·Memᴰ·tail}
 
 abbrev pub All : {A : Type 0} → (A → Type 0) → List A → Type 0
