@@ -5,8 +5,12 @@ pub mod Ports
 pub mod Reading
 pub mod TargetLaws
 pub mod TransitionOrder
+pub mod StateCount
+pub mod TargetCount
+pub mod TableLength
 pub mod LastPort
 pub mod CompiledOver
+pub mod CompiledTable
 pub mod SetLength
 pub mod SweepLaws
 pub mod ClosureLaws

@@ -130,6 +130,7 @@ childrenOn a w stack = reverse (take (arity a w) stack)
 pub record WordRead (a : List ℕ) (n w : ℕ) (stack : List Port) : Type 0 where
   pub low : ℕ
   pub children : Children a low n (childrenOn a w stack)
+  pub number : length (childrenOn a w stack) ≡ arity a w
   pub rest : Stack a low (drop (arity a w) stack)
   pub port : PortIn a n (n + statesOf a w) (portOf a n w)
   pub own : Own a (n + statesOf a w) w (portOf a n w) (childrenOn a w stack) (ownTransitions w (portOf a n w) (childrenOn a w stack))
@@ -148,6 +149,7 @@ module _ (a : List ℕ) where
       record {
         low = t .low;
         children = t .children;
+        number = l;
         rest = t .rest;
         port = portOf-in a n w h;
         own = own a n w (childrenOn a w stack) h l;

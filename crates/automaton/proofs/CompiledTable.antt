@@ -1,0 +1,93 @@
+-- The compiled table of an accepted expression with at most 1,024 states has at most 1,147 words, and refusal 8 lets it
+-- pass. Assumes nothing.
+use Prim.Native.Nat.{ℕ, suc, _+_, _*_, _-_, _≤_}
+use mathlib.Core.Path.{_≡_, refl}
+use mathlib.Core.Bool.{Bool, true, false, not, cond}
+use mathlib.Core.List.{List, [], _∷_}
+use native.Mathlib.Omega.{arith}
+use native.Mathlib.Decide.{decLe}
+use native.Mathlib.Nat.{mul-le-mul-left}
+use lib.ListN.{length}
+use lib.Dec.{leb, eqb}
+use borrow.Author.Tests.{leb-true, leb-false, eqb-true, eqb-false, not-false}
+use Rattle.words.specs.Alphabet.{constantsOf, alphabetFault}
+use Rattle.words.specs.Postfix.{arity, trees, oneTree, notOneTree}
+use Rattle.words.specs.Expression.{expressionRefusals, expressionFault}
+use Rattle.words.proofs.PostfixLaws.{picked}
+use Rattle.words.proofs.RefusalLaws.{refusal-none}
+use Rattle.words.proofs.AcceptedAlphabet.{AcceptedAlphabet, alphabet-accepted, arity-most}
+use Rattle.automaton.specs.Transition.{tableWords}
+use Rattle.automaton.specs.Numbering.{hasEntries, compiled}
+use Rattle.automaton.specs.Table.{isTable}
+use Rattle.automaton.proofs.Reading.{expression-length}
+use Rattle.automaton.proofs.StateCount.{innerWords, leafWords, inner-leaf, states-counted}
+use Rattle.automaton.proofs.TableLength.{branchingWords, table-length}
+use Rattle.automaton.proofs.CompiledOver.{compiled-over}
+use Rattle.automaton.proofs.TableLaws.{words-isTable}
+
+-- only words without children make the trees more
+leaves-some : (a : List ℕ) (ws : List ℕ) (d t : ℕ) → trees a d ws t ≡ true → t ≤ d + leafWords a ws
+unfolding trees hasEntries
+leaves-some a [] d t k = omega (arith, eqb-true d t k)
+leaves-some a (w ∷ ws) d t k =
+    let p = picked (leb (arity a w) d) (trees a (d - arity a w + 1) ws t) k in
+    go (eqb (arity a w) 0) refl (leb-true (arity a w) d (p .0)) (leaves-some a ws (d - arity a w + 1) t (p .1))
+  where
+    r : ℕ
+    r = arity a w
+
+    go : (b : Bool) → eqb r 0 ≡ b → r ≤ d → t ≤ d - r + 1 + leafWords a ws → t ≤ d + (cond (not (not b)) 1 0 + leafWords a ws)
+    go true e g i = omega arith
+    go false e g i = omega (arith, eqb-false r 0 e)
+
+module _ (a : List ℕ) (h : AcceptedAlphabet a) where
+  -- a tree with several leaves has a word with several children, and such a word has at most four
+  leaves-branching : (ws : List ℕ) (d t : ℕ) → trees a d ws t ≡ true → d + leafWords a ws ≤ t + 3 * branchingWords a ws
+  unfolding trees hasEntries
+  leaves-branching [] d t k = omega (arith, eqb-true d t k)
+  leaves-branching (w ∷ ws) d t k =
+      let p = picked (leb (arity a w) d) (trees a (d - arity a w + 1) ws t) k in
+      go (eqb (arity a w) 0) (leb 2 (arity a w)) refl refl (leb-true (arity a w) d (p .0)) (leaves-branching ws (d - arity a w + 1) t (p .1))
+    where
+      r : ℕ
+      r = arity a w
+
+      l : r ≤ 4
+      l = arity-most h w
+
+      go : (b c : Bool) → eqb r 0 ≡ b → leb 2 r ≡ c → r ≤ d → d - r + 1 + leafWords a ws ≤ t + 3 * branchingWords a ws
+          → d + (cond (not (not b)) 1 0 + leafWords a ws) ≤ t + 3 * (cond c 1 0 + branchingWords a ws)
+      go true true e f g i = omega (arith, l, eqb-true r 0 e, leb-true 2 r f)
+      go true false e f g i = omega (arith, l, eqb-true r 0 e)
+      go false true e f g i = omega (arith, l)
+      go false false e f g i = omega (arith, l, eqb-false r 0 e, leb-false 2 r f)
+
+-- T table words, B branching words, S states, n words, of which i have entries and l do not, and k constants
+few-words : (T B S n i l k : ℕ) → T + B ≤ S + (n + i) → S ≡ i * suc k + l → i + l ≡ n → n ≤ 64 → 1 ≤ l → l ≤ 1 + 3 * B → k ≤ 16
+    → S ≤ 1024 → T ≤ 1147
+few-words T B S n i l k t s c n≤ l≥ l≤ k≤ S≤ = go (decLe k 15)
+  where
+    go : Dec (k ≤ 15) → T ≤ 1147
+    go (yes h) = let p : i * suc k ≤ i * 16 = mul-le-mul-left i (omega arith) in omega arith
+    go (no h) =
+        let e : k ≡ 16 = omega arith in
+        let s′ : S ≡ i * 17 + l = rw e at s in
+        omega arith
+
+-- "No compiled table takes more than 1,147 words."
+pub table-most : (a e : List ℕ) → alphabetFault a ≡ 0 → expressionFault a e ≡ 0 → compiled a e .states ≤ 1024
+    → length (tableWords (compiled a e)) ≤ 1147
+unfolding notOneTree
+table-most a e g f m =
+    let h = alphabet-accepted a g in
+    let o = not-false (oneTree a e) (refusal-none (expressionRefusals a e) refl f .1 .1 .0) in
+    few-words (length (tableWords (compiled a e))) (branchingWords a e) (compiled a e .states) (length e) (innerWords a e) (leafWords a e) (length (constantsOf a))
+    (table-length a e f) (states-counted a e) (inner-leaf a e) (expression-length a e f .1)
+    (omega (arith, leaves-some a e 0 1 o)) (omega (arith, leaves-branching a h e 0 1 o)) (h .fewConstants) m
+
+pub compiled-isTable : (a e : List ℕ) → alphabetFault a ≡ 0 → expressionFault a e ≡ 0 → compiled a e .states ≤ 1024
+    → isTable a (tableWords (compiled a e)) ≡ true
+compiled-isTable a e h f m =
+    let l = table-most a e h f m in
+    let k = alphabet-accepted a h .few in
+    words-isTable a (omega arith) (compiled-over a e f m) (omega arith)

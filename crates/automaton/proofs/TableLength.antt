@@ -1,0 +1,139 @@
+-- How long a compiled table is. A word's own transitions take at most two table words more than its children have entries
+-- and exits, and a word is the child of one other; so the table has few words more than states. Assumes nothing.
+use Prim.Native.Nat.{ℕ, zero, suc, _+_, _<_, _≤_}
+use mathlib.Core.Path.{_≡_, refl, ap, sym}
+use mathlib.Core.Bool.{cond}
+use mathlib.Core.List.{List, [], _∷_, _++_, map, reverseAux}
+use native.Mathlib.Omega.{arith}
+use lib.ListN.{length, take, drop, length-append, length-map}
+use lib.Dec.{leb}
+use borrow.Author.Tests.{ne-eqb, le-leb}
+use Rattle.words.specs.Word.{sourceKind, wordOf, lowByte}
+use Rattle.words.specs.Lists.{count}
+use Rattle.words.specs.Postfix.{arity}
+use Rattle.words.specs.Expression.{expressionFault}
+use Rattle.automaton.specs.Transition.{Transition, onSymbol, transitionWords, transitionsWords, tableWords}
+use Rattle.automaton.specs.Numbering.{Port, hasEntries, statesOf, portOf, entryFor, epsilons, fan, statesAfter, ownTransitions, transitionsFrom, lastPort, compiled}
+use Rattle.automaton.proofs.EntryLaws.{constantTransitions}
+use Rattle.automaton.proofs.Ports.{constantsIn, PortIn, Children, child}
+use Rattle.automaton.proofs.Reading.{Own, leaf, ofSymbol, ofUnion, ofProduct, ofClosure, WordRead, Reading, word, childrenOn, expression-reading, expression-length}
+use Rattle.automaton.proofs.TargetLaws.{symbolTargets, unionTargets, productTargets, closureTargets}
+use Rattle.automaton.proofs.TargetCount.{total, weight, lookup-once, total-symbol, total-union, total-product, total-closure}
+use Rattle.automaton.proofs.StateCount.{innerWords}
+use Rattle.automaton.proofs.LastPort.{lastFrom, lastPort-from}
+
+-- ---- the table words of transitions
+
+abbrev wordCount : List Transition → ℕ
+wordCount ts = length (transitionsWords ts)
+
+count-append : (xs ys : List Transition) → wordCount (xs ++ ys) ≡ wordCount xs + wordCount ys
+count-append [] ys = omega arith
+count-append (t ∷ xs) ys =
+    omega (arith, length-append (transitionWords t) (transitionsWords (xs ++ ys)), length-append (transitionWords t) (transitionsWords xs), count-append xs ys)
+
+count-epsilons : (p : ℕ) (qs : List ℕ) → wordCount (epsilons p qs) ≡ length qs
+count-epsilons p [] = refl
+count-epsilons p (q ∷ qs) = ap suc (count-epsilons p qs)
+
+count-fan : (targets : ℕ → List ℕ) (es : List (ℕ × ℕ)) → wordCount (fan es targets) ≡ total targets (constantsIn es)
+count-fan targets [] = refl
+count-fan targets (e ∷ es) =
+    omega (arith, count-append (epsilons (e .1) (targets (e .0))) (fan es targets), count-epsilons (e .1) (targets (e .0)), count-fan targets es)
+
+count-symbol : (f q : ℕ) (ps : List ℕ) (ts : List Transition) → wordCount (onSymbol f ps q ∷ ts) ≡ suc (length ps + wordCount ts)
+count-symbol f q ps ts =
+    omega (arith, length-append (map (λ p. wordOf sourceKind p) ps) (transitionsWords ts), length-map ps (λ p. wordOf sourceKind p))
+
+count-constants : (es : List (ℕ × ℕ)) → wordCount (constantTransitions es) ≡ length es
+count-constants [] = refl
+count-constants (e ∷ es) = ap suc (count-constants es)
+
+-- ---- the own transitions of a word
+
+-- 1 for a word with children, and 1 for a word with two children or more
+abbrev inner : List Port → ℕ
+inner [] = 0
+inner (P ∷ Ps) = 1
+
+abbrev branch : List Port → ℕ
+branch [] = 0
+branch (P ∷ []) = 0
+branch (P ∷ Q ∷ Ps) = 1
+
+own-length : {a : List ℕ} {hi w lo n : ℕ} {E : Port} {Ps : List Port} {ts : List Transition} → PortIn a n hi E → Children a lo n Ps
+    → Own a hi w E Ps ts → wordCount ts + branch Ps + suc (length (E .entries)) + n ≤ weight Ps + hi + suc (inner Ps)
+own-length x c (leaf l) = omega (arith, x .from, l .states, l .entries)
+own-length {w} {E} x c (ofSymbol {P} {Ps} i f r) =
+    let e = count-symbol (lowByte w) (E .exit) (map (λ Q. Q .exit) (P ∷ Ps)) (fan (E .entries) (symbolTargets (P ∷ Ps))) in
+    omega (arith, e, length-map (P ∷ Ps) (λ Q. Q .exit), go Ps, x .from, i .last, count-fan (symbolTargets (P ∷ Ps)) (E .entries), total-symbol (x .constants) (P ∷ Ps))
+  where
+    go : (Ps : List Port) → branch (P ∷ Ps) ≤ 1
+    go [] = omega arith
+    go (Q ∷ Ps) = omega arith
+own-length {E} x c (ofUnion {F} {G} i) =
+    omega (arith, x .from, i .last, count-fan (unionTargets F G) (E .entries), total-union (x .constants) F G)
+own-length {w} {E} x (child p q) (ofProduct {F} {G} i) =
+    let c = lowByte w in
+    let e = count-append (epsilons (G .exit) (entryFor F c)) (fan (E .entries) (productTargets c F G)) in
+    let o = lookup-once (F .entries) c (p .constants) in
+    omega (arith, e, count-epsilons (G .exit) (entryFor F c), x .from, i .last, count-fan (productTargets c F G) (E .entries), total-product (x .constants) c F G)
+own-length {w} {E} x (child p q) (ofClosure {F} i) =
+    let c = lowByte w in
+    let e = count-append (epsilons (F .exit) (entryFor F c ++ (E .exit ∷ []))) (fan (E .entries) (closureTargets c (E .exit) F)) in
+    let o = lookup-once (F .entries) c (p .constants) in
+    omega (arith, e, count-epsilons (F .exit) (entryFor F c ++ (E .exit ∷ [])), length-append (entryFor F c) (E .exit ∷ []), x .from, i .last, count-fan (closureTargets c (E .exit) F) (E .entries), total-closure (x .constants) c (E .exit) F)
+
+-- ---- every word
+
+weight-taken : (r : ℕ) (stack right : List Port) → weight (reverseAux (take r stack) right) + weight (drop r stack) ≡ weight stack + weight right
+weight-taken zero stack right = omega arith
+weight-taken (suc r) [] right = omega arith
+weight-taken (suc r) (P ∷ stack) right = omega (arith, weight-taken r stack (P ∷ right))
+
+-- the words with two children or more
+abbrev pub branchingWords : List ℕ → List ℕ → ℕ
+branchingWords a ws = count (λ w. leb 2 (arity a w)) ws
+
+module _ (a : List ℕ) where
+  inner-number : (w : ℕ) (Ps : List Port) → length Ps ≡ arity a w → cond (hasEntries a w) 1 0 ≡ inner Ps
+  unfolding hasEntries
+  inner-number w [] e = rw (sym e)
+  inner-number w (P ∷ Ps) e = rw (ne-eqb (arity a w) 0 (omega arith))
+
+  branch-number : (w : ℕ) (Ps : List Port) → length Ps ≡ arity a w → cond (leb 2 (arity a w)) 1 0 ≡ branch Ps
+  branch-number w [] e = rw (sym e)
+  branch-number w (P ∷ []) e = rw (sym e)
+  branch-number w (P ∷ Q ∷ Ps) e = rw (le-leb 2 (arity a w) (omega arith))
+
+  -- a word takes its children from the stack and puts its own port on it
+  word-length : {n w : ℕ} {stack : List Port} → WordRead a n w stack
+      → wordCount (ownTransitions w (portOf a n w) (childrenOn a w stack)) + cond (leb 2 (arity a w)) 1 0 + weight (portOf a n w ∷ drop (arity a w) stack) + n
+      ≤ weight stack + (n + statesOf a w) + suc (cond (hasEntries a w) 1 0)
+  word-length {w} {stack} d =
+      let i = inner-number w (childrenOn a w stack) (d .number) in
+      let b = branch-number w (childrenOn a w stack) (d .number) in
+      omega (arith, weight-taken (arity a w) stack [], own-length (d .port) (d .children) (d .own))
+
+  reading-length : (ws : List ℕ) {n w : ℕ} {stack : List Port} → Reading a n (w ∷ ws) stack
+      → wordCount (transitionsFrom a n (w ∷ ws) stack) + branchingWords a (w ∷ ws) + suc (length (lastFrom a n w ws .entries)) + n
+      ≤ weight stack + statesAfter a n (w ∷ ws) + (length (w ∷ ws) + innerWords a (w ∷ ws))
+  unfolding transitionsFrom statesAfter
+  reading-length [] (word {n} {w} {stack} d r) =
+      omega (arith, count-append (ownTransitions w (portOf a n w) (childrenOn a w stack)) [], word-length d)
+  reading-length (v ∷ ws) (word {n} {w} {stack} d r) =
+      let ts = transitionsFrom a (n + statesOf a w) (v ∷ ws) (portOf a n w ∷ drop (arity a w) stack) in
+      omega (arith, count-append (ownTransitions w (portOf a n w) (childrenOn a w stack)) ts, word-length d, reading-length ws r)
+
+  -- the words of the whole table: its states, and less than two for each word
+  pub table-length : (e : List ℕ) → expressionFault a e ≡ 0
+      → length (tableWords (compiled a e)) + branchingWords a e ≤ compiled a e .states + (length e + innerWords a e)
+  unfolding compiled
+  table-length e f = go e (expression-length a e f .0) (expression-reading a e f)
+    where
+      go : (e : List ℕ) → 0 < length e → Reading a 0 e [] → length (tableWords (compiled a e)) + branchingWords a e ≤ statesAfter a 0 e + (length e + innerWords a e)
+      go [] l r = absurd (omega arith)
+      go (w ∷ ws) l r =
+          let P = lastPort a (w ∷ ws) in
+          let p = ap (λ Q. length (Q .entries)) (lastPort-from a w ws) in
+          omega (arith, p, count-append (constantTransitions (P .entries)) (transitionsFrom a 0 (w ∷ ws) []), count-constants (P .entries), reading-length ws r)

@@ -1,0 +1,67 @@
+-- What holds of an alphabet that refusals 1 and 2 let pass. Assumes nothing.
+use Prim.Native.Nat.{ℕ, zero, suc, _<_, _≤_}
+use mathlib.Core.Path.{_≡_, refl}
+use mathlib.Core.Bool.{true, not, _||_}
+use mathlib.Core.List.{List, [], _∷_}
+use native.Mathlib.Omega.{arith}
+use lib.ListN.{length}
+use lib.Dec.{ltb, leb, eqb}
+use borrow.Author.Tests.{leb-true, ltb-false, eqb-false, not-false}
+use Rattle.words.specs.Lists.{all}
+use Rattle.words.specs.Word.{Kind, entryKind, symbolKind, emptyKind, unionKind, productKind, closureKind, nodeKind, headKind, transitionKind, epsilonKind, sourceKind, noKind, kindOf, isOf, lowByte}
+use Rattle.words.specs.Alphabet.{entryRank, isEntry, rankOf, constantsOf, noAlphabet, wrongConstants, alphabetRefusals, alphabetFault}
+use Rattle.words.specs.Postfix.{arity, arityAt}
+use Rattle.words.proofs.TestLaws.{and-true, or-false}
+use Rattle.words.proofs.RefusalLaws.{refusal-none}
+
+pub record AcceptedAlphabet (a : List ℕ) : Type 0 where
+  pub some : 0 < length a
+  pub few : length a ≤ 64
+  pub ranks : (s : ℕ) → rankOf a s ≤ 4
+  pub someConstant : 0 < length (constantsOf a)
+  pub fewConstants : length (constantsOf a) ≤ 16
+
+-- "rank, 0 to 4"
+rank-most : (a : List ℕ) → all isEntry a ≡ true → (s : ℕ) → rankOf a s ≤ 4
+unfolding rankOf isEntry
+rank-most [] h s = omega arith
+rank-most (w ∷ ws) h zero =
+    let p = and-true (isEntry w) (all isEntry ws) h in
+    leb-true (entryRank w) 4 (and-true (isOf entryKind w) (leb (entryRank w) 4) (p .0) .1)
+rank-most (w ∷ ws) h (suc s) = rank-most ws (and-true (isEntry w) (all isEntry ws) h .1) s
+
+pub alphabet-accepted : (a : List ℕ) → alphabetFault a ≡ 0 → AcceptedAlphabet a
+unfolding noAlphabet wrongConstants
+alphabet-accepted a h =
+    let f = refusal-none (alphabetRefusals a) refl h in
+    let p = or-false (eqb (length a) 0 || ltb 64 (length a)) (not (all isEntry a)) (f .0) in
+    let q = or-false (eqb (length a) 0) (ltb 64 (length a)) (p .0) in
+    let r = or-false (eqb (length (constantsOf a)) 0) (ltb 16 (length (constantsOf a))) (f .1 .0) in
+    let z = eqb-false (length a) 0 (q .0) in
+    let c = eqb-false (length (constantsOf a)) 0 (r .0) in
+    record {
+      some = omega arith;
+      few = ltb-false 64 (length a) (q .1);
+      ranks = rank-most a (not-false (all isEntry a) (p .1));
+      someConstant = omega arith;
+      fewConstants = ltb-false 16 (length (constantsOf a)) (r .1);
+    }
+
+-- no word takes more than four children
+pub arity-most : {a : List ℕ} → AcceptedAlphabet a → (w : ℕ) → arity a w ≤ 4
+unfolding arity
+arity-most {a} h w = go (kindOf w) (h .ranks (lowByte w))
+  where
+    go : {r : ℕ} (k : Kind) → r ≤ 4 → arityAt r k ≤ 4
+    go symbolKind l = l
+    go nodeKind l = l
+    go emptyKind l = omega arith
+    go unionKind l = omega arith
+    go productKind l = omega arith
+    go closureKind l = omega arith
+    go entryKind l = omega arith
+    go headKind l = omega arith
+    go transitionKind l = omega arith
+    go epsilonKind l = omega arith
+    go sourceKind l = omega arith
+    go noKind l = omega arith
