@@ -1,0 +1,43 @@
+-- Laws of the ones in a list of words, counted word by word. Assumes nothing.
+use mathlib.Core.Path.{_≡_, refl, ap, ap₂, _∙_, sym}
+use mathlib.Core.List.{List, [], _∷_, _++_}
+use Prim.Native.Nat.{ℕ, suc, _+_, _*_, _<_, _≤_, _^_}
+use native.Mathlib.Omega.{arith}
+use native.Mathlib.Nat.{zero-add, add-zero, add-assoc}
+use native.Mathlib.Numerals.{add-one}
+use lib.ListN.{length, getD, take}
+use lib.Seq.{take-suc, take-all}
+use lib.Count.{ones, ones-le}
+use Rattle.operations.specs.Run.{cellsIn}
+
+pub cells-append : (l k : List ℕ) → cellsIn (l ++ k) ≡ cellsIn l + cellsIn k
+unfolding cellsIn
+cells-append [] k = sym (zero-add (cellsIn k))
+cells-append (w ∷ l) k = ap (λ (i : ℕ). ones w + i) (cells-append l k) ∙ sym (add-assoc (ones w) (cellsIn l) (cellsIn k))
+
+-- the ones of the first k words; each word has at most 32
+pub record Summed (ws : List ℕ) (n k : ℕ) : Type 0 where
+  pub few : k ≤ length ws
+  pub small : n ≤ 32 * k
+  pub same : n ≡ cellsIn (take k ws)
+
+module _ (ws : List ℕ) where
+  pub summed-none : Summed ws 0 0
+  unfolding cellsIn
+  summed-none = record { few = omega arith; small = omega arith; same = refl }
+
+  pub summed-more : (n k : ℕ) → Summed ws n k → k < length ws → getD ws k 0 < 2 ^ 32 → Summed ws (n + ones (getD ws k 0)) (k + 1)
+  unfolding cellsIn
+  summed-more n k g h word =
+      let small = g .small in
+      let few = ones-le 32 (getD ws k 0) word in
+      record {
+        few = omega arith;
+        small = omega arith;
+        same =
+            ap₂ (λ (x y : ℕ). x + y) (g .same) (sym (add-zero (ones (getD ws k 0))))
+            ∙ sym (ap (λ (i : ℕ). cellsIn (take i ws)) (add-one k) ∙ ap cellsIn (take-suc ws k 0 h) ∙ cells-append (take k ws) (getD ws k 0 ∷ []));
+      }
+
+  pub summed-end : (n k : ℕ) → Summed ws n k → length ws ≤ k → n ≡ cellsIn ws
+  summed-end n k g h = g .same ∙ ap cellsIn (take-all k ws h)

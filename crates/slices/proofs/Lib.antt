@@ -1,0 +1,4 @@
+pub mod CopyLaws
+pub mod MoveLaws
+pub mod CompareLaws
+pub mod CellLaws

@@ -1,0 +1,64 @@
+// State sets in the marks: one is written or read, two are compared, and the ones of all are counted.
+ghost use mathlib.Core.Path.{_≡_};
+ghost use mathlib.Core.List.{_++_};
+ghost use Prim.Native.Nat.{_-_, _≤_};
+ghost use lib.ListN.{length, drop, replicate};
+ghost use Rattle.operations.specs.Marks.{sameWords};
+ghost use Rattle.operations.specs.Run.{cellsIn};
+
+// Writes the words of one set to the front of the part that is lent.
+pub fn write_set(part: &mut [u32], set: &[u32])
+    requires { ⌜ length (now set) ≤ length (now part) ⌝ }
+    ensures { λ _. ⌜ now (part .exit) ≡ now (set .entry) ++ drop (length (now (set .entry))) (now (part .entry)) ⌝ }
+{
+    let mut k = 0;
+    while k < set.len() {
+        part[k] = set[k];
+        k += 1;
+    }
+}
+
+// The words of one set, and zeros behind them.
+pub fn read_set(part: &[u32]) -> [u32; 32]
+    requires { ⌜ length (now part) ≤ 32 ⌝ }
+    ensures { λ r. ⌜ r ≡ now (part .entry) ++ replicate (32 - length (now (part .entry))) 0 ⌝ }
+{
+    let mut set = [0u32; 32];
+    let mut k = 0;
+    while k < part.len() {
+        set[k] = part[k];
+        k += 1;
+    }
+    set
+}
+
+// Whether two sets have the same words.
+pub fn same_words(left: &[u32], right: &[u32]) -> bool
+    ensures { λ r. ⌜ r ≡ sameWords (now (left .entry)) (now (right .entry)) ⌝ }
+{
+    if left.len() != right.len() {
+        return false;
+    }
+    let mut k = 0;
+    while k < left.len() {
+        if left[k] != right[k] {
+            return false;
+        }
+        k += 1;
+    }
+    true
+}
+
+// The number of ones in the words, of which there are at most 4,096 times 32.
+pub fn count_cells(words: &[u32]) -> usize
+    requires { ⌜ length (now words) ≤ 131072 ⌝ }
+    ensures { λ r. ⌜ r ≡ cellsIn (now (words .entry)) ⌝ }
+{
+    let mut cells: usize = 0;
+    let mut k = 0;
+    while k < words.len() {
+        cells += u32::count_ones(words[k]) as usize;
+        k += 1;
+    }
+    cells
+}
