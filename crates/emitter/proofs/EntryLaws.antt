@@ -41,6 +41,12 @@ module _ (to : Entry) (from at : ℕ) (out : List ℕ) where
 pub low-state : (to : Entry) (s : ℕ) → to ≡ State s → Low to → s < 4096
 low-state to s e h = rw e at h
 
+-- the entry of a port for the constant c
+pub to-entry : (cs : List ℕ) (p b c from at : ℕ) (to : Entry) (out out′ : List ℕ) (r : ℕ) → EntryOf cs p b to → b ≡ c
+    → Wrote 1 at (epsilonWords from (statesIn to)) out out′ r → Wrote 1 at (epsilonWords from (entryFor (portIn cs p) c)) out out′ r
+to-entry cs p b c from at to out out′ r h e w =
+    wrote-same 1 1 at r _ _ out out′ w (omega arith) (ap (epsilonWords from) (h .states ∙ ap (entryFor (portIn cs p)) e))
+
 -- ---- to the children's entries
 
 flatMap-append : {A : Type 0} (f : A → List ℕ) (l k : List A) → flatMap f (l ++ k) ≡ flatMap f l ++ flatMap f k

@@ -2,3 +2,5 @@ pub mod WritingLaws
 pub mod PortLaws
 pub mod EntryLaws
 pub mod FanLaws
+pub mod OwnLaws
+pub mod SourceLaws

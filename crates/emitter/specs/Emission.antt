@@ -1,13 +1,15 @@
 -- What the emitter's inner functions write for one constant, and what they are given. It serves these functions.
 -- Assumes nothing.
 use Prim.Native.Nat.{ℕ, _+_, _<_, _≤_}
-use mathlib.Core.List.{List, [], _∷_, _++_, flatMap}
+use mathlib.Core.Path.{_≡_}
+use mathlib.Core.List.{List, [], _∷_, _++_, map, flatMap}
 use mathlib.Core.Bool.{cond}
-use lib.ListN.{length, drop}
+use lib.ListN.{length, getD, drop}
 use lib.Dec.{eqb}
+use Rattle.words.specs.Word.{sourceKind, numberOf, wordOf, lowByte}
 use Rattle.automaton.specs.Numbering.{Port, entryFor}
 use Rattle.emitter.specs.Writing.{lastIndex}
-use Rattle.emitter.specs.Ports.{EachOnce, portsIn}
+use Rattle.emitter.specs.Ports.{EachOnce, exitIn, portsIn}
 
 -- the children's entries for a constant
 abbrev pub childEntries : List ℕ → List ℕ → ℕ → List ℕ
@@ -28,3 +30,17 @@ pub record Emits (cs ps : List ℕ) (x at n : ℕ) : Type 0 where
   pub children : length ps ≤ 4
   pub low : x < 2048
   pub room : at + n ≤ lastIndex
+
+-- c is one of the constants
+abbrev pub Listed : List ℕ → ℕ → Type 0
+Listed cs c = (k : ℕ) × (k < length cs) × (getD cs k 0 ≡ c)
+
+-- the words of the children's exits as part states of a move
+abbrev pub sourceWords : List ℕ → List ℕ
+sourceWords ps = map (λ p. wordOf sourceKind (exitIn p)) ps
+
+-- word w takes children with ports ps, and its c is one of the constants
+pub record Takes (cs ps : List ℕ) (w : ℕ) : Type 0 where
+  pub union : numberOf w ≡ 4 → length ps ≡ 2
+  pub product : numberOf w ≡ 5 → (length ps ≡ 2) × Listed cs (lowByte w)
+  pub closure : numberOf w ≡ 6 → (length ps ≡ 1) × Listed cs (lowByte w)

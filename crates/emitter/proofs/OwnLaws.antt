@@ -1,0 +1,174 @@
+-- Laws of the own transitions of a word by its kind: they are what the writers leave one after the other. Assumes nothing.
+use mathlib.Core.Path.{_≡_, refl, ap, _∙_, sym}
+use mathlib.Core.Bool.{Bool, true, false, cond}
+use mathlib.Core.List.{List, [], _∷_, _++_, flatMap, append-assoc, append-nil}
+use Prim.Native.Nat.{ℕ, suc, _+_, _≤_}
+use native.Mathlib.Omega.{arith}
+use lib.ListN.{length, getD}
+use lib.Dec.{eqb}
+use borrow.Author.Tests.{eq-eqb, ne-eqb}
+use Rattle.words.specs.Word.{numberOf, lowByte}
+use Rattle.automaton.specs.Transition.{Transition, onSymbol, epsilon, transitionWords, transitionsWords}
+use Rattle.automaton.specs.Numbering.{Port, numbered, entryFor, epsilons, symbolTransitions, unionTransitions, productTransitions, closureTransitions, ownTransitions}
+use Rattle.automaton.proofs.TransitionLaws.{transitionsWords-append, fan-same}
+use Rattle.emitter.specs.Writing.{Wrote}
+use Rattle.emitter.specs.Ports.{exitIn, portIn, portsIn, fullPort}
+use Rattle.emitter.specs.Emission.{Emits, childEntries, productEntries, closureEntries, sourceWords}
+use Rattle.emitter.proofs.WritingLaws.{wrote-none, wrote-more, wrote-same}
+use Rattle.emitter.proofs.EntryLaws.{epsilonWords, epsilonWords-append}
+use Rattle.emitter.proofs.FanLaws.{fanWords}
+use Rattle.emitter.proofs.SourceLaws.{sources-exits}
+
+-- what is left of the room behind a word's first transitions
+pub emits-later : (cs ps : List ℕ) (x at next : ℕ) → Emits cs ps x at 85 → next ≤ at + 5 → Emits cs ps x next 80
+emits-later cs ps x at next p h =
+    let room = p .room in
+    record {
+      once = p .once;
+      few = p .few;
+      children = p .children;
+      low = p .low;
+      room = omega arith;
+    }
+
+-- ---- children that are one or two
+
+pub both : (ps : List ℕ) → length ps ≡ 2 → ps ≡ getD ps 0 0 ∷ getD ps 1 0 ∷ []
+both [] h = absurd (omega arith)
+both (p ∷ []) h = absurd (omega arith)
+both (p ∷ q ∷ []) h = refl
+both (p ∷ q ∷ x ∷ ps) h = absurd (omega arith)
+
+pub single : (ps : List ℕ) → length ps ≡ 1 → ps ≡ getD ps 0 0 ∷ []
+single [] h = absurd (omega arith)
+single (p ∷ []) h = refl
+single (p ∷ x ∷ ps) h = absurd (omega arith)
+
+module _ (cs ps : List ℕ) where
+  abbrev F : Port
+  F = portIn cs (getD ps 0 0)
+
+  abbrev G : Port
+  G = portIn cs (getD ps 1 0)
+
+  unionEntries-both : length ps ≡ 2 → (b : ℕ) → childEntries cs ps b ≡ entryFor F b ++ entryFor G b
+  unfolding flatMap
+  unionEntries-both h b =
+      ap (λ (l : List ℕ). childEntries cs l b) (both ps h) ∙ ap (λ (l : List ℕ). entryFor F b ++ l) (append-nil (entryFor G b))
+
+  productEntries-both : length ps ≡ 2 → (c b : ℕ) → productEntries cs ps c b ≡ cond (eqb b c) [] (entryFor F b) ++ entryFor G b
+  unfolding flatMap
+  productEntries-both h c b = ap (λ (l : List ℕ). productEntries cs l c b) (both ps h) ∙ go (eqb b c)
+    where
+      go : (t : Bool) → cond t (entryFor G b ++ []) (entryFor F b ++ (entryFor G b ++ [])) ≡ cond t [] (entryFor F b) ++ entryFor G b
+      go true = append-nil (entryFor G b)
+      go false = ap (λ (l : List ℕ). entryFor F b ++ l) (append-nil (entryFor G b))
+
+  closureEntries-single : length ps ≡ 1 → (c x b : ℕ) → closureEntries cs ps c x b ≡ entryFor F b ++ cond (eqb b c) (x ∷ []) []
+  unfolding flatMap
+  closureEntries-single h c x b =
+      ap (λ (l : List ℕ). closureEntries cs l c x b) (single ps h)
+      ∙ ap (λ (l : List ℕ). l ++ cond (eqb b c) (x ∷ []) []) (append-nil (entryFor F b))
+
+-- ---- what the writers leave, kind by kind
+
+module _ (cs ps : List ℕ) (x at : ℕ) (out o₁ o₂ o₃ : List ℕ) (n₁ n₂ r : ℕ) where
+  abbrev E : Port
+  E = fullPort cs x
+
+  -- three writers one after the other
+  three : (i j k : ℕ) (us vs ws all : List ℕ) → Wrote i at us out o₁ n₁ → Wrote j n₁ vs o₁ o₂ n₂ → Wrote k n₂ ws o₂ o₃ r
+      → i + j + k ≤ 85 → us ++ (vs ++ ws) ≡ all → Wrote 85 at all out o₃ r
+  three i j k us vs ws all p q s le e =
+      wrote-same (i + j + k) 85 at r ((us ++ vs) ++ ws) all out o₃
+      (wrote-more (i + j) k at n₂ r (us ++ vs) ws out o₂ o₃ (wrote-more i j at n₁ n₂ us vs out o₁ o₂ p q) s) le
+      (append-assoc us vs ws ∙ e)
+
+  pub symbol-own : (f : ℕ) → Wrote 1 at (transitionWords (onSymbol f [] x)) out o₁ n₁ → Wrote 4 n₁ (sourceWords ps) o₁ o₂ n₂
+      → Wrote 80 n₂ (fanWords x cs (childEntries cs ps)) o₂ o₃ r → Wrote 85 at (transitionsWords (symbolTransitions f E (portsIn cs ps))) out o₃ r
+  symbol-own f p q s =
+      three 1 4 80 _ _ _ _ p q s (omega arith)
+      (ap (λ (l : List ℕ). transitionWords (onSymbol f [] x) ++ (l ++ fanWords x cs (childEntries cs ps))) (sources-exits cs ps))
+
+  pub union-own : (y z : ℕ) → length ps ≡ 2 → y ≡ exitIn (getD ps 0 0) → z ≡ exitIn (getD ps 1 0)
+      → Wrote 1 at (transitionWords (epsilon y x)) out o₁ n₁ → Wrote 1 n₁ (transitionWords (epsilon z x)) o₁ o₂ n₂
+      → Wrote 80 n₂ (fanWords x cs (childEntries cs ps)) o₂ o₃ r → Wrote 85 at (transitionsWords (unionTransitions E (F cs ps) (G cs ps))) out o₃ r
+  union-own y z h e d p q s =
+      three 1 1 80 _ _ _ _ p q s (omega arith)
+      (rw (e, d)
+      (ap (λ (l : List Transition). transitionsWords (epsilon (F cs ps .exit) x ∷ epsilon (G cs ps .exit) x ∷ l))
+      (fan-same (childEntries cs ps) (λ b. entryFor (F cs ps) b ++ entryFor (G cs ps) b) (numbered (suc x) cs) (unionEntries-both cs ps h))))
+
+  pub product-own : (y z c : ℕ) → length ps ≡ 2 → y ≡ exitIn (getD ps 0 0) → z ≡ exitIn (getD ps 1 0)
+      → Wrote 1 at (transitionWords (epsilon y x)) out o₁ n₁ → Wrote 1 n₁ (epsilonWords z (entryFor (F cs ps) c)) o₁ o₂ n₂
+      → Wrote 80 n₂ (fanWords x cs (productEntries cs ps c)) o₂ o₃ r → Wrote 85 at (transitionsWords (productTransitions c E (F cs ps) (G cs ps))) out o₃ r
+  product-own y z c h e d p q s =
+      three 1 1 80 _ _ _ _ p q s (omega arith)
+      (rw (e, d)
+      (ap (λ (l : List ℕ). transitionWords (epsilon (F cs ps .exit) x) ++ l)
+      (ap (λ (l : List Transition). epsilonWords (G cs ps .exit) (entryFor (F cs ps) c) ++ transitionsWords l)
+      (fan-same (productEntries cs ps c) (λ b. cond (eqb b c) [] (entryFor (F cs ps) b) ++ entryFor (G cs ps) b) (numbered (suc x) cs) (productEntries-both cs ps h c))
+      ∙ sym (transitionsWords-append (epsilons (G cs ps .exit) (entryFor (F cs ps) c)) _))))
+
+  pub closure-own : (y c : ℕ) → length ps ≡ 1 → y ≡ exitIn (getD ps 0 0)
+      → Wrote 1 at (epsilonWords y (entryFor (F cs ps) c)) out o₁ n₁ → Wrote 1 n₁ (transitionWords (epsilon y x)) o₁ o₂ n₂
+      → Wrote 80 n₂ (fanWords x cs (closureEntries cs ps c x)) o₂ o₃ r → Wrote 85 at (transitionsWords (closureTransitions c E (F cs ps))) out o₃ r
+  closure-own y c h e p q s =
+      let y′ = F cs ps .exit in
+      let qs = entryFor (F cs ps) c in
+      three 1 1 80 _ _ _ _ p q s (omega arith)
+      (rw e
+      (sym (append-assoc (epsilonWords y′ qs) (epsilonWords y′ (x ∷ [])) (fanWords x cs (closureEntries cs ps c x)))
+      ∙ ap (λ (l : List ℕ). l ++ fanWords x cs (closureEntries cs ps c x)) (sym (epsilonWords-append y′ qs (x ∷ [])))
+      ∙ ap (λ (l : List Transition). epsilonWords y′ (qs ++ (x ∷ [])) ++ transitionsWords l)
+      (fan-same (closureEntries cs ps c x) (λ b. entryFor (F cs ps) b ++ cond (eqb b c) (x ∷ []) []) (numbered (suc x) cs) (closureEntries-single cs ps h c x))
+      ∙ sym (transitionsWords-append (epsilons y′ (qs ++ (x ∷ []))) _)))
+
+-- ---- which of them a word has
+
+module _ (w : ℕ) (E : Port) (cs : List ℕ) where
+  abbrev own : List ℕ → List Transition
+  own ps = ownTransitions w E (portsIn cs ps)
+
+  -- a word with no children has none
+  pub own-none : (ps : List ℕ) → length ps ≡ 0 → own ps ≡ []
+  unfolding ownTransitions
+  own-none [] h = refl
+  own-none (p ∷ ps) h = absurd (omega arith)
+
+  pub own-symbol : (ps : List ℕ) → (length ps ≡ 0 → ⊥) → numberOf w ≡ 2 → own ps ≡ symbolTransitions (lowByte w) E (portsIn cs ps)
+  unfolding ownTransitions
+  own-symbol [] n e = absurd (n refl)
+  own-symbol (p ∷ ps) n e = rw (eq-eqb (numberOf w) 2 e)
+
+  pub own-union : (ps : List ℕ) → length ps ≡ 2 → numberOf w ≡ 4 → own ps ≡ unionTransitions E (F cs ps) (G cs ps)
+  unfolding ownTransitions
+  own-union ps h e =
+      ap own (both ps h) ∙ rw (ne-eqb (numberOf w) 2 (λ z. omega arith), eq-eqb (numberOf w) 4 e)
+
+  pub own-product : (ps : List ℕ) → length ps ≡ 2 → numberOf w ≡ 5 → own ps ≡ productTransitions (lowByte w) E (F cs ps) (G cs ps)
+  unfolding ownTransitions
+  own-product ps h e =
+      ap own (both ps h)
+      ∙ rw (ne-eqb (numberOf w) 2 (λ z. omega arith), ne-eqb (numberOf w) 4 (λ z. omega arith), eq-eqb (numberOf w) 5 e)
+
+  pub own-closure : (ps : List ℕ) → length ps ≡ 1 → numberOf w ≡ 6 → own ps ≡ closureTransitions (lowByte w) E (F cs ps)
+  unfolding ownTransitions
+  own-closure ps h e =
+      ap own (single ps h)
+      ∙ rw (ne-eqb (numberOf w) 2 (λ z. omega arith), ne-eqb (numberOf w) 4 (λ z. omega arith), ne-eqb (numberOf w) 5 (λ z. omega arith), eq-eqb (numberOf w) 6 e)
+
+  -- a word of any other kind has none
+  pub own-other : (ps : List ℕ) → (numberOf w ≡ 2 → ⊥) → (numberOf w ≡ 4 → ⊥) → (numberOf w ≡ 5 → ⊥) → (numberOf w ≡ 6 → ⊥) → own ps ≡ []
+  unfolding ownTransitions
+  own-other [] n₂ n₄ n₅ n₆ = refl
+  own-other (p ∷ ps) n₂ n₄ n₅ n₆ =
+      rw (ne-eqb (numberOf w) 2 n₂, ne-eqb (numberOf w) 4 n₄, ne-eqb (numberOf w) 5 n₅, ne-eqb (numberOf w) 6 n₆)
+
+-- the words of transitions that are written, said otherwise
+pub wrote-transitions : (m at r : ℕ) (ts us : List Transition) (out out′ : List ℕ) → us ≡ ts → Wrote m at (transitionsWords ts) out out′ r → Wrote m at (transitionsWords us) out out′ r
+wrote-transitions m at r ts us out out′ e w = rw e w
+
+-- no transitions
+pub wrote-no-transitions : (m at : ℕ) (us : List Transition) (out : List ℕ) → us ≡ [] → Wrote m at (transitionsWords us) out out at
+wrote-no-transitions m at us out e = rw e (wrote-same 0 m at at [] [] out out (wrote-none at out) (omega arith) refl)

@@ -1,0 +1,44 @@
+-- Laws of the part states of a symbol move, and of the loop that writes them. Assumes nothing.
+use mathlib.Core.Path.{_≡_, refl, ap, _∙_, sym}
+use mathlib.Core.List.{List, [], _∷_, map}
+use Prim.Native.Nat.{ℕ, _+_, _<_, _≤_}
+use native.Mathlib.Omega.{arith}
+use native.Mathlib.Numerals.{add-one}
+use lib.ListN.{length, getD, take}
+use lib.Seq.{take-suc, take-all}
+use Rattle.words.specs.Word.{sourceKind, wordOf}
+use Rattle.words.proofs.ListLaws.{map-append}
+use Rattle.emitter.specs.Writing.{Wrote}
+use Rattle.emitter.specs.Ports.{exitIn, portsIn}
+use Rattle.emitter.specs.Emission.{sourceWords}
+use Rattle.emitter.proofs.WritingLaws.{wrote-none, wrote-more, wrote-same}
+
+pub sources-exits : (cs ps : List ℕ) → sourceWords ps ≡ map (λ p. wordOf sourceKind p) (map (λ P. P .exit) (portsIn cs ps))
+sources-exits cs [] = refl
+sources-exits cs (p ∷ ps) = ap (λ (l : List ℕ). wordOf sourceKind (exitIn p) ∷ l) (sources-exits cs ps)
+
+-- the loop after i children
+pub record Sourced (ps : List ℕ) (at : ℕ) (out out′ : List ℕ) (next i : ℕ) : Type 0 where
+  pub within : i ≤ length ps
+  pub long : length out′ ≡ length out
+  pub wrote : Wrote i at (sourceWords (take i ps)) out out′ next
+
+pub sourced-none : (ps : List ℕ) (at : ℕ) (out : List ℕ) → Sourced ps at out out at 0
+sourced-none ps at out = record { within = omega arith; long = refl; wrote = wrote-none at out }
+
+module _ {ps : List ℕ} {at : ℕ} {out out′ : List ℕ} {next i : ℕ} (w : Sourced ps at out out′ next i) where
+  pub sourced-more : (x : ℕ) (out″ : List ℕ) (r : ℕ) → i < length ps → x ≡ exitIn (getD ps i 0) → length out″ ≡ length out′
+      → Wrote 1 next (wordOf sourceKind x ∷ []) out′ out″ r → Sourced ps at out out″ r (i + 1)
+  sourced-more x out″ r h e l q =
+      record {
+        within = omega arith;
+        long = l ∙ w .long;
+        wrote = wrote-same (i + 1) (i + 1) at r _ _ out out″ (wrote-more i 1 at next r _ _ out out′ out″ (w .wrote) q) (omega arith)
+            (sym
+            (rw (add-one i, take-suc ps i 0 h, e) (map-append (λ p. wordOf sourceKind (exitIn p)) (take i ps) (getD ps i 0 ∷ []))));
+      }
+
+  pub sourced-end : length ps ≤ i → length ps ≤ 4 → Wrote 4 at (sourceWords ps) out out′ next
+  sourced-end h few =
+      let k = w .within in
+      wrote-same i 4 at next _ _ out out′ (w .wrote) (omega arith) (rw (take-all i ps h))

@@ -1,0 +1,79 @@
+-- `emitter::own::push_product` meets its contract: its three writers leave the transitions of a product. Assumes nothing.
+use native.Mathlib.Omega.{arith}
+use lib.ListN.{getD}
+use borrow.Author.Needs.{needs}
+use Rattle.emitter.proofs.WritingLaws.{wrote-next}
+use Rattle.emitter.proofs.EntryLaws.{to-entry}
+use Rattle.emitter.proofs.OwnLaws.{emits-later, product-own}
+use Rattle.emitter.proofs.own.push_product.Statement.{statement}
+use Rattle.emitter.proofs.own.push_product.Tie as tie
+
+shared-slice-read-entry-at : tie.Need-shared-slice-read-entry-at
+shared-slice-read-entry-at c = search needs
+
+index-of-requires : tie.Need-index-of-requires
+index-of-requires c κs = search needs
+
+entry-at-requires : tie.Need-entry-at-requires
+entry-at-requires c κs = search needs
+
+shared-slice-read-exit-of : tie.Need-shared-slice-read-exit-of
+shared-slice-read-exit-of c = search needs
+
+exit-of-requires : tie.Need-exit-of-requires
+exit-of-requires c κs = search needs
+
+push-epsilon-requires : tie.Need-push-epsilon-requires
+push-epsilon-requires c κs = search needs
+
+shared-slice-read-exit-of-2 : tie.Need-shared-slice-read-exit-of-2
+shared-slice-read-exit-of-2 c = search needs
+
+exit-of-requires-2 : tie.Need-exit-of-requires-2
+exit-of-requires-2 c κs = search needs
+
+push-to-requires : tie.Need-push-to-requires
+push-to-requires c κs =
+    let p = c .before .before .before .before .before .before .before .before .before .before .before .before .before .before .before .pre .0 in
+    let room = p .room in
+    let n = wrote-next _ _ _ _ _ _ (c .before .before .before .before .before .push-epsilon .ensures) in
+    let x = c .exit-of2 .ensures .1 in
+    (omega arith, (omega arith, c .before .before .before .before .before .before .before .before .before .entry-at .ensures .low))
+
+push-product-entries-requires : tie.Need-push-product-entries-requires
+push-product-entries-requires c κs =
+    let p = c .before .before .before .before .before .before .before .before .before .before .before .before .before .before .before .before .before .before .before .pre in
+    let two = p .1 .0 in (
+      emits-later _ _ _ _ _ (p .0) (let m = wrote-next _ _ _ _ _ _ (c .before .before .before .before .before .before .before .before .before .push-epsilon .ensures) in let n = wrote-next _ _ _ _ _ _ (c .before .before .before .push-to .ensures) in omega arith),
+      omega arith,
+    )
+
+same-length : tie.Need-same-length
+same-length c = search needs
+
+returns : tie.Need-returns
+returns c =
+    let a = c .before .before .before .before .before .before .before .before .before .before .before .before .before .before .before .before .before .before .before .before .before .before .args in
+    let p = c .before .before .before .before .before .before .before .before .before .before .before .before .before .before .before .before .before .before .before .before .before .before .pre in
+    product-own (a .constants .now) (a .ports .now) _ _ _ _ _ _ _ _ _ _ _ _ (p .1 .0) (c .before .before .before .before .before .before .before .before .before .before .before .before .before .exit-of .ensures .0) (c .before .before .before .before .before .before .before .exit-of2 .ensures .0)
+    (c .before .before .before .before .before .before .before .before .before .before .before .before .push-epsilon .ensures)
+    (to-entry (a .constants .now) (getD (a .ports .now) 0 0) _ (a .c) _ _ _ _ _ _ (c .before .before .before .before .before .before .before .before .before .before .before .before .before .before .before .before .entry-at .ensures) (c .before .before .before .before .before .before .before .before .before .before .before .before .before .before .before .before .before .index-of .ensures .1)
+    (c .before .before .before .before .before .before .push-to .ensures))
+    (c .before .before .push-product-entries .ensures)
+
+pub push-product-spec : {M : Type 1} → statement M
+push-product-spec =
+    tie.close
+    (tie.spec
+    shared-slice-read-entry-at
+    index-of-requires
+    entry-at-requires
+    shared-slice-read-exit-of
+    exit-of-requires
+    push-epsilon-requires
+    shared-slice-read-exit-of-2
+    exit-of-requires-2
+    push-to-requires
+    push-product-entries-requires
+    same-length
+    returns)

@@ -1,0 +1,33 @@
+-- `emitter::own::push_symbol` meets its contract: its three writers leave the transitions of a symbol. Assumes nothing.
+use borrow.Author.Needs.{needs}
+use Rattle.emitter.proofs.OwnLaws.{symbol-own}
+use Rattle.emitter.proofs.own.push_symbol.Statement.{statement}
+use Rattle.emitter.proofs.own.push_symbol.Tie as tie
+
+push-transition-requires : tie.Need-push-transition-requires
+push-transition-requires c κs = search needs
+
+push-sources-requires : tie.Need-push-sources-requires
+push-sources-requires c κs = search needs
+
+push-entries-requires : tie.Need-push-entries-requires
+push-entries-requires c κs = search needs
+
+same-length : tie.Need-same-length
+same-length c = search needs
+
+returns : tie.Need-returns
+returns c =
+    let a = c .before .before .before .before .before .before .before .before .before .before .before .before .before .before .before .args in
+    symbol-own (a .constants .now) (a .ports .now) _ _ _ _ _ _ _ _ _ _ (c .before .before .before .before .before .before .before .before .before .before .push-transition .ensures) (c .before .before .before .before .before .before .push-sources .ensures)
+    (c .before .before .push-entries .ensures)
+
+pub push-symbol-spec : {M : Type 1} → statement M
+push-symbol-spec =
+    tie.close
+    (tie.spec
+    push-transition-requires
+    push-sources-requires
+    push-entries-requires
+    same-length
+    returns)

@@ -1,0 +1,147 @@
+// The own transitions of a word by its kind: its symbol move, if its rank is above 0, and its empty moves.
+ghost use mathlib.Core.Path.{_≡_};
+ghost use Prim.Native.Nat.{_+_, _≤_, _<_};
+ghost use lib.ListN.{length, getD};
+ghost use Rattle.automaton.specs.Transition.{transitionsWords};
+ghost use Rattle.automaton.specs.Numbering.{symbolTransitions, unionTransitions, productTransitions, closureTransitions, ownTransitions};
+ghost use Rattle.emitter.specs.Writing.{Wrote, lastIndex};
+ghost use Rattle.emitter.specs.Ports.{portIn, portsIn, fullPort};
+ghost use Rattle.emitter.specs.Emission.{Emits, Listed, Takes, sourceWords};
+use super::entries::push_closure_entries;
+use super::entries::push_entries;
+use super::entries::push_product_entries;
+use super::entries::push_to;
+use super::port::entry_at;
+use super::port::exit_of;
+use super::writer::push;
+use super::writer::push_epsilon;
+use super::writer::push_transition;
+use words::alphabet::LOW_BYTE;
+use words::word::CLOSURE;
+use words::word::KIND_UNIT;
+use words::word::PRODUCT;
+use words::word::SYMBOL;
+use words::word::UNION;
+
+// The word of a part state, kind 11, over the number in its lower bits.
+const SOURCE_WORD: u32 = 2952790016;
+
+// The index of a constant.
+fn index_of(constants: &[u32], c: u32) -> usize
+    requires { ⌜ Listed (now constants) c ⌝ }
+    ensures { λ r. ⌜ (r < length (now (constants .entry))) × (getD (now (constants .entry)) r 0 ≡ c) ⌝ }
+{
+    let mut k = 0;
+    while k < constants.len() {
+        if constants[k] == c {
+            return k;
+        }
+        k += 1;
+    }
+    k
+}
+
+// The part states of a symbol move: the children's exits.
+fn push_sources(ports: &[u32], out: &mut [u32], at: usize) -> usize
+    requires { ⌜ (length (now ports) ≤ 4) × (at + 4 ≤ lastIndex) ⌝ }
+    ensures { λ r. ⌜ Wrote 4 at (sourceWords (now (ports .entry))) (now (out .entry)) (now (out .exit)) r ⌝ }
+{
+    let mut next = at;
+    let mut i = 0;
+    while i < ports.len() {
+        next = push(out, next, SOURCE_WORD + exit_of(ports[i]));
+        i += 1;
+    }
+    next
+}
+
+fn push_symbol(
+    constants: &[u32],
+    ports: &[u32],
+    out: &mut [u32],
+    at: usize,
+    exit: u32,
+    symbol: u32,
+) -> usize
+    requires { ⌜ Emits (now constants) (now ports) exit at 85 ⌝ }
+    requires { ⌜ symbol < 256 ⌝ }
+    ensures { λ r. ⌜ Wrote 85 at (transitionsWords (symbolTransitions symbol (fullPort (now (constants .entry)) exit) (portsIn (now (constants .entry)) (now (ports .entry))))) (now (out .entry)) (now (out .exit)) r ⌝ }
+{
+    let sources = push_transition(out, at, symbol, exit);
+    let next = push_sources(ports, out, sources);
+    push_entries(constants, ports, out, next, exit)
+}
+
+fn push_union(constants: &[u32], ports: &[u32], out: &mut [u32], at: usize, exit: u32) -> usize
+    requires { ⌜ Emits (now constants) (now ports) exit at 85 ⌝ }
+    requires { ⌜ length (now ports) ≡ 2 ⌝ }
+    ensures { λ r. ⌜ Wrote 85 at (transitionsWords (unionTransitions (fullPort (now (constants .entry)) exit) (portIn (now (constants .entry)) (getD (now (ports .entry)) 0 0)) (portIn (now (constants .entry)) (getD (now (ports .entry)) 1 0)))) (now (out .entry)) (now (out .exit)) r ⌝ }
+{
+    let second = push_epsilon(out, at, exit_of(ports[0]), exit);
+    let next = push_epsilon(out, second, exit_of(ports[1]), exit);
+    push_entries(constants, ports, out, next, exit)
+}
+
+// A product over c.
+fn push_product(
+    constants: &[u32],
+    ports: &[u32],
+    out: &mut [u32],
+    at: usize,
+    exit: u32,
+    c: u32,
+) -> usize
+    requires { ⌜ Emits (now constants) (now ports) exit at 85 ⌝ }
+    requires { ⌜ (length (now ports) ≡ 2) × Listed (now constants) c ⌝ }
+    ensures { λ r. ⌜ Wrote 85 at (transitionsWords (productTransitions c (fullPort (now (constants .entry)) exit) (portIn (now (constants .entry)) (getD (now (ports .entry)) 0 0)) (portIn (now (constants .entry)) (getD (now (ports .entry)) 1 0)))) (now (out .entry)) (now (out .exit)) r ⌝ }
+{
+    let entry = entry_at(constants, ports[0], index_of(constants, c));
+    let second = push_epsilon(out, at, exit_of(ports[0]), exit);
+    let next = push_to(out, second, exit_of(ports[1]), entry);
+    push_product_entries(constants, ports, out, next, exit, c)
+}
+
+// A closure over c.
+fn push_closure(
+    constants: &[u32],
+    ports: &[u32],
+    out: &mut [u32],
+    at: usize,
+    exit: u32,
+    c: u32,
+) -> usize
+    requires { ⌜ Emits (now constants) (now ports) exit at 85 ⌝ }
+    requires { ⌜ (length (now ports) ≡ 1) × Listed (now constants) c ⌝ }
+    ensures { λ r. ⌜ Wrote 85 at (transitionsWords (closureTransitions c (fullPort (now (constants .entry)) exit) (portIn (now (constants .entry)) (getD (now (ports .entry)) 0 0)))) (now (out .entry)) (now (out .exit)) r ⌝ }
+{
+    let entry = entry_at(constants, ports[0], index_of(constants, c));
+    let second = push_to(out, at, exit_of(ports[0]), entry);
+    let next = push_epsilon(out, second, exit_of(ports[0]), exit);
+    push_closure_entries(constants, ports, out, next, exit, c)
+}
+
+// The own transitions of word w with this exit over its children's ports.
+pub fn push_own(
+    constants: &[u32],
+    ports: &[u32],
+    out: &mut [u32],
+    at: usize,
+    exit: u32,
+    w: u32,
+) -> usize
+    requires { ⌜ Emits (now constants) (now ports) exit at 85 ⌝ }
+    requires { ⌜ Takes (now constants) (now ports) w ⌝ }
+    ensures { λ r. ⌜ Wrote 85 at (transitionsWords (ownTransitions w (fullPort (now (constants .entry)) exit) (portsIn (now (constants .entry)) (now (ports .entry))))) (now (out .entry)) (now (out .exit)) r ⌝ }
+{
+    if ports.len() == 0 {
+        return at;
+    }
+    let kind = w / KIND_UNIT;
+    match kind {
+        SYMBOL => push_symbol(constants, ports, out, at, exit, w % LOW_BYTE),
+        UNION => push_union(constants, ports, out, at, exit),
+        PRODUCT => push_product(constants, ports, out, at, exit, w % LOW_BYTE),
+        CLOSURE => push_closure(constants, ports, out, at, exit, w % LOW_BYTE),
+        _ => at,
+    }
+}
