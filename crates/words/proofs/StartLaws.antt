@@ -2,7 +2,7 @@
 -- the walk's invariant. Assumes nothing.
 use mathlib.Core.Path.{_≡_, refl, ap, ap₂, _∙_, sym}
 use mathlib.Core.List.{List}
-use Prim.Native.Nat.{ℕ, zero, suc, _+_, _-_, _%_, _<_, _≤_}
+use Prim.Native.Nat.{ℕ, zero, suc, _+_, _-_, _<_, _≤_}
 use native.Mathlib.Omega.{arith}
 use lib.ListN.{length, getD, List·getD-eq-default}
 use Rattle.words.specs.Word.{Kind, entryKind, symbolKind, emptyKind, unionKind, productKind, closureKind, nodeKind, headKind, transitionKind, epsilonKind, sourceKind, noKind, kindOf, kindAt, lowByte}
@@ -27,9 +27,9 @@ arityAt-most r sourceKind h = omega arith
 arityAt-most r noKind h = omega arith
 
 -- a rank is a byte
-pub arity-most : (a : List ℕ) (w : ℕ) → arity a w ≤ 255
+pub arity-most : (a : List ℕ) (w r : ℕ) → r ≡ arity a w → r ≤ 255
 unfolding arity rankOf
-arity-most a w = arityAt-most (rankOf a (lowByte w)) (kindOf w) (omega arith)
+arity-most a w r e = rw e (arityAt-most (rankOf a (lowByte w)) (kindOf w) (omega arith))
 
 -- a missing word takes no children
 pub arity-missing : (a : List ℕ) → arity a 0 ≡ 0

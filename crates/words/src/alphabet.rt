@@ -72,15 +72,15 @@ fn entries_only(alphabet: &[u32]) -> bool
 pub fn count_constants(alphabet: &[u32]) -> usize
     ensures { λ r. ⌜ r ≡ length (constantsOf (now (alphabet .entry))) ⌝ }
 {
-    let mut n: usize = 0;
+    let mut count: usize = 0;
     let mut i = 0;
     while i < alphabet.len() {
         if is_constant(alphabet, i) {
-            n += 1;
+            count += 1;
         }
         i += 1;
     }
-    n
+    count
 }
 
 // Writes the constants in symbol order into the first words of the list, and answers how many.

@@ -1,4 +1,4 @@
--- `alphabet::count_constants` meets its contract. The loop's invariant: `n` of the first `i` entries are constants. Assumes
+-- `alphabet::count_constants` meets its contract. The loop's invariant: `count` of the first `i` entries are constants. Assumes
 -- nothing.
 use mathlib.Core.Path.{_∙_, sym}
 use mathlib.Core.Logic.{⊎-elim}
@@ -10,10 +10,10 @@ use Rattle.words.proofs.alphabet.count_constants.Statement.{statement}
 use Rattle.words.proofs.alphabet.count_constants.Tie as tie
 
 abbrev Inv-loop : tie.InvT-loop
-Inv-loop alphabet n₀ i₀ n i = Counted alphabet n i
+Inv-loop alphabet count₀ i₀ count i = Counted alphabet count i
 
 abbrev μ-loop : tie.MeasureT-loop
-μ-loop alphabet n₀ i₀ n i = length alphabet - i
+μ-loop alphabet count₀ i₀ count i = length alphabet - i
 
 loop-holds : tie.Need-loop-holds Inv-loop μ-loop
 loop-holds c = counted-none _
@@ -21,8 +21,8 @@ loop-holds c = counted-none _
 is-constant-requires : tie.Need-is-constant-requires Inv-loop μ-loop
 is-constant-requires c κs = search needs
 
-add-n : tie.Need-add-n Inv-loop μ-loop
-add-n c = search needs
+add-count : tie.Need-add-count Inv-loop μ-loop
+add-count c = search needs
 
 add-i : tie.Need-add-i Inv-loop μ-loop
 add-i c = search needs
@@ -50,7 +50,7 @@ count-constants-spec =
     μ-loop
     loop-holds
     is-constant-requires
-    add-n
+    add-count
     add-i
     loop-less
     loop-again

@@ -1,9 +1,7 @@
 -- `postfix::subtree_start` meets its contract. The loop's invariant: the node's subtree begins where the trees that are still
 -- needed before `start` begin. Assumes nothing.
 use mathlib.Core.Path.{sym}
-use Prim.Native.Nat.{_-_}
 use native.Mathlib.Omega.{arith}
-use lib.ListN.{getD}
 use borrow.Author.Needs.{needs}
 use Rattle.words.proofs.StartLaws.{arity-most, start-missing, Backward, backward-first, backward-short, backward-more, backward-end}
 use Rattle.words.proofs.postfix.subtree_start.Statement.{statement}
@@ -50,9 +48,8 @@ arity-requires-2 c κs = search needs
 
 add-needed : tie.Need-add-needed Inv-loop μ-loop
 add-needed c =
-    let s = c .before .before .before .before .before .before .before .before .before .before .args in
-    omega
-    (arith, c .arity2 .ensures, arity-most (s .alphabet .now) (getD (s .words .now) (c .before .before .before .before .loop .start - 1) 0))
+    let h = arity-most _ _ _ (c .arity2 .ensures) in
+    omega arith
 
 loop-less : tie.Need-loop-less Inv-loop μ-loop
 loop-less c = search needs
