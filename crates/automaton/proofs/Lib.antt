@@ -5,6 +5,9 @@ pub mod Ports
 pub mod Reading
 pub mod TargetLaws
 pub mod TransitionOrder
+pub mod OrderDistinct
+pub mod TransitionOrigin
+pub mod DistinctTransitions
 pub mod StateCount
 pub mod TargetCount
 pub mod TableLength

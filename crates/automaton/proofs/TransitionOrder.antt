@@ -59,7 +59,7 @@ fan-ordered {lo} targets (e ∷ es) (next k s) t = from-first lo k (epsilons-ord
 
 -- ---- the own transitions of a word
 
-own-ordered : {a : List ℕ} {hi w lo n : ℕ} {E : Port} {Ps : List Port} {ts : List Transition} → n ≤ E .exit
+pub own-ordered : {a : List ℕ} {hi w lo n : ℕ} {E : Port} {Ps : List Port} {ts : List Transition} → n ≤ E .exit
     → Children a lo n Ps → Own a hi w E Ps ts → InOrder ts
 own-ordered x c (leaf l) = withoutSymbol none
 own-ordered {E} x c (ofSymbol {P} {Ps} i f r) =

@@ -1,0 +1,33 @@
+-- Transitions that stand in order are distinct. Assumes nothing.
+use Prim.Native.Nat.{ℕ, _≤_}
+use mathlib.Core.Path.{_≡_}
+use mathlib.Core.List.{List, List·Memᴰ, List·Memᴰ·head, List·Memᴰ·tail}
+use native.Mathlib.Omega.{arith}
+use native.Mathlib.Nat.{le-refl}
+use Rattle.words.proofs.DistinctLaws.{Distinct}
+use Rattle.automaton.specs.Transition.{Transition, onSymbol, epsilon}
+use Rattle.automaton.proofs.TransitionOrder.{OrderedFrom, none, fromLater, toLater, InOrder, withSymbol, withoutSymbol}
+
+ordered-behind : {p q p′ q′ : ℕ} {ts : List Transition} → OrderedFrom p q ts → List·Memᴰ (epsilon p′ q′) ts → (p ≤ p′) × (p′ ≤ p → q ≤ q′)
+ordered-behind {p′} (fromLater {p′ = r} h o) (List·Memᴰ·head e) = let f : p′ ≡ r = cc in (omega arith, λ k. absurd (omega arith))
+ordered-behind (fromLater h o) (List·Memᴰ·tail m) = let b = ordered-behind o m in (omega (arith, b .0), λ k. absurd (omega (arith, b .0)))
+ordered-behind {p′} {q′} (toLater {p} {q′ = s} h o) (List·Memᴰ·head e) =
+    let f : p′ ≡ p = cc in
+    let g : q′ ≡ s = cc in
+    (omega arith, λ k. omega arith)
+ordered-behind (toLater h o) (List·Memᴰ·tail m) = let b = ordered-behind o m in (b .0, λ k. omega (arith, b .1 k))
+
+ordered-symbol : {p q f r : ℕ} {ps : List ℕ} {ts : List Transition} → OrderedFrom p q ts → List·Memᴰ (onSymbol f ps r) ts → ⊥
+ordered-symbol (fromLater h o) (List·Memᴰ·head e) = let z : _≡_ {A = ℕ} 0 1 = cc in omega arith
+ordered-symbol (fromLater h o) (List·Memᴰ·tail m) = ordered-symbol o m
+ordered-symbol (toLater h o) (List·Memᴰ·head e) = let z : _≡_ {A = ℕ} 0 1 = cc in omega arith
+ordered-symbol (toLater h o) (List·Memᴰ·tail m) = ordered-symbol o m
+
+ordered-distinct : {p q : ℕ} {ts : List Transition} → OrderedFrom p q ts → Distinct ts
+ordered-distinct none = tt
+ordered-distinct (fromLater {p′ = r} h o) = (λ m. omega (arith, ordered-behind o m .1 (le-refl r)), ordered-distinct o)
+ordered-distinct (toLater {p} h o) = (λ m. omega (arith, ordered-behind o m .1 (le-refl p)), ordered-distinct o)
+
+pub inOrder-distinct : {ts : List Transition} → InOrder ts → Distinct ts
+inOrder-distinct (withSymbol o) = (ordered-symbol o, ordered-distinct o)
+inOrder-distinct (withoutSymbol o) = ordered-distinct o
