@@ -2,3 +2,4 @@
 pub mod check;
 pub mod head;
 pub mod set;
+pub mod step;
