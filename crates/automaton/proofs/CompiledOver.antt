@@ -6,7 +6,7 @@ use mathlib.Core.Bool.{true}
 use mathlib.Core.List.{List, [], _∷_, _++_, map, List·Memᴰ}
 use native.Mathlib.Omega.{arith}
 use native.Mathlib.Nat.{le-refl, le-trans, lt-of-lt-of-le, le-of-lt}
-use lib.ListN.{length, drop, length-map}
+use lib.ListN.{drop, length-map}
 use Rattle.words.specs.Word.{lowByte}
 use Rattle.words.specs.Alphabet.{constantsOf, isConstant}
 use Rattle.words.specs.Postfix.{arity}
@@ -19,8 +19,8 @@ use Rattle.automaton.specs.Numbering.{Port, statesOf, portOf, entryFor, 
 use Rattle.automaton.specs.Table.{AllBelow, TransitionOver, TransitionsOver, AutomatonOver}
 use Rattle.automaton.proofs.EntryLaws.{to-epsilons, to-fan, to-constants, numbered-all, constantTransitions}
 use Rattle.automaton.proofs.Ports.{statesIn, Entries, every, own, missing, PortIn, Children, noChild, child, children-le}
-use Rattle.automaton.proofs.Reading.{Own, leaf, ofSymbol, ofUnion, ofProduct, ofClosure, Reading, ended, word, childrenOn, expression-reading, expression-length}
-use Rattle.automaton.proofs.LastPort.{statesAfter-le, lastPort-from, last-in}
+use Rattle.automaton.proofs.Reading.{Own, leaf, ofSymbol, ofUnion, ofProduct, ofClosure, Reading, ended, word, childrenOn, expression-reading}
+use Rattle.automaton.proofs.LastPort.{statesAfter-le, lastPort-in}
 use Rattle.automaton.proofs.TargetLaws.{symbolTargets, unionTargets, productTargets, closureTargets, entryFor-ascending, symbol-ascending, union-ascending, product-ascending, closure-ascending}
 
 -- ---- states below a bound
@@ -118,19 +118,14 @@ module _ (a : List ℕ) where
 
   pub compiled-over : (e : List ℕ) → expressionFault a e ≡ 0 → compiled a e .states ≤ 1024 → AutomatonOver a (compiled a e)
   unfolding compiled
-  compiled-over e f m = go e (expression-length a e f .0) (expression-reading a e f) m
-    where
-      go : (e : List ℕ) → 0 < length e → Reading a 0 e [] → statesAfter a 0 e ≤ 1024 → AutomatonOver a (compiled a e)
-      go [] l r m = absurd (omega arith)
-      go (w ∷ ws) l r m =
-          let N = statesAfter a 0 (w ∷ ws) in
-          let P = lastPort a (w ∷ ws) in
-          let p : PortIn a 0 N P = rw (lastPort-from a w ws) (last-in a ws r) in
-          let cs = constantTransitions (P .entries) in
-          let ts = transitionsFrom a 0 (w ∷ ws) [] in
-          record {
-            some = omega arith;
-            most = m;
-            final = p .below;
-            transitions = over-all a N (cs ++ ts) (all-append (TransitionOver a N) cs ts (constants-over p) (reading-over r));
-          }
+  compiled-over e f m =
+      let N = statesAfter a 0 e in
+      let p = lastPort-in a e f in
+      let cs = constantTransitions (lastPort a e .entries) in
+      let ts = transitionsFrom a 0 e [] in
+      record {
+        some = omega arith;
+        most = m;
+        final = p .below;
+        transitions = over-all a N (cs ++ ts) (all-append (TransitionOver a N) cs ts (constants-over p) (reading-over (expression-reading a e f)));
+      }

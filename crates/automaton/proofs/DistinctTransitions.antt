@@ -1,6 +1,6 @@
 -- No transition stands twice in a compiled automaton: an epsilon transition starts at an entry of its own word or at the
 -- exit of a child, a word is the child of one other, and each symbol transition has a target of its own. Assumes nothing.
-use Prim.Native.Nat.{ℕ, _+_, _<_, _≤_}
+use Prim.Native.Nat.{ℕ, _+_, _≤_}
 use mathlib.Core.Path.{_≡_, refl}
 use mathlib.Core.List.{List, [], _∷_, List·Memᴰ, List·Memᴰ·head, List·Memᴰ·tail}
 use native.Mathlib.Omega.{arith}
@@ -14,9 +14,9 @@ use Rattle.automaton.specs.Transition.{Transition, onSymbol, epsilon}
 use Rattle.automaton.specs.Numbering.{Port, statesOf, portOf, ownTransitions, transitionsFrom, lastPort, compiled}
 use Rattle.automaton.proofs.EntryLaws.{constantTransitions}
 use Rattle.automaton.proofs.Ports.{statesIn}
-use Rattle.automaton.proofs.Reading.{Reading, ended, word, childrenOn, expression-reading, expression-length}
+use Rattle.automaton.proofs.Reading.{Reading, ended, word, childrenOn, expression-reading}
 use Rattle.automaton.proofs.TransitionOrder.{own-ordered}
-use Rattle.automaton.proofs.LastPort.{lastFrom, lastPort-from, last-in}
+use Rattle.automaton.proofs.LastPort.{lastPort-in}
 use Rattle.automaton.proofs.OrderDistinct.{inOrder-distinct}
 use Rattle.automaton.proofs.TransitionOrigin.{OfWord, OfRest, own-of, word-apart, word-rest, rest-rest}
 
@@ -66,13 +66,8 @@ constants-apart n stack (epsilon p q) h k = h
 
 pub compiled-distinct : (a e : List ℕ) → expressionFault a e ≡ 0 → Distinct (compiled a e .transitions)
 unfolding compiled
-compiled-distinct a e f = go e (expression-length a e f .0) (expression-reading a e f)
-  where
-    go : (e : List ℕ) → 0 < length e → Reading a 0 e [] → Distinct (compiled a e .transitions)
-    go [] l r = absurd (omega arith)
-    go (w ∷ ws) l r =
-        let es = lastPort a (w ∷ ws) .entries in
-        let s = last-in a ws r .states in
-        let i = reading-apart r in
-        distinct-append OfConstants (OfRest 0 []) (constants-apart 0 []) (constantTransitions es) (transitionsFrom a 0 (w ∷ ws) []) (constants-of es) (i .rest)
-        (rw (lastPort-from a w ws) (constants-distinct (lastFrom a 0 w ws .entries) s)) (i .distinct)
+compiled-distinct a e f =
+    let es = lastPort a e .entries in
+    let i = reading-apart (expression-reading a e f) in
+    distinct-append OfConstants (OfRest 0 []) (constants-apart 0 []) (constantTransitions es) (transitionsFrom a 0 e []) (constants-of es) (i .rest)
+    (constants-distinct es (lastPort-in a e f .states)) (i .distinct)

@@ -1,13 +1,16 @@
--- The states of an accepted expression's last word are the compiled automaton's last states. Assumes nothing.
-use Prim.Native.Nat.{ℕ, suc, _+_, _-_, _≤_}
+-- The states of an accepted expression's last word: the compiled automaton's last states, with the constants in symbol order.
+-- Assumes nothing.
+use Prim.Native.Nat.{ℕ, suc, _+_, _-_, _<_, _≤_}
 use mathlib.Core.Path.{_≡_, refl}
 use mathlib.Core.List.{List, [], _∷_}
 use native.Mathlib.Omega.{arith}
 use native.Mathlib.Nat.{le-refl, le-trans}
 use lib.ListN.{length}
+use Rattle.words.specs.Expression.{expressionFault}
+use Rattle.words.proofs.Ascending.{Ascending}
 use Rattle.automaton.specs.Numbering.{Port, statesOf, portOf, childPort, portsFrom, statesAfter, lastPort}
-use Rattle.automaton.proofs.Ports.{PortIn, portIn-from}
-use Rattle.automaton.proofs.Reading.{Reading, word}
+use Rattle.automaton.proofs.Ports.{constantsIn, PortIn, portIn-from}
+use Rattle.automaton.proofs.Reading.{Reading, word, expression-reading, expression-length}
 
 -- the states of the last of the words w and ws, from state n on
 abbrev pub lastFrom : List ℕ → ℕ → ℕ → List ℕ → Port
@@ -34,3 +37,14 @@ module _ (a : List ℕ) where
   unfolding statesAfter
   last-in [] (word d r) = d .port
   last-in (v ∷ ws) (word d r) = portIn-from (omega arith) (last-in ws r)
+
+  pub lastPort-in : (e : List ℕ) → expressionFault a e ≡ 0 → PortIn a 0 (statesAfter a 0 e) (lastPort a e)
+  lastPort-in e f = go e (expression-length a e f .0) (expression-reading a e f)
+    where
+      go : (e : List ℕ) → 0 < length e → Reading a 0 e [] → PortIn a 0 (statesAfter a 0 e) (lastPort a e)
+      go [] l r = absurd (omega arith)
+      go (w ∷ ws) l r = rw (lastPort-from w ws) (last-in ws r)
+
+  -- "the symbol moves of the constants into the last word's entries, in symbol order"
+  pub constants-ordered : (e : List ℕ) → expressionFault a e ≡ 0 → Ascending 0 (length a) (constantsIn (lastPort a e .entries))
+  constants-ordered e f = lastPort-in e f .constants

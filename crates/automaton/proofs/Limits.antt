@@ -1,0 +1,47 @@
+-- Document 01's limits on compiled automata are attained: an accepted expression with exactly 1,024 states and a table of
+-- 1,147 words, and one with 1,038 states. Assumes nothing.
+use Prim.Native.Nat.{ℕ}
+use mathlib.Core.Path.{_≡_, refl}
+use mathlib.Core.List.{List, [], _∷_, _++_, flatMap}
+use lib.ListN.{length, replicate}
+use Rattle.words.specs.Word.{spareBitsClear, isOf, kindAt}
+use Rattle.words.specs.Alphabet.{isEntry, rankOf, isConstant, constantsFrom, constantsOf, noAlphabet, wrongConstants, alphabetFault}
+use Rattle.words.specs.Postfix.{arity, trees, notOneTree}
+use Rattle.words.specs.Expression.{isExpressionWord, wrongLength, noExpressionWords, expressionFault}
+use Rattle.automaton.specs.Transition.{tableWords}
+use Rattle.automaton.specs.Numbering.{hasEntries, statesOf, portOf, ownTransitions, portsFrom, statesAfter, transitionsFrom, compiled}
+
+-- 16 constants and a symbol of rank 4
+abbrev alphabet : List ℕ
+alphabet = replicate 16 0x1000_0000 ++ (0x1000_0004 ∷ [])
+
+-- the symbol over four constants, under 59 closures over the first constant
+abbrev largest : List ℕ
+largest = replicate 4 0x2000_0000 ++ (0x2000_0010 ∷ replicate 59 0x6000_0000)
+
+-- 61 closures over one constant
+abbrev overLimit : List ℕ
+overLimit = 0x2000_0000 ∷ replicate 61 0x6000_0000
+
+pub record Limits : Type 0 where
+  pub alphabet-accepted : alphabetFault alphabet ≡ 0
+  pub largest-accepted : expressionFault alphabet largest ≡ 0
+  pub largest-states : compiled alphabet largest .states ≡ 1024
+  pub largest-words : length (tableWords (compiled alphabet largest)) ≡ 1147
+  pub over-accepted : expressionFault alphabet overLimit ≡ 0
+  pub over-states : compiled alphabet overLimit .states ≡ 1038
+
+pub limits : Limits
+unfolding
+    kindAt spareBitsClear isOf isEntry rankOf isConstant constantsFrom constantsOf noAlphabet wrongConstants arity trees notOneTree
+    isExpressionWord wrongLength noExpressionWords hasEntries statesOf portOf ownTransitions portsFrom statesAfter transitionsFrom
+    compiled flatMap
+limits =
+    record {
+      alphabet-accepted = refl;
+      largest-accepted = refl;
+      largest-states = refl;
+      largest-words = refl;
+      over-accepted = refl;
+      over-states = refl;
+    }
