@@ -1,7 +1,7 @@
 -- What is known of a call that is not refused: the conditions of Run and Exchange by name, and back. Assumes nothing.
-use mathlib.Core.Path.{_≡_, refl, _∙_, sym}
-use mathlib.Core.Bool.{Bool, true, false, not, _&&_, _||_}
-use mathlib.Core.List.{List, [], _∷_, _++_}
+use mathlib.Core.Path.{_≡_, refl}
+use mathlib.Core.Bool.{true, false, not, _&&_, _||_}
+use mathlib.Core.List.{List}
 use Prim.Native.Nat.{ℕ, _*_, _≤_, _<_}
 use native.Mathlib.Omega.{arith}
 use lib.ListN.{length}
@@ -14,7 +14,7 @@ use Rattle.words.specs.Postfix.{oneTree, notOneTree, splice}
 use Rattle.words.proofs.TestLaws.{Tested, holds, fails, tested, and-true, or-false, false-or}
 use Rattle.words.proofs.RefusalLaws.{NoneHolds, refusal-none, none-refusal}
 use Rattle.automaton.specs.Table.{noTable}
-use Rattle.operations.specs.Answer.{Answer, refused, accepted, answerOf}
+use Rattle.operations.specs.Answer.{refused, accepted, answerOf}
 use Rattle.operations.specs.Marks.{sizeOf}
 use Rattle.operations.specs.Run.{wrongCount, fewMarks, runRefusals, runFault}
 use Rattle.operations.specs.Exchange.{wrongUse, noElement, noReplacement, resultTooLong, exchangeRefusals, exchangeFault}

@@ -1,10 +1,10 @@
 -- Demand 3: behind any list of Exchange calls, accepted and refused in any order, the memory is faithful to the plain
 -- chapter. The memory and the plain chapter are related (`Related`) at the start and behind each call; by recursion over the
 -- list they are behind all of them, and all that is claimed follows. Assumes nothing.
-use mathlib.Core.Path.{_≡_, refl, ap, ap₂, _∙_, sym, subst}
-use mathlib.Core.Bool.{Bool, true, false}
+use mathlib.Core.Path.{_≡_, refl, ap, ap₂, _∙_, sym}
+use mathlib.Core.Bool.{true}
 use mathlib.Core.List.{List, [], _∷_, _++_, map, flatten, head-eq-of-cons-eq}
-use Prim.Native.Nat.{ℕ, _+_, _*_, _<_, _≤_}
+use Prim.Native.Nat.{ℕ, _+_, _*_, _<_}
 use native.Mathlib.Omega.{arith}
 use lib.ListN.{length, take, drop, length-append, take-append-drop}
 use lib.Dec.{eqb}
@@ -19,11 +19,11 @@ use Rattle.operations.specs.Answer.{answerOf, exitOf}
 use Rattle.operations.specs.Marks.{sizeOf, nodeSets, storedSet, refit}
 use Rattle.operations.specs.Run.{runFault, runMarks, runAnswer, runExit, cellsIn}
 use Rattle.operations.specs.Listing.{matchesOf, listFault, listAnswer, listExit}
-use Rattle.operations.specs.Exchange.{Outcome, setIn, outcomesAfter, exchangeFault, fault, newTree, outcomes, exchangeAnswer, exchangeChapter, exchangeMarks}
+use Rattle.operations.specs.Exchange.{setIn, outcomesAfter, exchangeFault, fault, newTree, outcomes, exchangeAnswer, exchangeChapter, exchangeMarks}
 use Rattle.operations.specs.History.{Call, Memory, exchange, exchanges, plain, plains, Start, Fresh, Faithful, Demand3}
 use Rattle.operations.proofs.MarksLaws.{stored-right, take-refit, length-refit}
 use Rattle.operations.proofs.RunLaws.{length-words, run-writes, run-length, run-exit, matches-nodeSets}
-use Rattle.operations.proofs.AcceptedLaws.{accepted-values, RunAccepted, run-accepted, accepted-run, ResultFits, ExchangeAccepted, exchange-accepted}
+use Rattle.operations.proofs.AcceptedLaws.{accepted-values, run-accepted, accepted-run, ResultFits, ExchangeAccepted, exchange-accepted}
 use Rattle.operations.proofs.OutcomeLaws.{outcomes-right}
 
 -- the memory s and the plain chapter p, over slices of these lengths

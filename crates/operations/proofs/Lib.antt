@@ -15,3 +15,6 @@ pub mod RuleLaws
 pub mod OutcomeParts
 pub mod Recomputed
 pub mod Recomputation
+pub mod SliceLaws
+pub mod LoopLaws
+pub mod ExchangeLoops

@@ -1,15 +1,14 @@
 -- The outcomes of an exchange by node number, whatever the stored state sets are: those before the replaced subtree, those of
 -- the replacement, those behind; and how many are recomputed. Assumes nothing.
 use mathlib.Core.Path.{_≡_, refl, ap, ap₂, _∙_, sym, subst}
-use mathlib.Core.Bool.{Bool, true, false, not, cond, _&&_}
+use mathlib.Core.Bool.{Bool, true, not, cond}
 use mathlib.Core.List.{List, [], _∷_, _++_, map}
 use Prim.Native.Nat.{ℕ, zero, suc, _+_, _-_, _<_, _≤_}
 use native.Mathlib.Omega.{arith}
 use native.Mathlib.Nat.{zero-add, add-zero, add-assoc}
-use native.Mathlib.Numerals.{add-one}
-use lib.ListN.{length, getD, take, drop, length-drop, length-map, List·getD-append, List·getD-map}
+use lib.ListN.{length, getD, take, drop, length-drop, length-map, List·getD-append}
 use lib.Seq.{getD-append-add, take-suc, take-length, length-take-le}
-use Rattle.words.specs.Lists.{all, count, listFrom}
+use Rattle.words.specs.Lists.{count, listFrom}
 use Rattle.words.specs.Postfix.{oneTree, startOf, isAncestor, depthOf, values, stackAfter}
 use Rattle.words.proofs.TestLaws.{and-true}
 use Rattle.words.proofs.ListLaws.{length-listFrom, listFrom-add, getD-listFrom, listFrom-getD, listFrom-offset, map-listFrom, count-append, count-map}

@@ -1,21 +1,20 @@
 -- The second half of demand 3 holds of every accepted Exchange: the laws of the outcomes by node number, of the nodes behind
 -- and of the rule, put together. Assumes nothing.
-use mathlib.Core.Path.{_≡_, refl, ap, ap₂, _∙_, sym, subst}
-use mathlib.Core.Bool.{Bool, true, false, not, cond, _&&_}
-use mathlib.Core.List.{List, [], _∷_, _++_, map, flatten}
-use Prim.Native.Nat.{ℕ, zero, suc, _+_, _-_, _*_, _<_, _≤_}
+use mathlib.Core.Path.{_≡_, ap, _∙_, sym, subst}
+use mathlib.Core.Bool.{Bool, true, false, cond}
+use mathlib.Core.List.{List, [], _∷_, map, flatten}
+use Prim.Native.Nat.{ℕ, _+_, _-_, _*_, _<_}
 use native.Mathlib.Omega.{arith}
 use native.Mathlib.Decide.{decLt}
 use native.Mathlib.Nat.{mul-le-mul-right}
-use lib.ListN.{length, getD, take, drop, length-append, length-drop, length-map, List·getD-map}
+use lib.ListN.{length, getD, take, drop, length-drop, length-map, List·getD-map}
 use lib.Seq.{length-take-le}
-use Rattle.words.specs.Lists.{all, count, listFrom}
-use Rattle.words.specs.Postfix.{startOf, isAncestor, depthOf, splice, childrenOf}
+use Rattle.words.specs.Postfix.{startOf, splice, childrenOf}
 use Rattle.words.proofs.PostfixLaws.{start-le, length-splice}
 use Rattle.automaton.specs.StateSet.{StateSet}
 use Rattle.operations.specs.Answer.{accepted}
-use Rattle.operations.specs.Marks.{sizeOf, nodeSet, nodeSets, storedSet, sameWords, refit}
-use Rattle.operations.specs.Exchange.{Outcome, kept, recomputed, setIn, recomputedIn, rootSet, outcomesBehind, outcomesAfter, fault, newTree, outcomes, exchangeAnswer, exchangeMarks}
+use Rattle.operations.specs.Marks.{sizeOf, nodeSet, nodeSets, storedSet, refit}
+use Rattle.operations.specs.Exchange.{Outcome, kept, recomputed, setIn, recomputedIn, outcomesAfter, fault, newTree, outcomes, exchangeAnswer, exchangeMarks}
 use Rattle.operations.proofs.MarksLaws.{Sized, sized-getD, length-nodeSet, length-storedSet, storedSet-flatten}
 use Rattle.operations.proofs.AcceptedLaws.{ExchangeAccepted, exchange-accepted}
 use Rattle.operations.proofs.Recomputation.{outcomeAt, reached, Exchanged}

@@ -1,7 +1,7 @@
 -- Every recomputed node's state set comes from its children's as they stand in the outcomes: those just recomputed,
 -- otherwise those stored, whatever the stored sets are. Assumes nothing.
-use mathlib.Core.Path.{_≡_, refl, ap, ap₂, _∙_, sym, subst}
-use mathlib.Core.Bool.{Bool, true, false}
+use mathlib.Core.Path.{_≡_, refl, ap, _∙_, sym, subst}
+use mathlib.Core.Bool.{Bool, true}
 use mathlib.Core.List.{List, [], _∷_, _++_, map}
 use Prim.Native.Nat.{ℕ, zero, suc, _+_, _<_, _≤_}
 use native.Mathlib.Omega.{arith}
@@ -11,7 +11,7 @@ use Rattle.words.specs.Postfix.{arity, oneTree, startOf, isAncestor, splice, va
 use Rattle.words.proofs.TestLaws.{Tested, holds, fails, tested}
 use Rattle.words.proofs.ListLaws.{map-drop}
 use Rattle.words.proofs.PostfixLaws.{start-le}
-use Rattle.words.proofs.StackLaws.{read, Read}
+use Rattle.words.proofs.StackLaws.{read}
 use Rattle.words.proofs.ChildLaws.{numbers, numbers-more, children-value}
 use Rattle.automaton.specs.StateSet.{StateSet}
 use Rattle.operations.specs.Marks.{nodeSet, nodeSets, sameWords}

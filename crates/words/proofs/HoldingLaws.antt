@@ -1,11 +1,11 @@
 -- Laws of ancestors: which words behind a node are its ancestors, told by how many trees stand between. Assumes nothing.
-use mathlib.Core.Path.{_≡_, refl, ap, _∙_, sym}
-use mathlib.Core.Bool.{Bool, true, false}
+use mathlib.Core.Path.{_≡_, ap, _∙_, sym}
+use mathlib.Core.Bool.{true, false}
 use mathlib.Core.List.{List}
-use Prim.Native.Nat.{ℕ, zero, suc, _+_, _-_, _<_, _≤_}
+use Prim.Native.Nat.{ℕ, suc, _+_, _-_, _<_, _≤_}
 use native.Mathlib.Omega.{arith}
 use native.Mathlib.Numerals.{add-one}
-use lib.ListN.{length, getD}
+use lib.ListN.{getD}
 use borrow.Author.Tests.{le-leb, lt-leb, lt-ltb}
 use Rattle.words.specs.Postfix.{arity, startFrom, startOf, isAncestor}
 use Rattle.words.proofs.PostfixLaws.{startFrom-none, startFrom-more, startFrom-add, startFrom-le, start-parts, start-le}

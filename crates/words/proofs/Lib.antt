@@ -25,3 +25,4 @@ pub mod RelabelLaws
 pub mod ScanLaws
 pub mod ConstantScanLaws
 pub mod StartLaws
+pub mod ArrayStack

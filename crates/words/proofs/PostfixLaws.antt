@@ -1,17 +1,16 @@
 -- Laws of postfix words that make trees, of where subtrees begin, and of a subtree that gives way. Assumes nothing.
 use mathlib.Core.Path.{_≡_, refl, ap, ap₂, _∙_, sym, subst}
-use mathlib.Core.Bool.{Bool, true, false, cond, _&&_}
+use mathlib.Core.Bool.{Bool, true, false, cond}
 use mathlib.Core.List.{List, [], _∷_, _++_, append-assoc}
 use Prim.Native.Nat.{ℕ, zero, suc, _+_, _-_, _<_, _≤_}
 use native.Mathlib.Omega.{arith}
 use native.Mathlib.Decide.{decLe}
 use native.Mathlib.Numerals.{add-one}
-use native.Mathlib.Nat.{zero-add, suc-add, add-zero}
-use lib.ListN.{length, getD, take, drop, length-append, length-take, take-append-drop}
+use native.Mathlib.Nat.{zero-add, suc-add}
+use lib.ListN.{length, getD, take, drop, length-append, take-append-drop}
 use lib.Seq.{slice, take-suc, drop-append-le, length-take-le, slice-empty, take-take}
 use lib.Dec.{leb, eqb}
-use borrow.Author.Tests.{le-leb, lt-leb, leb-true, eq-eqb, eqb-true}
-use Rattle.words.specs.Lists.{all}
+use borrow.Author.Tests.{le-leb, leb-true, eq-eqb, eqb-true}
 use Rattle.words.specs.Postfix.{arity, trees, oneTree, startFrom, startOf, splice}
 
 -- ---- choices

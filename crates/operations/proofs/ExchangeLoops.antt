@@ -1,0 +1,180 @@
+-- What the loops of Exchange do, over the list of state sets: the sets move, those of the replacement are recomputed node by
+-- node, its root is compared with the set saved before the moves, and the loop behind goes upwards. The sets are then those of
+-- the outcomes, whatever the stored ones are. Assumes nothing.
+use mathlib.Core.Path.{_≡_, refl, ap, ap₂, _∙_, sym, subst}
+use mathlib.Core.Bool.{true, cond}
+use mathlib.Core.List.{List, [], _∷_, _++_, map, append-assoc, head-eq-of-cons-eq}
+use Prim.Native.Nat.{ℕ, zero, suc, _+_, _-_, _<_, _≤_}
+use native.Mathlib.Omega.{arith}
+use native.Mathlib.Nat.{zero-add}
+use lib.ListN.{length, take, drop, set, length-append, length-set, List·getD-append}
+use lib.Seq.{slice, length-take-le, take-at, drop-at, drop-append-add, take-append-add}
+use Rattle.words.specs.Lists.{listFrom}
+use Rattle.words.specs.Postfix.{oneTree, startOf, isAncestor, splice, values, stackAfter, stackGiven}
+use Rattle.words.proofs.TestLaws.{Tested, holds, fails, tested}
+use Rattle.words.proofs.ListLaws.{map-append, length-listFrom, getD-listFrom, Below, map-below}
+use Rattle.words.proofs.PostfixLaws.{start-le}
+use Rattle.words.proofs.StackLaws.{read, Read, length-values}
+use Rattle.words.proofs.ChildLaws.{numbers, numbers-more, stack-below, stack-numbers}
+use Rattle.automaton.specs.StateSet.{StateSet}
+use Rattle.operations.specs.Marks.{nodeSet, nodeSets, sameWords}
+use Rattle.operations.specs.Exchange.{recomputed, setIn, keptFrom, climb, rootSet, outcomesBehind, outcomesAfter}
+use Rattle.operations.proofs.ClimbLaws.{sets-kept}
+use Rattle.operations.proofs.OutcomeLaws.{sets-recomputed, root-read}
+use Rattle.operations.proofs.LoopLaws.{setAt, setFrom, Recomputing, recomputing-none, recomputing-more, upwards, upwards-is}
+
+module _ (a table : List ℕ) (stored : ℕ → StateSet) (ch : List ℕ) (e : ℕ) (x : List ℕ) (gap : List StateSet) where
+  abbrev s : ℕ
+  s = startOf a ch e
+
+  abbrev behind : List ℕ
+  behind = drop (e + 1) ch
+
+  abbrev tree : List ℕ
+  tree = splice a ch e x
+
+  -- the sets behind the moves: the replacement's are whatever stood there
+  abbrev pub movedSets : List StateSet
+  movedSets = listFrom stored 0 s ++ (gap ++ listFrom stored (e + 1) (length behind))
+
+  -- the replacement's nodes, one after the other
+  unfoldable pub replacedSets : ℕ → List StateSet
+  replacedSets zero = movedSets
+  replacedSets (suc k) = set (replacedSets k) (s + k) (setFrom a table tree (s + k) (replacedSets k))
+
+  -- the old set was saved before the moves
+  unfoldable pub exchangedSets : List StateSet
+  exchangedSets =
+      cond (sameWords (setAt (replacedSets (length x)) (s + length x - 1)) (stored e))
+      (replacedSets (length x))
+      (upwards a table tree (λ i. isAncestor a ch e (i - (s + length x) + (e + 1))) (s + length x) (length behind) (replacedSets (length x)))
+
+  module _ (he : e < length ch) (hx : oneTree a x ≡ true) (some : 0 < length x) (hg : length gap ≡ length x) where
+    abbrev step : ℕ → List StateSet → StateSet
+    step = nodeSet table
+
+    σ : List StateSet
+    σ = stackGiven a stored 0 (take s ch) []
+
+    low : s ≤ e
+    low = start-le a ch e
+
+    length-front : length (take s ch) ≡ s
+    length-front = length-take-le s ch (let l = low in omega arith)
+
+    length-tree : length tree ≡ s + (length x + length behind)
+    unfolding splice
+    length-tree = length-append (take s ch) (x ++ behind) ∙ ap₂ (λ (i j : ℕ). i + j) length-front (length-append x behind)
+
+    length-movedSets : length movedSets ≡ s + (length x + length behind)
+    length-movedSets =
+        length-append (listFrom stored 0 s) (gap ++ listFrom stored (e + 1) (length behind))
+        ∙ ap₂ (λ (i j : ℕ). i + j) (length-listFrom stored s 0)
+        (length-append gap (listFrom stored (e + 1) (length behind)) ∙ ap₂ (λ (i j : ℕ). i + j) hg (length-listFrom stored (length behind) (e + 1)))
+
+    length-replacedSets : (k : ℕ) → length (replacedSets k) ≡ length movedSets
+    unfolding replacedSets
+    length-replacedSets zero = refl
+    length-replacedSets (suc k) = length-set (replacedSets k) (s + k) _ ∙ length-replacedSets k
+
+    take-front : take s tree ≡ take s ch
+    unfolding splice
+    take-front = take-at (take s ch) (x ++ behind) s length-front
+
+    replacement : slice s (s + length x) tree ≡ x
+    unfolding splice
+    replacement =
+        let n : s + length x ≡ length (take s ch) + length x = ap (λ (i : ℕ). i + length x) (sym length-front) in
+        ap (λ (t : List ℕ). drop s t)
+        (ap (λ (i : ℕ). take i tree) n ∙ take-append-add (take s ch) (x ++ behind) (length x)
+        ∙ ap (λ (t : List ℕ). take s ch ++ t) (take-at x behind (length x) refl))
+        ∙ drop-at (take s ch) x s length-front
+
+    words-behind : drop (s + length x) tree ≡ behind
+    unfolding splice
+    words-behind =
+        ap (λ (i : ℕ). drop (i + length x) tree) (sym length-front) ∙ drop-append-add (take s ch) (x ++ behind) (length x)
+        ∙ drop-at x behind (length x) refl
+
+    stack-front : map (setAt movedSets) (numbers a tree s) ≡ σ
+    unfolding σ
+    stack-front =
+        ap (λ (l : List ℕ). map (setAt movedSets) (stackGiven a (λ k. k) 0 l [])) take-front
+        ∙ map-below (setAt movedSets) stored s ns few
+        (λ k h. List·getD-append (listFrom stored 0 s) _ [] k (rw (length-listFrom stored s 0) h) ∙ getD-listFrom stored [] s 0 k h ∙ ap stored (zero-add k))
+        ∙ sym (stack-numbers a stored (take s ch) 0 [])
+      where
+        ns : List ℕ
+        ns = stackGiven a (λ k. k) 0 (take s ch) []
+
+        few : Below s ns
+        few = subst (λ (n : ℕ). Below n ns) (zero-add _ ∙ length-front) (stack-below a (take s ch) 0 [] tt)
+
+    replaced-recomputing : (k : ℕ) → k ≤ length x → Recomputing a table tree movedSets s σ k (replacedSets k)
+    unfolding replacedSets
+    replaced-recomputing zero h = recomputing-none a table tree movedSets s σ stack-front
+    replaced-recomputing (suc k) h =
+        recomputing-more a table tree movedSets s σ k (replacedSets k) (omega (arith, length-tree)) (omega (arith, length-movedSets)) (length-replacedSets k) (replaced-recomputing k (omega arith))
+
+    allRecomputed : Recomputing a table tree movedSets s σ (length x) (replacedSets (length x))
+    allRecomputed = replaced-recomputing (length x) (omega arith)
+
+    new : Read a step x
+    new = read a step x hx
+
+    root : rootSet a table x ≡ new .root
+    unfolding new
+    root = root-read a table x hx
+
+    replacedSets-are : replacedSets (length x) ≡ listFrom stored 0 s ++ values a step x [] ++ listFrom stored (e + 1) (length behind)
+    replacedSets-are =
+        let m : s + length x ≡ length (listFrom stored 0 s) + length x = ap (λ (i : ℕ). i + length x) (sym (length-listFrom stored s 0)) in
+        let back : drop (s + length x) movedSets ≡ listFrom stored (e + 1) (length behind) =
+        ap (λ (i : ℕ). drop i movedSets) m ∙ drop-append-add (listFrom stored 0 s) (gap ++ listFrom stored (e + 1) (length behind)) (length x)
+        ∙ drop-at gap (listFrom stored (e + 1) (length behind)) (length x) hg in
+        let fore : take s movedSets ≡ listFrom stored 0 s = take-at (listFrom stored 0 s) _ s (length-listFrom stored s 0) in
+        allRecomputed .sets-are
+        ∙ ap₂ (λ (l k : List StateSet). l ++ values a step (slice s (s + length x) tree) σ ++ k) fore back
+        ∙ ap (λ (l : List StateSet). listFrom stored 0 s ++ l ++ listFrom stored (e + 1) (length behind)) (ap (λ (l : List ℕ). values a step l σ) replacement ∙ new .values-on σ)
+
+    stack-replaced : map (setAt (replacedSets (length x))) (numbers a tree (s + length x)) ≡ rootSet a table x ∷ σ
+    stack-replaced = allRecomputed .stack-is ∙ ap (λ (l : List ℕ). stackAfter a step l σ) replacement ∙ new .stack-on σ ∙ ap (λ (r : StateSet). r ∷ σ) (sym root)
+
+    root-replaced : setAt (replacedSets (length x)) (s + length x - 1) ≡ rootSet a table x
+    root-replaced =
+        let q = s + length x - 1 in
+        let n : s + length x ≡ suc q = omega arith in
+        head-eq-of-cons-eq
+        (sym (ap (λ (l : List ℕ). map (setAt (replacedSets (length x))) l) (ap (numbers a tree) n ∙ numbers-more a tree q (omega (arith, length-tree)))) ∙ stack-replaced)
+
+    head : List StateSet
+    head = listFrom stored 0 s ++ values a step x []
+
+    length-head : length head ≡ s + length x
+    unfolding head
+    length-head = length-append (listFrom stored 0 s) (values a step x []) ∙ ap₂ (λ (i j : ℕ). i + j) (length-listFrom stored s 0) (length-values a step x [])
+
+    pub exchangedSets-outcomes : exchangedSets ≡ map setIn (outcomesAfter a table stored ch e x)
+    unfolding exchangedSets outcomesAfter outcomesBehind head σ nodeSets
+    exchangedSets-outcomes =
+        go (tested (sameWords (rootSet a table x) (stored e)))
+        ∙ sym
+        (map-append setIn (keptFrom stored 0 s) (map recomputed (values a step x []) ++ outcomesBehind a table stored ch e x)
+        ∙ ap₂ (λ (l k : List StateSet). l ++ k) (sets-kept stored s 0)
+        (map-append setIn (map recomputed (values a step x [])) (outcomesBehind a table stored ch e x)
+        ∙ ap (λ (l : List StateSet). l ++ map setIn (outcomesBehind a table stored ch e x)) (sets-recomputed (values a step x [])))
+        ∙ sym (append-assoc (listFrom stored 0 s) (values a step x []) (map setIn (outcomesBehind a table stored ch e x))))
+      where
+        go : Tested (sameWords (rootSet a table x) (stored e)) → exchangedSets ≡ head ++ map setIn (outcomesBehind a table stored ch e x)
+        go (holds b) =
+            rw (root-replaced, b) (replacedSets-are ∙ ap (λ (l : List StateSet). head ++ l) (sym (sets-kept stored (length behind) (e + 1))))
+        go (fails b) =
+            rw (root-replaced, b)
+            (upwards-is a table tree stored (λ i. isAncestor a ch e (i - (s + length x) + (e + 1))) (isAncestor a ch e) behind (s + length x) (e + 1)
+            (replacedSets (length x)) (rootSet a table x ∷ σ) words-behind
+            (λ t. ap (isAncestor a ch e) (omega arith))
+            (omega (arith, length-replacedSets (length x), length-movedSets))
+            (ap (drop (s + length x)) replacedSets-are ∙ drop-at head (listFrom stored (e + 1) (length behind)) (s + length x) length-head)
+            stack-replaced
+            ∙ ap (λ (l : List StateSet). l ++ map setIn (climb a table stored (isAncestor a ch e) (e + 1) behind (rootSet a table x ∷ σ)))
+            (ap (take (s + length x)) replacedSets-are ∙ take-at head (listFrom stored (e + 1) (length behind)) (s + length x) length-head))
