@@ -1,0 +1,2 @@
+// Run, List and Exchange.
+pub mod nodes;
