@@ -4,3 +4,4 @@ pub mod EntryLaws
 pub mod FanLaws
 pub mod OwnLaws
 pub mod SourceLaws
+pub mod ConstantLaws

@@ -10,7 +10,7 @@ pub const EVERY: u32 = 64;
 // No entry. Any other number is the constant whose entry is the exit.
 pub const NONE: u32 = 65;
 
-const EXIT_UNIT: u32 = 128;
+pub const EXIT_UNIT: u32 = 128;
 
 const EXIT_RANGE: u32 = 2048;
 

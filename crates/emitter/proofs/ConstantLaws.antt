@@ -1,0 +1,74 @@
+-- Laws of the constants' symbol moves into entries, and of the loop that writes them. Assumes nothing.
+use mathlib.Core.Path.{_≡_, refl, ap, _∙_, sym}
+use mathlib.Core.List.{List, [], _∷_, _++_}
+use Prim.Native.Nat.{ℕ, suc, _+_, _%_, _<_, _≤_}
+use native.Mathlib.Omega.{arith}
+use native.Mathlib.Numerals.{add-one}
+use lib.ListN.{length, getD, take}
+use lib.Seq.{take-suc, take-all, length-take-le}
+use Rattle.words.proofs.ListLaws.{map-append}
+use Rattle.automaton.specs.Transition.{Transition, onSymbol, transitionWords, transitionsWords}
+use Rattle.automaton.specs.Numbering.{numbered}
+use Rattle.automaton.proofs.TransitionLaws.{transitionsWords-append, numbered-append}
+use Rattle.emitter.specs.Writing.{Wrote}
+use Rattle.emitter.specs.Ports.{exitIn, portIn}
+use Rattle.emitter.specs.Emission.{constantTransitions}
+use Rattle.emitter.proofs.WritingLaws.{wrote-none, wrote-more, wrote-same}
+use Rattle.emitter.proofs.PortLaws.{entries-every, entries-none, entries-own}
+
+-- the words of the moves into the entries for the constants, where x is the word's exit
+abbrev everyWords : ℕ → List ℕ → List ℕ
+everyWords x cs = transitionsWords (constantTransitions (numbered (suc x) cs))
+
+-- one constant more
+everyWords-more : (x : ℕ) (cs : List ℕ) (k : ℕ) → k < length cs
+    → everyWords x (take (k + 1) cs) ≡ everyWords x (take k cs) ++ transitionWords (onSymbol (getD cs k 0) [] (x + 1 + k))
+everyWords-more x cs k h =
+    let c = getD cs k 0 in
+    let es = numbered (suc x) (take k cs) in
+    let n : suc x + length (take k cs) ≡ x + 1 + k = rw (length-take-le k cs (omega arith)) (omega arith) in
+    ap (everyWords x) (ap (λ (i : ℕ). take i cs) (add-one k) ∙ take-suc cs k 0 h)
+    ∙ ap (λ (l : List (ℕ × ℕ)). transitionsWords (constantTransitions l)) (numbered-append (suc x) (take k cs) (c ∷ []) ∙ ap (λ (i : ℕ). es ++ (c, i) ∷ []) n)
+    ∙ ap transitionsWords (map-append (λ e. onSymbol (e .0) [] (e .1)) es ((c, x + 1 + k) ∷ []))
+    ∙ transitionsWords-append (constantTransitions es) (onSymbol c [] (x + 1 + k) ∷ [])
+
+-- the loop after k constants
+pub record Moved (cs : List ℕ) (x at : ℕ) (out out′ : List ℕ) (next k : ℕ) : Type 0 where
+  pub within : k ≤ length cs
+  pub long : length out′ ≡ length out
+  pub wrote : Wrote k at (everyWords x (take k cs)) out out′ next
+
+pub moved-none : (cs : List ℕ) (x at : ℕ) (out : List ℕ) → Moved cs x at out out at 0
+moved-none cs x at out = record { within = omega arith; long = refl; wrote = wrote-none at out }
+
+module _ {cs : List ℕ} {x at : ℕ} {out out′ : List ℕ} {next k : ℕ} (w : Moved cs x at out out′ next k) where
+  pub moved-more : (out″ : List ℕ) (r : ℕ) → k < length cs → length out″ ≡ length out′
+      → Wrote 1 next (transitionWords (onSymbol (getD cs k 0) [] (x + 1 + k))) out′ out″ r → Moved cs x at out out″ r (k + 1)
+  moved-more out″ r h l q =
+      record {
+        within = omega arith;
+        long = l ∙ w .long;
+        wrote =
+            wrote-same (k + 1) (k + 1) at r _ _ out out″ (wrote-more k 1 at next r _ _ out out′ out″ (w .wrote) q) (omega arith)
+            (sym (everyWords-more x cs k h));
+      }
+
+  pub moved-end : length cs ≤ k → length cs ≤ 16 → Wrote 16 at (everyWords x cs) out out′ next
+  moved-end h few =
+      let i = w .within in
+      wrote-same k 16 at next _ _ out out′ (w .wrote) (omega arith) (rw (take-all k cs h))
+
+-- ---- the entries that a port has
+
+module _ (cs : List ℕ) (p x at : ℕ) (out out′ : List ℕ) (r : ℕ) (e : x ≡ exitIn p) where
+  pub port-every : p % 128 ≡ 64 → Wrote 16 at (everyWords x cs) out out′ r
+      → Wrote 16 at (transitionsWords (constantTransitions (portIn cs p .entries))) out out′ r
+  port-every t w = rw (entries-every cs (exitIn p) (p % 128) t, ← e) w
+
+  pub port-own : (p % 128 ≡ 64 → ⊥) → (p % 128 ≡ 65 → ⊥) → Wrote 1 at (transitionWords (onSymbol (p % 128) [] x)) out out′ r
+      → Wrote 16 at (transitionsWords (constantTransitions (portIn cs p .entries))) out out′ r
+  port-own n m w = rw (entries-own cs (exitIn p) (p % 128) n m, ← e) (wrote-same 1 16 at r _ _ out out′ w (omega arith) refl)
+
+pub port-none : (cs : List ℕ) (p at : ℕ) (out : List ℕ) → p % 128 ≡ 65
+    → Wrote 16 at (transitionsWords (constantTransitions (portIn cs p .entries))) out out at
+port-none cs p at out t = rw (entries-none cs (exitIn p) (p % 128) t) (wrote-same 0 16 at at [] [] out out (wrote-none at out) (omega arith) refl)

@@ -1,0 +1,46 @@
+-- `emitter::constants::push_constants` meets its contract: the entries number says which of the laws applies. Assumes nothing.
+use borrow.Author.Needs.{needs}
+use Rattle.emitter.proofs.ConstantLaws.{port-every, port-none, port-own}
+use Rattle.emitter.proofs.constants.push_constants.Statement.{statement}
+use Rattle.emitter.proofs.constants.push_constants.Tie as tie
+
+exit-of-requires : tie.Need-exit-of-requires
+exit-of-requires c κs = search needs
+
+push-every-requires : tie.Need-push-every-requires
+push-every-requires c κs = search needs
+
+same-length : tie.Need-same-length
+same-length c = search needs
+
+returns : tie.Need-returns
+returns c =
+    let a = c .before .before .before .before .before .before .before .before .args in
+    port-every (a .constants .now) (a .port) _ _ _ _ _ (c .before .before .before .before .before .exit-of .ensures .0) (c .before .before .before .before .if1 .taken) (c .before .before .push-every .ensures)
+
+returns-2 : tie.Need-returns-2
+returns-2 c = let a = c .before .before .before .before .before .args in port-none (a .constants .now) (a .port) _ _ (c .if2 .taken)
+
+push-transition-requires : tie.Need-push-transition-requires
+push-transition-requires c κs = search needs
+
+same-length-2 : tie.Need-same-length-2
+same-length-2 c = search needs
+
+returns-3 : tie.Need-returns-3
+returns-3 c =
+    let a = c .before .before .before .before .before .before .before .before .before .args in
+    port-own (a .constants .now) (a .port) _ _ _ _ _ (c .before .before .before .before .before .before .exit-of .ensures .0) (c .before .before .before .before .before .if1 .left) (c .before .before .before .before .if2 .left) (c .before .before .push-transition .ensures)
+
+pub push-constants-spec : {M : Type 1} → statement M
+push-constants-spec =
+    tie.close
+    (tie.spec
+    exit-of-requires
+    push-every-requires
+    same-length
+    returns
+    returns-2
+    push-transition-requires
+    same-length-2
+    returns-3)

@@ -1,0 +1,44 @@
+// "the symbol moves of the constants into the last word's entries, in symbol order".
+ghost use Prim.Native.Nat.{ℕ, suc, _+_, _≤_, _<_};
+ghost use lib.ListN.{length, getD};
+ghost use Rattle.automaton.specs.Transition.{transitionsWords};
+ghost use Rattle.automaton.specs.Numbering.{numbered};
+ghost use Rattle.emitter.specs.Writing.{Wrote, lastIndex};
+ghost use Rattle.emitter.specs.Ports.{portIn};
+ghost use Rattle.emitter.specs.Emission.{Symbols, constantTransitions};
+use super::port::EVERY;
+use super::port::EXIT_UNIT;
+use super::port::NONE;
+use super::port::exit_of;
+use super::writer::push_transition;
+
+// Into an entry for each constant.
+fn push_every(constants: &[u32], out: &mut [u32], at: usize, exit: u32) -> usize
+    requires { ⌜ Symbols (now constants) at ⌝ }
+    requires { ⌜ exit < 2048 ⌝ }
+    ensures { λ r. ⌜ Wrote 16 at (transitionsWords (constantTransitions (numbered (suc exit) (now (constants .entry))))) (now (out .entry)) (now (out .exit)) r ⌝ }
+{
+    let mut next = at;
+    let mut k = 0;
+    while k < constants.len() {
+        next = push_transition(out, next, constants[k], exit + 1 + k as u32);
+        k += 1;
+    }
+    next
+}
+
+// Into the entries of a port.
+pub fn push_constants(constants: &[u32], port: u32, out: &mut [u32], at: usize) -> usize
+    requires { ⌜ Symbols (now constants) at ⌝ }
+    ensures { λ r. ⌜ Wrote 16 at (transitionsWords (constantTransitions (portIn (now (constants .entry)) port .entries))) (now (out .entry)) (now (out .exit)) r ⌝ }
+{
+    let exit = exit_of(port);
+    let entries = port % EXIT_UNIT;
+    if entries == EVERY {
+        return push_every(constants, out, at, exit);
+    }
+    if entries == NONE {
+        return at;
+    }
+    push_transition(out, at, entries, exit)
+}
