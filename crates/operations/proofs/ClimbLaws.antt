@@ -6,7 +6,7 @@ use mathlib.Core.List.{List, [], _∷_, _++_, map}
 use Prim.Native.Nat.{ℕ, zero, suc, _+_, _-_, _<_, _≤_}
 use native.Mathlib.Omega.{arith}
 use native.Mathlib.Decide.{decLe}
-use native.Mathlib.Nat.{add-zero}
+use native.Mathlib.Nat.{zero-add, add-zero}
 use native.Mathlib.Numerals.{add-one}
 use lib.ListN.{length, getD, drop, length-drop}
 use lib.Seq.{drop-append-le, drop-append-add, getD-drop, drop-drop}
@@ -17,7 +17,7 @@ use Rattle.words.proofs.StackLaws.{Right, right-list, on-top}
 use Rattle.words.proofs.HoldingLaws.{HoldingTree, takes-others, holding-others, takes-holding, holding-ancestor}
 use Rattle.automaton.specs.StateSet.{StateSet}
 use Rattle.operations.specs.Marks.{nodeSet, sameWords}
-use Rattle.operations.specs.Exchange.{Outcome, kept, recomputed, setIn, keptFrom, climb}
+use Rattle.operations.specs.Exchange.{Outcome, kept, recomputed, setIn, recomputedIn, keptFrom, climb}
 use Rattle.operations.proofs.MarksLaws.{same-words}
 
 -- ---- one node
@@ -45,6 +45,11 @@ module _ (a table : List ℕ) (stored : ℕ → StateSet) (above : ℕ → Bool)
 pub sets-kept : (stored : ℕ → StateSet) (n j : ℕ) → map setIn (keptFrom stored j n) ≡ listFrom stored j n
 sets-kept stored zero j = refl
 sets-kept stored (suc n) j = ap (λ (l : List StateSet). stored j ∷ l) (sets-kept stored n (suc j))
+
+pub count-kept : (stored : ℕ → StateSet) (n j : ℕ) → recomputedIn (keptFrom stored j n) ≡ 0
+unfolding recomputedIn
+count-kept stored zero j = refl
+count-kept stored (suc n) j = zero-add (recomputedIn (keptFrom stored (suc j) n)) ∙ count-kept stored n (suc j)
 
 -- ---- where the stored state sets are those of the old tree
 

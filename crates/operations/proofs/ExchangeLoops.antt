@@ -1,26 +1,27 @@
 -- What the loops of Exchange do, over the list of state sets: the sets move, those of the replacement are recomputed node by
 -- node, its root is compared with the set saved before the moves, and the loop behind goes upwards. The sets are then those of
--- the outcomes, whatever the stored ones are. Assumes nothing.
+-- the outcomes, and the count is theirs, whatever the stored sets are. Assumes nothing.
 use mathlib.Core.Path.{_≡_, refl, ap, ap₂, _∙_, sym, subst}
 use mathlib.Core.Bool.{true, cond}
 use mathlib.Core.List.{List, [], _∷_, _++_, map, append-assoc, head-eq-of-cons-eq}
 use Prim.Native.Nat.{ℕ, zero, suc, _+_, _-_, _<_, _≤_}
 use native.Mathlib.Omega.{arith}
-use native.Mathlib.Nat.{zero-add}
+use native.Mathlib.Nat.{zero-add, add-zero}
 use lib.ListN.{length, take, drop, set, length-append, length-set, List·getD-append}
 use lib.Seq.{slice, length-take-le, take-at, drop-at, drop-append-add, take-append-add}
 use Rattle.words.specs.Lists.{listFrom}
 use Rattle.words.specs.Postfix.{oneTree, startOf, isAncestor, splice, values, stackAfter, stackGiven}
 use Rattle.words.proofs.TestLaws.{Tested, holds, fails, tested}
 use Rattle.words.proofs.ListLaws.{map-append, length-listFrom, getD-listFrom, Below, map-below}
-use Rattle.words.proofs.PostfixLaws.{start-le}
+use Rattle.words.proofs.PostfixLaws.{start-le, length-splice}
 use Rattle.words.proofs.StackLaws.{read, Read, length-values}
 use Rattle.words.proofs.ChildLaws.{numbers, numbers-more, stack-below, stack-numbers}
 use Rattle.automaton.specs.StateSet.{StateSet}
 use Rattle.operations.specs.Marks.{nodeSet, nodeSets, sameWords}
-use Rattle.operations.specs.Exchange.{recomputed, setIn, keptFrom, climb, rootSet, outcomesBehind, outcomesAfter}
-use Rattle.operations.proofs.ClimbLaws.{sets-kept}
+use Rattle.operations.specs.Exchange.{Outcome, recomputed, setIn, recomputedIn, keptFrom, climb, rootSet, outcomesBehind, outcomesAfter}
+use Rattle.operations.proofs.ClimbLaws.{sets-kept, count-kept}
 use Rattle.operations.proofs.OutcomeLaws.{sets-recomputed, root-read}
+use Rattle.operations.proofs.OutcomeParts.{recomputed-parts}
 use Rattle.operations.proofs.LoopLaws.{setAt, setFrom, Recomputing, recomputing-none, recomputing-more, upwards, upwards-is}
 
 module _ (a table : List ℕ) (stored : ℕ → StateSet) (ch : List ℕ) (e : ℕ) (x : List ℕ) (gap : List StateSet) where
@@ -42,12 +43,12 @@ module _ (a table : List ℕ) (stored : ℕ → StateSet) (ch : List ℕ) (e : �
   replacedSets zero = movedSets
   replacedSets (suc k) = set (replacedSets k) (s + k) (setFrom a table tree (s + k) (replacedSets k))
 
-  -- the old set was saved before the moves
-  unfoldable pub exchangedSets : List StateSet
+  -- all sets, and how many are recomputed; the old element's set was saved before the moves
+  unfoldable pub exchangedSets : List StateSet × ℕ
   exchangedSets =
       cond (sameWords (setAt (replacedSets (length x)) (s + length x - 1)) (stored e))
-      (replacedSets (length x))
-      (upwards a table tree (λ i. isAncestor a ch e (i - (s + length x) + (e + 1))) (s + length x) (length behind) (replacedSets (length x)))
+      (replacedSets (length x), length x)
+      (upwards a table tree (λ i. isAncestor a ch e (i - (s + length x) + (e + 1))) (s + length x) (length behind) (replacedSets (length x)) (length x))
 
   module _ (he : e < length ch) (hx : oneTree a x ≡ true) (some : 0 < length x) (hg : length gap ≡ length x) where
     abbrev step : ℕ → List StateSet → StateSet
@@ -63,8 +64,7 @@ module _ (a table : List ℕ) (stored : ℕ → StateSet) (ch : List ℕ) (e : �
     length-front = length-take-le s ch (let l = low in omega arith)
 
     length-tree : length tree ≡ s + (length x + length behind)
-    unfolding splice
-    length-tree = length-append (take s ch) (x ++ behind) ∙ ap₂ (λ (i j : ℕ). i + j) length-front (length-append x behind)
+    length-tree = length-splice a ch e x he
 
     length-movedSets : length movedSets ≡ s + (length x + length behind)
     length-movedSets =
@@ -154,27 +154,41 @@ module _ (a table : List ℕ) (stored : ℕ → StateSet) (ch : List ℕ) (e : �
     unfolding head
     length-head = length-append (listFrom stored 0 s) (values a step x []) ∙ ap₂ (λ (i j : ℕ). i + j) (length-listFrom stored s 0) (length-values a step x [])
 
-    pub exchangedSets-outcomes : exchangedSets ≡ map setIn (outcomesAfter a table stored ch e x)
-    unfolding exchangedSets outcomesAfter outcomesBehind head σ nodeSets
-    exchangedSets-outcomes =
-        go (tested (sameWords (rootSet a table x) (stored e)))
-        ∙ sym
+    -- the sets of the outcomes in their three parts
+    outcomes-parts : head ++ map setIn (outcomesBehind a table stored ch e x) ≡ map setIn (outcomesAfter a table stored ch e x)
+    unfolding outcomesAfter head nodeSets
+    outcomes-parts =
+        sym
         (map-append setIn (keptFrom stored 0 s) (map recomputed (values a step x []) ++ outcomesBehind a table stored ch e x)
         ∙ ap₂ (λ (l k : List StateSet). l ++ k) (sets-kept stored s 0)
         (map-append setIn (map recomputed (values a step x [])) (outcomesBehind a table stored ch e x)
         ∙ ap (λ (l : List StateSet). l ++ map setIn (outcomesBehind a table stored ch e x)) (sets-recomputed (values a step x [])))
         ∙ sym (append-assoc (listFrom stored 0 s) (values a step x []) (map setIn (outcomesBehind a table stored ch e x))))
+
+    pub exchangedSets-outcomes : exchangedSets
+        ≡ (map setIn (outcomesAfter a table stored ch e x), recomputedIn (outcomesAfter a table stored ch e x))
+    unfolding exchangedSets outcomesBehind head σ
+    exchangedSets-outcomes =
+        go (tested (sameWords (rootSet a table x) (stored e)))
+        ∙ ap₂ (λ (l : List StateSet) (i : ℕ). (l, i)) outcomes-parts (sym (recomputed-parts a table stored ch e x))
       where
-        go : Tested (sameWords (rootSet a table x) (stored e)) → exchangedSets ≡ head ++ map setIn (outcomesBehind a table stored ch e x)
+        go : Tested (sameWords (rootSet a table x) (stored e)) → exchangedSets
+            ≡ (head ++ map setIn (outcomesBehind a table stored ch e x), length x + recomputedIn (outcomesBehind a table stored ch e x))
         go (holds b) =
-            rw (root-replaced, b) (replacedSets-are ∙ ap (λ (l : List StateSet). head ++ l) (sym (sets-kept stored (length behind) (e + 1))))
+            rw (root-replaced, b)
+            (ap₂ (λ (l : List StateSet) (i : ℕ). (l, i))
+            (replacedSets-are ∙ ap (λ (l : List StateSet). head ++ l) (sym (sets-kept stored (length behind) (e + 1))))
+            (sym (add-zero (length x)) ∙ ap (λ (i : ℕ). length x + i) (sym (count-kept stored (length behind) (e + 1)))))
         go (fails b) =
             rw (root-replaced, b)
             (upwards-is a table tree stored (λ i. isAncestor a ch e (i - (s + length x) + (e + 1))) (isAncestor a ch e) behind (s + length x) (e + 1)
-            (replacedSets (length x)) (rootSet a table x ∷ σ) words-behind
+            (replacedSets (length x)) (length x) (rootSet a table x ∷ σ) words-behind
             (λ t. ap (isAncestor a ch e) (omega arith))
             (omega (arith, length-replacedSets (length x), length-movedSets))
             (ap (drop (s + length x)) replacedSets-are ∙ drop-at head (listFrom stored (e + 1) (length behind)) (s + length x) length-head)
             stack-replaced
-            ∙ ap (λ (l : List StateSet). l ++ map setIn (climb a table stored (isAncestor a ch e) (e + 1) behind (rootSet a table x ∷ σ)))
+            ∙ ap (λ (l : List StateSet). (l ++ map setIn up, length x + recomputedIn up))
             (ap (take (s + length x)) replacedSets-are ∙ take-at head (listFrom stored (e + 1) (length behind)) (s + length x) length-head))
+          where
+            up : List Outcome
+            up = climb a table stored (isAncestor a ch e) (e + 1) behind (rootSet a table x ∷ σ)

@@ -6,7 +6,7 @@ use mathlib.Core.Bool.{Bool, true, false, cond}
 use mathlib.Core.List.{List, [], _∷_, _++_, map, append-assoc, append-nil}
 use Prim.Native.Nat.{ℕ, zero, suc, _+_, _-_, _<_, _≤_}
 use native.Mathlib.Omega.{arith}
-use native.Mathlib.Nat.{add-zero, add-suc, suc-add}
+use native.Mathlib.Nat.{zero-add, add-zero, add-suc, suc-add, add-assoc}
 use native.Mathlib.Numerals.{add-one}
 use lib.ListN.{length, getD, take, drop, set, length-drop, length-append, take-append-drop}
 use lib.Seq.{slice, slice-empty, length-slice, take-suc, drop-cons, drop-append-le, length-take-le, set-at, getD-drop, drop-drop, getD-set-same, drop-set-lt, take-suc-set, lt-length-set}
@@ -18,9 +18,9 @@ use Rattle.words.proofs.StackLaws.{values-append, stack-append, length-values}
 use Rattle.words.proofs.ChildLaws.{numbers, numbers-more, numbers-below, children-value}
 use Rattle.automaton.specs.StateSet.{StateSet}
 use Rattle.operations.specs.Marks.{nodeSet, sameWords}
-use Rattle.operations.specs.Exchange.{Outcome, setIn, climb}
+use Rattle.operations.specs.Exchange.{Outcome, kept, recomputed, setIn, recomputedIn, climb}
 use Rattle.operations.proofs.MarksLaws.{same-words}
-use Rattle.operations.proofs.ClimbLaws.{climb-beside, climb-last, climb-onward, sets-kept}
+use Rattle.operations.proofs.ClimbLaws.{climb-beside, climb-last, climb-onward, sets-kept, count-kept}
 
 -- the state set of a node by its number
 abbrev pub setAt : List StateSet → ℕ → StateSet
@@ -105,42 +105,47 @@ module _ (a table ch : List ℕ) where
               ∙ sym (ap (λ (r : List ℕ). stackAfter a step r σ) one ∙ stack-append a step run (w ∷ []) σ);
         }
 
-  -- ---- the nodes behind: n nodes from i on
+  -- ---- the nodes behind: n nodes from i on, where `count` nodes are recomputed so far
 
-  unfoldable pub upwards : (ℕ → Bool) → ℕ → ℕ → List StateSet → List StateSet
-  upwards above i zero sets = sets
-  upwards above i (suc n) sets =
-      let beside = upwards above (suc i) n sets in
-      let onward = upwards above (suc i) n (set sets i (setFrom i sets)) in
-      let ancestor = cond (sameWords (setFrom i sets) (setAt sets i)) sets onward in
+  unfoldable pub upwards : (ℕ → Bool) → ℕ → ℕ → List StateSet → ℕ → List StateSet × ℕ
+  upwards above i zero sets count = (sets, count)
+  upwards above i (suc n) sets count =
+      let beside = upwards above (suc i) n sets count in
+      let onward = upwards above (suc i) n (set sets i (setFrom i sets)) (count + 1) in
+      let ancestor = cond (sameWords (setFrom i sets) (setAt sets i)) (sets, count + 1) onward in
       cond (above i) ancestor beside
 
-  module _ (above : ℕ → Bool) (i n : ℕ) (sets : List StateSet) where
-    pub upwards-beside : above i ≡ false → upwards above i (suc n) sets ≡ upwards above (suc i) n sets
+  module _ (above : ℕ → Bool) (i n : ℕ) (sets : List StateSet) (count : ℕ) where
+    pub upwards-beside : above i ≡ false → upwards above i (suc n) sets count ≡ upwards above (suc i) n sets count
     unfolding upwards
     upwards-beside b = rw b
 
-    pub upwards-last : above i ≡ true → sameWords (setFrom i sets) (setAt sets i) ≡ true → upwards above i (suc n) sets ≡ sets
+    pub upwards-last : above i ≡ true → sameWords (setFrom i sets) (setAt sets i) ≡ true → upwards above i (suc n) sets count ≡ (sets, count + 1)
     unfolding upwards
     upwards-last b c = rw (b, c)
 
     pub upwards-onward : above i ≡ true → sameWords (setFrom i sets) (setAt sets i) ≡ false
-        → upwards above i (suc n) sets ≡ upwards above (suc i) n (set sets i (setFrom i sets))
+        → upwards above i (suc n) sets count ≡ upwards above (suc i) n (set sets i (setFrom i sets)) (count + 1)
     unfolding upwards
     upwards-onward b c = rw (b, c)
 
+  -- the sets from i on with these outcomes, and the count with theirs
+  abbrev pub ended : ℕ → List StateSet → ℕ → List Outcome → List StateSet × ℕ
+  ended i sets count os = (take i sets ++ map setIn os, count + recomputedIn os)
+
   -- the sets from i on are those stored from node j of the old tree on
-  pub upwards-is : (stored : ℕ → StateSet) (above above′ : ℕ → Bool) (ws : List ℕ) (i j : ℕ) (sets stack : List StateSet)
+  pub upwards-is : (stored : ℕ → StateSet) (above above′ : ℕ → Bool) (ws : List ℕ) (i j : ℕ) (sets : List StateSet) (count : ℕ) (stack : List StateSet)
       → drop i ch ≡ ws → ((t : ℕ) → above (i + t) ≡ above′ (j + t)) → i ≤ length sets → drop i sets ≡ listFrom stored j (length ws)
       → map (setAt sets) (numbers a ch i) ≡ stack
-      → upwards above i (length ws) sets ≡ take i sets ++ map setIn (climb a table stored above′ j ws stack)
-  unfolding upwards climb
-  upwards-is stored above above′ [] i j sets stack q same l r e =
-      sym (ap (λ (t : List StateSet). take i sets ++ t) (sym r) ∙ take-append-drop i sets)
-  upwards-is stored above above′ (w ∷ ws) i j sets stack q same l r e =
+      → upwards above i (length ws) sets count ≡ ended i sets count (climb a table stored above′ j ws stack)
+  unfolding upwards climb recomputedIn
+  upwards-is stored above above′ [] i j sets count stack q same l r e =
+      ap₂ (λ (x : List StateSet) (y : ℕ). (x, y))
+      (sym (ap (λ (t : List StateSet). take i sets ++ t) (sym r) ∙ take-append-drop i sets)) (sym (add-zero count))
+  upwards-is stored above above′ (w ∷ ws) i j sets count stack q same l r e =
       go (tested (above′ j)) (tested (sameWords new (stored j)))
-      (upwards-is stored above above′ ws (suc i) (suc j) sets (stored j ∷ rest))
-      (upwards-is stored above above′ ws (suc i) (suc j) (set sets i new) (new ∷ rest))
+      (upwards-is stored above above′ ws (suc i) (suc j) sets count (stored j ∷ rest))
+      (upwards-is stored above above′ ws (suc i) (suc j) (set sets i new) (count + 1) (new ∷ rest))
     where
       rest : List StateSet
       rest = drop (arity a w) stack
@@ -175,33 +180,47 @@ module _ (a table ch : List ℕ) where
       above-later : (t : ℕ) → above (suc i + t) ≡ above′ (suc j + t)
       above-later t = rw (suc-add i t, ← add-suc i t, suc-add j t, ← add-suc j t) (same (suc t))
 
-      Ih : List StateSet → List StateSet → Type 0
-      Ih sets′ stack′ =
+      Ih : List StateSet → ℕ → List StateSet → Type 0
+      Ih sets′ count′ stack′ =
           drop (suc i) ch ≡ ws → ((t : ℕ) → above (suc i + t) ≡ above′ (suc j + t)) → suc i ≤ length sets′
           → drop (suc i) sets′ ≡ listFrom stored (suc j) (length ws) → map (setAt sets′) (numbers a ch (suc i)) ≡ stack′
-          → upwards above (suc i) (length ws) sets′ ≡ take (suc i) sets′ ++ map setIn (climb a table stored above′ (suc j) ws stack′)
+          → upwards above (suc i) (length ws) sets′ count′ ≡ ended (suc i) sets′ count′ (climb a table stored above′ (suc j) ws stack′)
 
-      go : Tested (above′ j) → Tested (sameWords new (stored j)) → Ih sets (stored j ∷ rest) → Ih (set sets i new) (new ∷ rest)
-          → upwards above i (suc (length ws)) sets ≡ take i sets ++ map setIn (climb a table stored above′ j (w ∷ ws) stack)
+      -- one outcome more
+      kept-more : (os : List Outcome) → ended (suc i) sets count os ≡ ended i sets count (kept (stored j) ∷ os)
+      kept-more os =
+          ap₂ (λ (x : List StateSet) (y : ℕ). (x, y))
+          (ap (λ (t : List StateSet). t ++ map setIn os) (take-suc sets i [] insideSets)
+          ∙ append-assoc (take i sets) (setAt sets i ∷ []) (map setIn os)
+          ∙ ap (λ (x : StateSet). take i sets ++ x ∷ map setIn os) here)
+          (ap (λ (x : ℕ). count + x) (sym (zero-add (recomputedIn os))))
+
+      recomputed-more : (os : List Outcome) → ended (suc i) (set sets i new) (count + 1) os ≡ ended i sets count (recomputed new ∷ os)
+      recomputed-more os =
+          ap₂ (λ (x : List StateSet) (y : ℕ). (x, y))
+          (ap (λ (t : List StateSet). t ++ map setIn os) (take-suc-set sets i new insideSets) ∙ append-assoc (take i sets) (new ∷ []) (map setIn os))
+          (add-assoc count 1 (recomputedIn os))
+
+      go : Tested (above′ j) → Tested (sameWords new (stored j)) → Ih sets count (stored j ∷ rest) → Ih (set sets i new) (count + 1) (new ∷ rest)
+          → upwards above i (suc (length ws)) sets count ≡ ended i sets count (climb a table stored above′ j (w ∷ ws) stack)
       go (fails b) c ih₁ ih₂ =
-          upwards-beside above i (length ws) sets (above-here ∙ b)
+          upwards-beside above i (length ws) sets count (above-here ∙ b)
           ∙ ih₁ words above-later insideSets later
           (stack-pass i sets stack inside e ∙ ap₂ (λ (x : StateSet) (v : ℕ). x ∷ drop (arity a v) stack) here word)
-          ∙ ap (λ (t : List StateSet). t ++ map setIn (climb a table stored above′ (suc j) ws (stored j ∷ rest))) (take-suc sets i [] insideSets)
-          ∙ append-assoc (take i sets) (setAt sets i ∷ []) _
-          ∙ ap (λ (x : StateSet). take i sets ++ x ∷ map setIn (climb a table stored above′ (suc j) ws (stored j ∷ rest))) here
-          ∙ ap (λ (t : List Outcome). take i sets ++ map setIn t) (sym (climb-beside a table stored above′ j w ws stack b))
+          ∙ kept-more (climb a table stored above′ (suc j) ws (stored j ∷ rest))
+          ∙ ap (ended i sets count) (sym (climb-beside a table stored above′ j w ws stack b))
       go (holds b) (holds c) ih₁ ih₂ =
-          upwards-last above i (length ws) sets (above-here ∙ b) (ap₂ sameWords recomputes here ∙ c)
-          ∙ sym (take-append-drop i sets)
+          upwards-last above i (length ws) sets count (above-here ∙ b) (ap₂ sameWords recomputes here ∙ c)
+          ∙ ap₂ (λ (x : List StateSet) (y : ℕ). (x, count + y))
+          (sym (take-append-drop i sets)
           ∙ ap (λ (t : List StateSet). take i sets ++ t)
-          (r ∙ ap₂ (λ (x : StateSet) (t : List StateSet). x ∷ t) (sym (same-words new (stored j) c)) (sym (sets-kept stored (length ws) (suc j))))
-          ∙ ap (λ (t : List Outcome). take i sets ++ map setIn t) (sym (climb-last a table stored above′ j w ws stack b c))
+          (r ∙ ap₂ (λ (x : StateSet) (t : List StateSet). x ∷ t) (sym (same-words new (stored j) c)) (sym (sets-kept stored (length ws) (suc j)))))
+          (sym (ap (λ (x : ℕ). 1 + x) (count-kept stored (length ws) (suc j))))
+          ∙ ap (ended i sets count) (sym (climb-last a table stored above′ j w ws stack b c))
       go (holds b) (fails c) ih₁ ih₂ =
-          upwards-onward above i (length ws) sets (above-here ∙ b) (ap₂ sameWords recomputes here ∙ c)
-          ∙ ap (λ (x : StateSet). upwards above (suc i) (length ws) (set sets i x)) recomputes
+          upwards-onward above i (length ws) sets count (above-here ∙ b) (ap₂ sameWords recomputes here ∙ c)
+          ∙ ap (λ (x : StateSet). upwards above (suc i) (length ws) (set sets i x) (count + 1)) recomputes
           ∙ ih₂ words above-later (lt-length-set sets i new insideSets) (drop-set-lt (suc i) sets i new (omega arith) ∙ later)
           (stack-push i sets stack new inside insideSets e ∙ ap (λ (v : ℕ). new ∷ drop (arity a v) stack) word)
-          ∙ ap (λ (t : List StateSet). t ++ map setIn (climb a table stored above′ (suc j) ws (new ∷ rest))) (take-suc-set sets i new insideSets)
-          ∙ append-assoc (take i sets) (new ∷ []) _
-          ∙ ap (λ (t : List Outcome). take i sets ++ map setIn t) (sym (climb-onward a table stored above′ j w ws stack b c))
+          ∙ recomputed-more (climb a table stored above′ (suc j) ws (new ∷ rest))
+          ∙ ap (ended i sets count) (sym (climb-onward a table stored above′ j w ws stack b c))

@@ -18,6 +18,7 @@ use Rattle.automaton.specs.StateSet.{StateSet}
 use Rattle.operations.specs.Marks.{nodeSet, nodeSets, sameWords}
 use Rattle.operations.specs.Exchange.{Outcome, kept, recomputed, setIn, isRecomputed, recomputedIn, keptFrom, rootSet, outcomesBehind, outcomesAfter}
 use Rattle.operations.proofs.MarksLaws.{length-nodeSets}
+use Rattle.operations.proofs.ClimbLaws.{count-kept}
 use Rattle.operations.proofs.OutcomeLaws.{root-read}
 use Rattle.operations.proofs.Recomputation.{outcomeAt, goesOn, reached}
 use Rattle.operations.proofs.BehindLaws.{chosen-at, chosen-behind, recomputed-count, is-chosen}
@@ -114,11 +115,6 @@ module _ (a table : List ℕ) (stored : ℕ → StateSet) (used : List ℕ) (e :
   recomputed-append (o ∷ l) k =
       ap (λ (i : ℕ). isRecomputed o + i) (recomputed-append l k) ∙ sym (add-assoc (isRecomputed o) (recomputedIn l) (recomputedIn k))
 
-  none-kept : (n j : ℕ) → recomputedIn (keptFrom stored j n) ≡ 0
-  unfolding recomputedIn
-  none-kept zero j = refl
-  none-kept (suc n) j = zero-add (recomputedIn (keptFrom stored (suc j) n)) ∙ none-kept n (suc j)
-
   all-recomputed : (rs : List StateSet) → recomputedIn (map recomputed rs) ≡ length rs
   unfolding recomputedIn
   all-recomputed [] = refl
@@ -128,7 +124,7 @@ module _ (a table : List ℕ) (stored : ℕ → StateSet) (used : List ℕ) (e :
   unfolding outcomesAfter
   recomputed-parts =
       recomputed-append front (replaced ++ rest)
-      ∙ ap₂ (λ (x y : ℕ). x + y) (none-kept start 0) (recomputed-append replaced rest)
+      ∙ ap₂ (λ (x y : ℕ). x + y) (count-kept stored start 0) (recomputed-append replaced rest)
       ∙ zero-add (recomputedIn replaced + recomputedIn rest)
       ∙ ap (λ (i : ℕ). i + recomputedIn rest) (all-recomputed (nodeSets a table xs) ∙ length-nodeSets a table xs)
 
