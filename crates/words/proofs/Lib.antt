@@ -25,4 +25,3 @@ pub mod RelabelLaws
 pub mod ScanLaws
 pub mod ConstantScanLaws
 pub mod StartLaws
-pub mod ArrayStack
