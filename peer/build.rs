@@ -1,0 +1,21 @@
+//! Links the static library `exports` where HAQBYLUR_LIB_DIR names its folder. Without that variable
+//! everything still builds, and the model takes the library's place.
+
+use std::path::Path;
+
+fn main() {
+    println!("cargo:rerun-if-env-changed=HAQBYLUR_LIB_DIR");
+    let Ok(folder) = std::env::var("HAQBYLUR_LIB_DIR") else {
+        return;
+    };
+    let archive = Path::new(&folder).join("libexports.a");
+    assert!(
+        archive.is_file(),
+        "HAQBYLUR_LIB_DIR: no file {}",
+        archive.display()
+    );
+    println!("cargo:rerun-if-changed={}", archive.display());
+    println!("cargo:rustc-link-search=native={folder}");
+    println!("cargo:rustc-link-lib=static=exports");
+    println!("cargo:rustc-cfg=linked");
+}

@@ -1,0 +1,275 @@
+//! Two faults at once: for each operation, an accepted call is given every pair of faults, and the number that document
+//! 01 names first must be the answer. The order of a pair is checked from the document's list of numbers, beside the
+//! comparison with the model.
+
+use crate::call::{Call, Operation};
+use crate::cases::damage::accepted_calls;
+use crate::cases::examples::{self, A, D, G, H};
+use crate::compare::Comparison;
+use crate::refusals;
+use crate::words::{self, entry_word, node_word, Operator, TableWord};
+use std::collections::BTreeSet;
+
+/// A change that gives a call the fault with this number, whatever else is wrong with it.
+type Fault = (u32, fn(&mut Call));
+
+pub fn compare(comparison: &mut Comparison) {
+    for call in accepted_calls(
+        &examples::alphabet(),
+        &examples::expression(),
+        &examples::tree(),
+        3,
+    ) {
+        let met = pairs(comparison, &call);
+        let numbers = refusals::numbers(call.operation);
+        for (place, first) in numbers.iter().enumerate() {
+            for second in &numbers[place + 1..] {
+                let wrong = format!(
+                    "{:?} was not given the faults {first} and {second}",
+                    call.operation
+                );
+                comparison.check(&wrong, met.contains(&(*first, *second)), String::new);
+            }
+        }
+    }
+}
+
+/// Gives the call each fault alone and each two of them in both orders; answers the pairs that met.
+fn pairs(comparison: &mut Comparison, accepted: &Call) -> BTreeSet<(u32, u32)> {
+    let mut met = BTreeSet::new();
+    let faults = faults(accepted.operation);
+    comparison.call("a call without a fault is refused", accepted);
+    for (number, change) in &faults {
+        let mut call = accepted.clone();
+        change(&mut call);
+        let answer = comparison.call("a single fault has another number", &call);
+        comparison.check(
+            &format!("{:?} is not refused by {number}", call.operation),
+            refusals::faults(&call).contains(number) && answer.number != 0,
+            || call.lent().to_string(),
+        );
+        for (other, change_more) in &faults {
+            let mut both = call.clone();
+            change_more(&mut both);
+            comparison.call("two faults have another number", &both);
+            let found = refusals::faults(&both);
+            if found.len() == 2 && found.contains(number) && found.contains(other) {
+                met.insert((found[0], found[1]));
+            }
+        }
+    }
+    met
+}
+
+fn faults(operation: Operation) -> Vec<Fault> {
+    let mut all: Vec<Fault> = vec![
+        (1, |call| call.alphabet.push(entry_word(5))),
+        (1, |call| call.alphabet.push(entry_word(1) | 1 << 8)),
+        (1, |call| call.alphabet.push(node_word(0))),
+        (1, |call| call.alphabet.clear()),
+        (1, |call| pad(&mut call.alphabet, 65, entry_word(1))),
+        (2, |call| add_constants(call, 17)),
+        (2, |call| call.alphabet = vec![entry_word(1); 7]),
+    ];
+    all.extend(match operation {
+        Operation::Compile => compile_faults(),
+        Operation::Run => [table_faults(), run_faults()].concat(),
+        Operation::List => [table_faults(), list_faults()].concat(),
+        Operation::Exchange => [table_faults(), exchange_faults()].concat(),
+    });
+    all
+}
+
+fn compile_faults() -> Vec<Fault> {
+    vec![
+        (3, |call| call.expression.clear()),
+        (3, |call| {
+            pad(&mut call.expression, 65, Operator::Closure(A).word());
+            pad(&mut call.table, 2000, 0);
+        }),
+        (3, |call| {
+            call.expression = vec![Operator::Symbol(D).word(); 33];
+            pad(&mut call.expression, 65, Operator::Union.word());
+            pad(&mut call.table, 2000, 0);
+        }),
+        (4, |call| {
+            put_last(&mut call.expression, Operator::Closure(200).word())
+        }),
+        (4, |call| {
+            put_last(&mut call.expression, Operator::Closure(G).word())
+        }),
+        (4, |call| put_last(&mut call.expression, node_word(0))),
+        (4, |call| set_bit(&mut call.expression, 0, 27)),
+        (5, |call| call.expression.push(Operator::Empty.word())),
+        (5, |call| call.expression.insert(0, Operator::Empty.word())),
+        (5, |call| {
+            put(&mut call.expression, 0, Operator::Closure(A).word())
+        }),
+        (6, |call| {
+            add_constants(call, 16);
+            call.expression = vec![Operator::Symbol(D).word()];
+            pad(&mut call.expression, 62, Operator::Closure(D).word());
+            pad(&mut call.table, 2000, 0);
+        }),
+        (7, |call| call.table.truncate(35)),
+        (7, |call| call.table.clear()),
+    ]
+}
+
+fn table_faults() -> Vec<Fault> {
+    vec![
+        (8, |call| call.table.clear()),
+        (8, |call| {
+            put(
+                &mut call.table,
+                0,
+                TableWord::Head {
+                    states: 0,
+                    accepting: 0,
+                }
+                .word(),
+            )
+        }),
+        (8, |call| set_bit(&mut call.table, 0, 27)),
+        (8, |call| call.table.push(TableWord::Child(0).word())),
+        (8, |call| call.table.extend(call.table.first().copied())),
+        (8, |call| {
+            call.table
+                .push(TableWord::Transition { symbol: G, target: 0 }.word());
+        }),
+        (8, |call| {
+            call.table.push(
+                TableWord::Transition {
+                    symbol: 200,
+                    target: 0,
+                }
+                .word(),
+            );
+        }),
+        (8, |call| {
+            call.table.push(TableWord::Epsilon { from: 0, to: 29 }.word())
+        }),
+        (8, |call| {
+            pad(
+                &mut call.table,
+                2049,
+                TableWord::Epsilon { from: 0, to: 0 }.word(),
+            )
+        }),
+    ]
+}
+
+fn run_faults() -> Vec<Fault> {
+    vec![
+        (9, |call| call.tree.clear()),
+        (9, |call| {
+            pad(&mut call.tree, 4097, node_word(G));
+            pad(&mut call.sets, 5000, 0);
+        }),
+        (10, |call| put(&mut call.tree, 0, node_word(200))),
+        (10, |call| set_bit(&mut call.tree, 0, 8)),
+        (10, |call| put(&mut call.tree, 0, Operator::Symbol(A).word())),
+        (11, |call| call.tree.push(node_word(A))),
+        (11, |call| call.tree.insert(0, node_word(G))),
+        (12, |call| call.sets.truncate(6)),
+        (12, |call| call.sets.clear()),
+    ]
+}
+
+fn list_faults() -> Vec<Fault> {
+    vec![
+        (9, |call| call.count = 0),
+        (9, |call| {
+            call.count = 4097;
+            pad(&mut call.sets, 5000, 0);
+            pad(&mut call.list, 5000, 0);
+        }),
+        (9, |call| call.count = usize::MAX),
+        (9, |call| call.count = (1 << 32) + 7),
+        (12, |call| call.sets.truncate(6)),
+        (12, |call| call.sets.clear()),
+        (13, |call| call.list.truncate(6)),
+        (13, |call| call.list.clear()),
+    ]
+}
+
+fn exchange_faults() -> Vec<Fault> {
+    vec![
+        (9, |call| call.count = 0),
+        (9, |call| {
+            call.tree.truncate(7);
+            call.count = 8;
+        }),
+        (9, |call| {
+            call.tree.truncate(7);
+            pad(&mut call.tree, 5000, node_word(G));
+            pad(&mut call.sets, 5000, 0);
+            call.count = 4097;
+        }),
+        (9, |call| call.count = usize::MAX),
+        (10, |call| put(&mut call.tree, 0, node_word(200))),
+        (10, |call| set_bit(&mut call.tree, 0, 8)),
+        (10, |call| put(&mut call.tree, 0, Operator::Symbol(A).word())),
+        (11, |call| put(&mut call.tree, 0, node_word(G))),
+        (11, |call| put(&mut call.tree, 6, node_word(H))),
+        (12, |call| call.sets.truncate(6)),
+        (12, |call| {
+            call.node = 4;
+            call.sets.truncate(6);
+        }),
+        (12, |call| call.sets.clear()),
+        (14, |call| call.node = call.count),
+        (14, |call| call.node = usize::MAX),
+        (14, |call| call.node = (1 << 32) + 3),
+        (15, |call| call.replacement.clear()),
+        (15, |call| put(&mut call.replacement, 0, node_word(200))),
+        (15, |call| call.replacement.insert(0, node_word(A))),
+        (15, |call| call.replacement.insert(0, node_word(G))),
+        (15, |call| pad(&mut call.replacement, 4097, node_word(G))),
+        (16, |call| pad(&mut call.replacement, 12, node_word(G))),
+        (16, |call| {
+            call.sets.truncate(7);
+            pad(&mut call.replacement, 8, node_word(G));
+        }),
+        (16, |call| {
+            pad(&mut call.tree, 6000, 0);
+            pad(&mut call.sets, 6000, 0);
+            pad(&mut call.replacement, 4096, node_word(G));
+        }),
+    ]
+}
+
+fn pad(words: &mut Vec<u32>, length: usize, word: u32) {
+    if words.len() < length {
+        words.resize(length, word);
+    }
+}
+
+/// Writes a word where the slice has that place.
+fn put(words: &mut [u32], place: usize, word: u32) {
+    if let Some(old) = words.get_mut(place) {
+        *old = word;
+    }
+}
+
+fn put_last(words: &mut [u32], word: u32) {
+    if let Some(old) = words.last_mut() {
+        *old = word;
+    }
+}
+
+fn set_bit(words: &mut [u32], place: usize, bit: u32) {
+    if let Some(word) = words.get_mut(place) {
+        *word |= 1 << bit;
+    }
+}
+
+/// Appends constants to the alphabet until it has so many; a compiled table then needs more room.
+fn add_constants(call: &mut Call, count: usize) {
+    while words::constants(&call.alphabet).len() < count {
+        call.alphabet.push(entry_word(0));
+    }
+    if call.operation == Operation::Compile {
+        pad(&mut call.table, 2000, 0);
+    }
+}

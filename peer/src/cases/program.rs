@@ -1,0 +1,277 @@
+//! The program `marklist`: what it prints for an input of bytes, compared with what document 01 says. The program's path
+//! is in HAQBYLUR_MARKLIST.
+
+use crate::call::{Hex, Matcher};
+use crate::cases::examples;
+use crate::cases::random::{pattern, random_for, Pattern};
+use crate::compare::Comparison;
+use crate::generate::{self, Random};
+use crate::language::Expression;
+use crate::model::{self, Model};
+use crate::postfix;
+use crate::words::{self, entry_word, node_word, Operator};
+use std::io::{ErrorKind, Read, Write};
+use std::process::{Child, Command, Stdio};
+use std::sync::mpsc;
+use std::time::Duration;
+
+/// The most elements that the program takes.
+const PROGRAM_NODES: usize = 256;
+
+pub fn path() -> Option<String> {
+    std::env::var("HAQBYLUR_MARKLIST").ok()
+}
+
+pub fn compare(comparison: &mut Comparison, program: &str, seed: u64, cases: u64) {
+    source(comparison, program);
+    early_ends(comparison, program);
+    lengths(comparison, program);
+    for case in 0..cases {
+        random_input(comparison, program, &mut random_for(seed ^ 0x9a7c, case));
+    }
+}
+
+// What document 01 says.
+
+/// The three counts, then alphabet, rule and chapter.
+fn encode(alphabet: &[u32], expression: &[u32], tree: &[u32]) -> Vec<u8> {
+    let counts = [alphabet, expression, tree].map(|words| words.len() as u32);
+    [&counts[..], alphabet, expression, tree]
+        .concat()
+        .into_iter()
+        .flat_map(u32::to_le_bytes)
+        .collect()
+}
+
+/// The three slices that the bytes announce; None where the input ends early.
+fn decode(bytes: &[u8]) -> Option<[Vec<u32>; 3]> {
+    let mut words = bytes
+        .chunks_exact(4)
+        .map(|four| u32::from_le_bytes([four[0], four[1], four[2], four[3]]));
+    let counts = [words.next()?, words.next()?, words.next()?];
+    let announced: u64 = counts.iter().map(|count| u64::from(*count)).sum();
+    if (words.len() as u64) < announced {
+        return None;
+    }
+    Some(counts.map(|count| words.by_ref().take(count as usize).collect()))
+}
+
+/// What the program prints for these bytes.
+pub fn expected(bytes: &[u8]) -> String {
+    match decode(bytes) {
+        None => "refused 0\n".to_string(),
+        Some([alphabet, expression, tree]) => match matched(&alphabet, &expression, &tree) {
+            Err(number) => format!("refused {number}\n"),
+            Ok(text) => text,
+        },
+    }
+}
+
+fn matched(alphabet: &[u32], expression: &[u32], tree: &[u32]) -> Result<String, u32> {
+    let accepted = |number: u32| if number == 0 { Ok(()) } else { Err(number) };
+    let [mut length, mut nodes, mut cells, mut matches] = [0; 4];
+    let mut table = vec![0; words::TABLE_LIMIT];
+    accepted(Model.compile(alphabet, expression, &mut table, &mut length))?;
+    table.truncate(length as usize);
+    if tree.len() > PROGRAM_NODES {
+        return Err(9);
+    }
+    let mut sets = vec![0; PROGRAM_NODES * 32];
+    accepted(Model.run(alphabet, &table, tree, &mut sets, &mut nodes, &mut cells))?;
+    let mut list = vec![0; PROGRAM_NODES];
+    accepted(Model.list(alphabet, &table, tree.len(), &sets, &mut list, &mut matches))?;
+    let symbols = model::symbols(tree);
+    let arities = model::arities(alphabet);
+    let own: Vec<usize> = symbols.iter().map(|symbol| arities[*symbol]).collect();
+    let sizes = postfix::sizes(&postfix::children(&own).expect("one tree"));
+    let states = table[0] >> 10 & 0x7ff;
+    let mut text = format!("nodes {nodes} states {states} hits {matches}\n");
+    for node in &list[..matches as usize] {
+        let node = *node as usize;
+        text += &format!("{node} {} {}\n", symbols[node], sizes[node]);
+    }
+    Ok(text)
+}
+
+// What the program does.
+
+/// What the program printed, or why nothing is known. The input stays open while it is waited for, so a program that
+/// waits for the end of input is found; `ended` closes it first.
+fn run(program: &str, bytes: &[u8], ended: bool) -> Result<String, String> {
+    let mut child = Command::new(program)
+        .stdin(Stdio::piped())
+        .stdout(Stdio::piped())
+        .spawn()
+        .map_err(|error| format!("{program}: {error}"))?;
+    let mut input = child.stdin.take().expect("a pipe");
+    match input.write_all(bytes).and_then(|()| input.flush()) {
+        // The program may end before it has read what it need not read.
+        Err(error) if error.kind() != ErrorKind::BrokenPipe => return Err(error.to_string()),
+        _ => {}
+    }
+    let kept = if ended {
+        drop(input);
+        None
+    } else {
+        Some(input)
+    };
+    let printed = printed_in_time(&mut child);
+    drop(kept);
+    if printed.is_err() {
+        let _ = child.kill();
+    }
+    let _ = child.wait();
+    printed
+}
+
+fn printed_in_time(child: &mut Child) -> Result<String, String> {
+    let mut output = child.stdout.take().expect("a pipe");
+    let (sender, receiver) = mpsc::channel();
+    std::thread::spawn(move || {
+        let mut text = Vec::new();
+        let result = output.read_to_end(&mut text);
+        let _ = sender.send(result.map(|_| String::from_utf8_lossy(&text).into_owned()));
+    });
+    match receiver.recv_timeout(Duration::from_secs(20)) {
+        Ok(Ok(text)) => Ok(text),
+        Ok(Err(error)) => Err(error.to_string()),
+        Err(_) => Err("no end within 20 seconds".to_string()),
+    }
+}
+
+fn same(comparison: &mut Comparison, program: &str, wrong: &str, bytes: &[u8], ended: bool) {
+    let expected = expected(bytes);
+    let found = run(program, bytes, ended);
+    comparison.check(wrong, found.as_ref() == Ok(&expected), || {
+        let shown: Vec<u32> = bytes.iter().take(4000).map(|byte| u32::from(*byte)).collect();
+        format!(
+            "    expected {expected:?}\n    found {found:?}\n    bytes {}",
+            Hex(&shown)
+        )
+    });
+}
+
+// Inputs.
+
+fn source(comparison: &mut Comparison, program: &str) {
+    let bytes = encode(&examples::alphabet(), &examples::expression(), &examples::tree());
+    let published = "nodes 7 states 29 hits 3\n2 4 3\n3 3 1\n4 5 2\n";
+    comparison.check(
+        "the published output is another",
+        expected(&bytes) == published,
+        String::new,
+    );
+    same(
+        comparison,
+        program,
+        "the source's example prints otherwise",
+        &bytes,
+        true,
+    );
+    same(
+        comparison,
+        program,
+        "the program waits for the end of input",
+        &bytes,
+        false,
+    );
+    let followed = [&bytes[..], &[0xff; 9]].concat();
+    same(
+        comparison,
+        program,
+        "the program reads what follows",
+        &followed,
+        false,
+    );
+}
+
+/// The source's input cut at every byte, and counts that announce far more than is there.
+fn early_ends(comparison: &mut Comparison, program: &str) {
+    let bytes = encode(&examples::alphabet(), &examples::expression(), &examples::tree());
+    let wrong = "an input that ends early is not refused by 0";
+    for length in 0..bytes.len() {
+        same(comparison, program, wrong, &bytes[..length], true);
+    }
+    for count in [257, 0x4000_0000, 0x4000_0001, 0x7fff_ffff, 0x8000_0000, u32::MAX] {
+        for place in 0..3 {
+            let mut announced = bytes.clone();
+            announced[4 * place..4 * place + 4].copy_from_slice(&count.to_le_bytes());
+            same(comparison, program, wrong, &announced, true);
+        }
+    }
+    let mut all = bytes.clone();
+    all[..12].fill(0xff);
+    same(comparison, program, wrong, &all, true);
+}
+
+/// Lengths at the limits and far over them, all words present, with other faults beside them.
+fn lengths(comparison: &mut Comparison, program: &str) {
+    let own = examples::alphabet();
+    let rule = examples::expression();
+    let tree = examples::tree();
+    let wrong = "a length is refused otherwise";
+    for length in [0, 1, 64, 65, 300, 100_000] {
+        let mut long = own.clone();
+        long.resize(length, entry_word(1));
+        same(comparison, program, wrong, &encode(&long, &rule, &tree), false);
+        let mut long = rule.clone();
+        long.resize(length, Operator::Closure(0).word());
+        same(comparison, program, wrong, &encode(&own, &long, &tree), false);
+    }
+    for length in [0, 1, 255, 256, 257, 4096, 4097, 100_000] {
+        let mut chain = vec![node_word(examples::D)];
+        chain.resize(length.max(1), node_word(examples::G));
+        chain.truncate(length);
+        same(comparison, program, wrong, &encode(&own, &rule, &chain), false);
+        same(comparison, program, wrong, &encode(&own, &[], &chain), false);
+        if let Some(word) = chain.last_mut() {
+            *word = node_word(200);
+        }
+        same(comparison, program, wrong, &encode(&own, &rule, &chain), false);
+        chain.push(0);
+        same(comparison, program, wrong, &encode(&own, &rule, &chain), false);
+    }
+    let sixteen = [vec![entry_word(0); 16], vec![entry_word(1)]].concat();
+    for closures in [59, 60, 61, 63] {
+        let mut long = vec![Operator::Symbol(0).word()];
+        long.resize(1 + closures, Operator::Closure(0).word());
+        let mut chain = vec![node_word(0)];
+        chain.resize(256, node_word(16));
+        same(
+            comparison,
+            program,
+            "many states print otherwise",
+            &encode(&sixteen, &long, &chain),
+            true,
+        );
+    }
+}
+
+fn random_input(comparison: &mut Comparison, program: &str, random: &mut Random) {
+    let Pattern {
+        mut alphabet,
+        mut expression,
+    } = pattern(random);
+    let read = Expression::read(&alphabet, &expression).expect("an expression");
+    let budget = if random.once_in(8) {
+        random.between(200, 270)
+    } else {
+        random.between(1, 40)
+    };
+    let mut tree = generate::tree_words(&generate::planted_tree(random, &alphabet, &read, budget));
+    match random.below(6) {
+        0 => generate::flip(random, &mut alphabet),
+        1 => generate::flip(random, &mut expression),
+        2 => generate::flip(random, &mut tree),
+        _ => {}
+    }
+    let bytes = encode(&alphabet, &expression, &tree);
+    let ended = random.once_in(2);
+    same(
+        comparison,
+        program,
+        "a random input prints otherwise",
+        &bytes,
+        ended,
+    );
+}

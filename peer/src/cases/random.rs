@@ -1,0 +1,168 @@
+//! Random valid inputs: a rule is compiled, a tree marked and listed, and the hits are compared with the language of
+//! the rule as substitution gives it. Case n of a seed depends on the seed and n alone.
+
+use crate::automaton;
+use crate::call::{Call, Hex};
+use crate::compare::Comparison;
+use crate::generate::{self, Random};
+use crate::language::{self, Expression, Membership, Tree};
+use crate::marks::Table;
+use crate::model;
+use crate::words;
+
+/// The numbers of one case of a seed.
+pub fn random_for(seed: u64, case: u64) -> Random {
+    Random::new(Random::new(seed).word() ^ case.wrapping_mul(0xd129_42f0_5ca3_1d35))
+}
+
+/// An alphabet with an expression that has at most 1,024 states over it.
+pub struct Pattern {
+    pub alphabet: Vec<u32>,
+    pub expression: Vec<u32>,
+}
+
+pub fn pattern(random: &mut Random) -> Pattern {
+    loop {
+        let alphabet = generate::alphabet(random);
+        let budget = if random.once_in(12) {
+            random.between(1, words::EXPRESSION_LIMIT)
+        } else {
+            random.between(1, 14)
+        };
+        let expression = generate::expression(random, &alphabet, budget);
+        if automaton::states(&alphabet, &expression) <= words::STATE_LIMIT {
+            return Pattern { alphabet, expression };
+        }
+    }
+}
+
+/// A length at, below or above the one that is needed.
+pub fn length_near(random: &mut Random, needed: usize) -> usize {
+    match random.below(8) {
+        0 => needed - 1,
+        1..=4 => needed,
+        _ => needed + random.between(1, 9),
+    }
+}
+
+pub fn compare(comparison: &mut Comparison, seed: u64, cases: u64) {
+    for case in 0..cases {
+        let mut random = random_for(seed, case);
+        pattern_case(comparison, &mut random);
+        if case % 4 == 0 {
+            table_case(comparison, &mut random);
+        }
+        if case % 16 == 0 {
+            literal_case(comparison, &mut random);
+        }
+    }
+}
+
+/// A rule and a tree: table, marks, list, and the language.
+fn pattern_case(comparison: &mut Comparison, random: &mut Random) {
+    let Pattern { alphabet, expression } = pattern(random);
+    let table = automaton::table(&alphabet, &expression).expect("an expression");
+    let length = length_near(random, table.len());
+    let lent = random.words(length);
+    comparison.call(
+        "a rule has another table",
+        &Call::compile(&alphabet, &expression, lent),
+    );
+
+    let read = Expression::read(&alphabet, &expression).expect("an expression");
+    let budget = match random.below(100) {
+        0 => random.between(1, 600),
+        1..=10 => random.between(1, 100),
+        _ => random.between(1, 24),
+    };
+    let tree = generate::planted_tree(random, &alphabet, &read, budget);
+    let hits = marked_hits(comparison, random, &alphabet, &table, &tree);
+    let arities = model::arities(&alphabet);
+    let in_language = Membership::new(&read, alphabet.len()).subtrees(&tree, &arities);
+    comparison.check(
+        "the hits are not the subtrees in the language",
+        hits == in_language,
+        || input(&alphabet, &expression, &tree),
+    );
+
+    if let Some(member) = generate::member(random, &read, 40) {
+        let hits = marked_hits(comparison, random, &alphabet, &table, &member);
+        comparison.check(
+            "a member of the language is no hit",
+            hits.last() == Some(&true),
+            || input(&alphabet, &expression, &member),
+        );
+    }
+}
+
+/// A table that need not come from a rule.
+fn table_case(comparison: &mut Comparison, random: &mut Random) {
+    let alphabet = generate::alphabet(random);
+    let table = generate::table(random, &alphabet);
+    let budget = random.between(1, 30);
+    let tree = generate::tree(random, &alphabet, budget);
+    marked_hits(comparison, random, &alphabet, &table, &tree);
+}
+
+/// Runs and lists, with slices of many lengths that hold anything before; answers which nodes are hits.
+fn marked_hits(
+    comparison: &mut Comparison,
+    random: &mut Random,
+    alphabet: &[u32],
+    table: &[u32],
+    tree: &Tree,
+) -> Vec<bool> {
+    let read = Table::read(alphabet, table).expect("a table");
+    let tree_words = generate::tree_words(tree);
+    let needed = tree.len() * read.width();
+    let length = length_near(random, needed);
+    let lent = random.words(length);
+    comparison.call(
+        "a tree has other marks",
+        &Call::run(alphabet, table, &tree_words, lent),
+    );
+
+    let sets = model::state_sets(alphabet, &read, &tree_words);
+    let length = length_near(random, tree.len());
+    let lent = random.words(length);
+    comparison.call(
+        "a tree has another list",
+        &Call::list(alphabet, table, tree.len(), &sets, lent),
+    );
+    sets.chunks(read.width())
+        .map(|own| read.stored_set(own)[read.accepting])
+        .collect()
+}
+
+/// All trees up to a size: members by the literal reading, members by the decision, and hits.
+fn literal_case(comparison: &mut Comparison, random: &mut Random) {
+    let Pattern { alphabet, expression } = pattern(random);
+    let arities = model::arities(&alphabet);
+    let read = Expression::read(&alphabet, &expression).expect("an expression");
+    let limit = language::size_with_at_most(&arities, 250);
+    if limit == 0 {
+        return;
+    }
+    let members = language::members(&read, &arities, limit);
+    let membership = Membership::new(&read, alphabet.len());
+    let words = automaton::table(&alphabet, &expression).expect("an expression");
+    let table = Table::read(&alphabet, &words).expect("a table");
+    for tree in language::trees(&arities, limit) {
+        let is_member = members.contains(&tree);
+        let decided = membership.subtrees(&tree, &arities).last() == Some(&true);
+        let root = table.reached_by_all(&tree, &arities).pop().expect("a root");
+        let agree = is_member == decided && is_member == root[table.accepting];
+        comparison.check("the literal members are not the hits", agree, || {
+            input(&alphabet, &expression, &tree)
+        });
+    }
+}
+
+fn input(alphabet: &[u32], expression: &[u32], tree: &Tree) -> String {
+    format!(
+        "    alphabet {}\n    rule {}\n    chapter {}",
+        Hex(alphabet),
+        Hex(expression),
+        Hex(&generate::tree_words(tree))
+    )
+}

@@ -1,0 +1,109 @@
+//! The comparison: each call is made of the model and of the compared matcher, and everything the two leave must be
+//! equal. A difference is printed with the whole input in hexadecimal, so that it can be replayed.
+
+use crate::call::{Answer, Call, Lent, Matcher, UNWRITTEN};
+use crate::model::Model;
+use std::collections::BTreeMap;
+
+/// How many differences are printed in full.
+const PRINTED: u64 = 10;
+
+pub struct Comparison {
+    matcher: Box<dyn Matcher>,
+    pub cases: u64,
+    pub differences: u64,
+    /// How often each operation gave each number, so that a run shows what it covered.
+    pub numbers: BTreeMap<String, BTreeMap<u32, u64>>,
+    quiet: bool,
+}
+
+impl Comparison {
+    pub fn with(matcher: Box<dyn Matcher>) -> Comparison {
+        Comparison {
+            matcher,
+            cases: 0,
+            differences: 0,
+            numbers: BTreeMap::new(),
+            quiet: false,
+        }
+    }
+
+    /// Counts differences and prints none: for trying matchers that are known to be wrong.
+    pub fn quietly_with(matcher: Box<dyn Matcher>) -> Comparison {
+        Comparison {
+            quiet: true,
+            ..Comparison::with(matcher)
+        }
+    }
+
+    /// Compares one call. `wrong` says what would be wrong if they differed. Answers what the model answers.
+    pub fn call(&mut self, wrong: &str, call: &Call) -> Answer {
+        self.cases += 1;
+        let expected = call.perform(&mut Model);
+        let found = call.perform(&mut *self.matcher);
+        let counts = self.numbers.entry(format!("{:?}", call.operation)).or_default();
+        *counts.entry(expected.number).or_default() += 1;
+        let before = call.lent();
+        if found != expected {
+            let what = difference(&expected, &found);
+            self.differ(wrong, call, &before, &what);
+        } else if found.number != 0 && (found.lent != before || found.values != UNWRITTEN) {
+            self.differ(wrong, call, &before, "a refused call changed a lent word");
+        }
+        expected
+    }
+
+    /// Checks a statement that needs no call, or that follows calls already compared.
+    pub fn check(&mut self, wrong: &str, holds: bool, input: impl FnOnce() -> String) {
+        self.cases += 1;
+        if !holds {
+            self.report(&format!("{wrong}\n{}", input()));
+        }
+    }
+
+    fn differ(&mut self, wrong: &str, call: &Call, before: &Lent, what: &str) {
+        let text = format!(
+            "{wrong}: {:?} count {} element {}: {what}\n{before}",
+            call.operation, call.count, call.node
+        );
+        self.report(&text);
+    }
+
+    fn report(&mut self, text: &str) {
+        self.differences += 1;
+        if !self.quiet && self.differences <= PRINTED {
+            println!("difference {}: {text}", self.differences);
+        }
+    }
+}
+
+/// The first thing in which two answers differ.
+fn difference(expected: &Answer, found: &Answer) -> String {
+    if expected.number != found.number {
+        return format!("number {} instead of {}", found.number, expected.number);
+    }
+    if expected.values != found.values {
+        return format!("values {:x?} instead of {:x?}", found.values, expected.values);
+    }
+    if !found.lent.surroundings_kept {
+        return "a word outside the lent slices changed".to_string();
+    }
+    let slices = [
+        ("alphabet", &expected.lent.alphabet, &found.lent.alphabet),
+        ("rule", &expected.lent.expression, &found.lent.expression),
+        ("table", &expected.lent.table, &found.lent.table),
+        ("chapter", &expected.lent.tree, &found.lent.tree),
+        ("marks", &expected.lent.sets, &found.lent.sets),
+        ("replacement", &expected.lent.replacement, &found.lent.replacement),
+        ("list", &expected.lent.list, &found.lent.list),
+    ];
+    for (name, expected, found) in slices {
+        if let Some(place) = (0..expected.len()).find(|place| expected[*place] != found[*place]) {
+            return format!(
+                "{name} word {place} is {:08x} instead of {:08x}",
+                found[place], expected[place]
+            );
+        }
+    }
+    "no difference in any slice".to_string()
+}

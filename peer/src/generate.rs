@@ -1,0 +1,297 @@
+//! Inputs from a seed: alphabets, expressions, trees, members of a language, tables and damaged words.
+//! The same seed gives the same inputs on every machine.
+
+use crate::language::{Expression, Tree};
+use crate::words::{self, Operator, TableWord};
+
+/// A small generator of pseudo-random numbers (splitmix64).
+pub struct Random(u64);
+
+impl Random {
+    pub fn new(seed: u64) -> Random {
+        Random(seed)
+    }
+
+    pub fn word(&mut self) -> u64 {
+        self.0 = self.0.wrapping_add(0x9e37_79b9_7f4a_7c15);
+        let mut mixed = self.0;
+        mixed = (mixed ^ (mixed >> 30)).wrapping_mul(0xbf58_476d_1ce4_e5b9);
+        mixed = (mixed ^ (mixed >> 27)).wrapping_mul(0x94d0_49bb_1331_11eb);
+        mixed ^ (mixed >> 31)
+    }
+
+    pub fn below(&mut self, bound: usize) -> usize {
+        (self.word() % bound as u64) as usize
+    }
+
+    pub fn between(&mut self, first: usize, last: usize) -> usize {
+        first + self.below(last + 1 - first)
+    }
+
+    /// True about once in so many times.
+    pub fn once_in(&mut self, times: usize) -> bool {
+        self.below(times) == 0
+    }
+
+    pub fn pick<T: Copy>(&mut self, all: &[T]) -> T {
+        all[self.below(all.len())]
+    }
+
+    pub fn words(&mut self, length: usize) -> Vec<u32> {
+        (0..length).map(|_| self.word() as u32).collect()
+    }
+}
+
+/// An alphabet: mostly small, so that symbols meet each other often; sometimes up to the limits.
+pub fn alphabet(random: &mut Random) -> Vec<u32> {
+    let (constants, others) = if random.once_in(10) {
+        let constants = random.between(1, words::CONSTANT_LIMIT);
+        (constants, random.between(0, words::SYMBOL_LIMIT - constants))
+    } else {
+        (random.between(1, 4), random.between(0, 4))
+    };
+    let mut arities = vec![0; constants];
+    arities.extend((0..others).map(|_| random.between(1, words::ARITY_LIMIT)));
+    for place in (1..arities.len()).rev() {
+        arities.swap(place, random.below(place + 1));
+    }
+    arities.into_iter().map(words::entry_word).collect()
+}
+
+/// Words of one tree in postfix order within a budget of words: `choose` names a word and how many children it takes,
+/// at most one less than the budget it is given. The words are found root first and from right to left, then turned.
+fn grow<T>(
+    random: &mut Random,
+    budget: usize,
+    mut choose: impl FnMut(&mut Random, usize) -> (T, usize),
+) -> Vec<T> {
+    let mut pending = vec![budget];
+    let mut grown = Vec::new();
+    while let Some(own) = pending.pop() {
+        let (word, arity) = choose(random, own);
+        pending.extend(split(random, own - 1, arity));
+        grown.push(word);
+    }
+    grown.reverse();
+    grown
+}
+
+/// So many budgets of at least one word: in one half of the cases evenly drawn, in the other all to one child.
+fn split(random: &mut Random, budget: usize, parts: usize) -> Vec<usize> {
+    let mut all = vec![1; parts];
+    if parts == 0 {
+        return all;
+    }
+    let mut spare = budget - parts;
+    if random.once_in(2) {
+        for part in all.iter_mut().skip(1) {
+            let given = random.between(0, spare);
+            *part += given;
+            spare -= given;
+        }
+    }
+    let place = random.below(parts);
+    all[place] += spare;
+    all
+}
+
+/// An expression of at most `budget` words.
+pub fn expression(random: &mut Random, alphabet: &[u32], budget: usize) -> Vec<u32> {
+    let constants = words::constants(alphabet);
+    let favored: Vec<usize> = (0..2).map(|_| random.pick(&constants)).collect();
+    let operators = grow(random, budget, |random, own| {
+        let constant = if random.once_in(3) {
+            random.pick(&constants)
+        } else {
+            random.pick(&favored)
+        };
+        let symbols = symbols_within(alphabet, 1, own - 1);
+        loop {
+            let choice = match random.below(8) {
+                0 if own == 1 => (Operator::Empty, 0),
+                1..=2 if own >= 2 => (Operator::Closure(constant), 1),
+                3 if own >= 3 => (Operator::Product(constant), 2),
+                4 if own >= 3 => (Operator::Union, 2),
+                5..=6 if !symbols.is_empty() => {
+                    let (symbol, arity) = random.pick(&symbols);
+                    (Operator::Symbol(symbol), arity)
+                }
+                7 if own == 1 || random.once_in(4) => (Operator::Symbol(constant), 0),
+                _ => continue,
+            };
+            return choice;
+        }
+    });
+    operators.into_iter().map(Operator::word).collect()
+}
+
+/// The symbols with an arity in this range, with their arities.
+fn symbols_within(alphabet: &[u32], least: usize, most: usize) -> Vec<(usize, usize)> {
+    (0..alphabet.len())
+        .filter_map(|symbol| Some((symbol, words::arity(alphabet, symbol)?)))
+        .filter(|(_, arity)| (least..=most).contains(arity))
+        .collect()
+}
+
+/// A tree of at most `budget` nodes, and of nearly so many where the alphabet has symbols to reach it.
+pub fn tree(random: &mut Random, alphabet: &[u32], budget: usize) -> Tree {
+    let constants = words::constants(alphabet);
+    grow(random, budget, |random, own| {
+        let symbols = symbols_within(alphabet, 1, own - 1);
+        if symbols.is_empty() {
+            (random.pick(&constants), 0)
+        } else {
+            random.pick(&symbols)
+        }
+    })
+}
+
+/// A tree in which members of the language stand at some leaves, so that matches are frequent.
+pub fn planted_tree(random: &mut Random, alphabet: &[u32], expression: &Expression, budget: usize) -> Tree {
+    let ground = random.between(1, budget);
+    let mut planted = Tree::new();
+    let mut spare = budget - ground;
+    for symbol in tree(random, alphabet, ground) {
+        let is_leaf = words::arity(alphabet, symbol) == Some(0);
+        match member(random, expression, spare + 1) {
+            Some(member) if is_leaf && random.once_in(2) => {
+                spare -= member.len() - 1;
+                planted.extend(member);
+            }
+            _ => planted.push(symbol),
+        }
+    }
+    planted
+}
+
+/// A member of the expression's language with at most `limit` nodes, where one is found: each operator is read as the
+/// substitution semantics says, with a free choice at each place.
+pub fn member(random: &mut Random, expression: &Expression, limit: usize) -> Option<Tree> {
+    let mut effort = 200;
+    member_of(
+        random,
+        expression,
+        expression.operators.len() - 1,
+        limit,
+        &mut effort,
+    )
+}
+
+fn member_of(
+    random: &mut Random,
+    expression: &Expression,
+    place: usize,
+    limit: usize,
+    effort: &mut usize,
+) -> Option<Tree> {
+    *effort = effort.checked_sub(1)?;
+    let parts = &expression.children[place];
+    let found = match expression.operators[place] {
+        Operator::Empty => None,
+        Operator::Symbol(symbol) => {
+            let mut found = Tree::new();
+            for part in parts {
+                found.extend(member_of(random, expression, *part, limit, effort)?);
+            }
+            found.push(symbol);
+            Some(found)
+        }
+        Operator::Union => {
+            let first = random.below(2);
+            member_of(random, expression, parts[first], limit, effort)
+                .or_else(|| member_of(random, expression, parts[1 - first], limit, effort))
+        }
+        Operator::Product(constant) => {
+            let first = member_of(random, expression, parts[0], limit, effort)?;
+            replace_each(&first, constant, || {
+                member_of(random, expression, parts[1], limit, effort)
+            })
+        }
+        Operator::Closure(constant) => {
+            let steps = random.below(4);
+            closure_member(random, expression, parts[0], constant, steps, limit, effort)
+        }
+    };
+    found.filter(|tree| tree.len() <= limit)
+}
+
+/// A member of a closure's step with this number.
+fn closure_member(
+    random: &mut Random,
+    expression: &Expression,
+    inner: usize,
+    constant: usize,
+    step: usize,
+    limit: usize,
+    effort: &mut usize,
+) -> Option<Tree> {
+    if step == 0 {
+        return Some(vec![constant]);
+    }
+    if !random.once_in(4) {
+        if let Some(outer) = member_of(random, expression, inner, limit, effort) {
+            return replace_each(&outer, constant, || {
+                closure_member(random, expression, inner, constant, step - 1, limit, effort)
+            })
+            .filter(|tree| tree.len() <= limit);
+        }
+    }
+    closure_member(random, expression, inner, constant, step - 1, limit, effort)
+}
+
+/// A separately chosen tree at each place of the constant.
+fn replace_each(tree: &Tree, constant: usize, mut choose: impl FnMut() -> Option<Tree>) -> Option<Tree> {
+    let mut replaced = Tree::new();
+    for symbol in tree {
+        if *symbol == constant {
+            replaced.extend(choose()?);
+        } else {
+            replaced.push(*symbol);
+        }
+    }
+    Some(replaced)
+}
+
+/// The words of a tree of symbols.
+pub fn tree_words(tree: &[usize]) -> Vec<u32> {
+    tree.iter().map(|symbol| words::node_word(*symbol)).collect()
+}
+
+/// A well-formed table that no expression needs to have: transitions and epsilon transitions at random.
+pub fn table(random: &mut Random, alphabet: &[u32]) -> Vec<u32> {
+    let states = match random.below(6) {
+        0 => random.between(1, words::STATE_LIMIT),
+        1 => random.pick(&[31, 32, 33, 63, 64, 65, 1023, 1024]),
+        _ => random.between(1, 12),
+    };
+    let mut table = vec![TableWord::Head {
+        states,
+        accepting: random.below(states),
+    }];
+    for _ in 0..random.below(40) {
+        if random.once_in(2) {
+            table.push(TableWord::Epsilon {
+                from: random.below(states),
+                to: random.below(states),
+            });
+        } else {
+            let symbol = random.below(alphabet.len());
+            table.push(TableWord::Transition {
+                symbol,
+                target: random.below(states),
+            });
+            for _ in 0..words::arity(alphabet, symbol).unwrap_or(0) {
+                table.push(TableWord::Child(random.below(states)));
+            }
+        }
+    }
+    table.into_iter().map(TableWord::word).collect()
+}
+
+/// Changes one bit of one word.
+pub fn flip(random: &mut Random, words: &mut [u32]) {
+    if !words.is_empty() {
+        let place = random.below(words.len());
+        words[place] ^= 1 << random.below(32);
+    }
+}

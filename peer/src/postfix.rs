@@ -1,0 +1,32 @@
+//! Trees in postfix order: children first and from left to right. Expressions and chapters share it.
+
+/// The children of every word of one tree whose words have these arities;
+/// None where some word lacks children or not exactly one tree remains.
+pub fn children(arities: &[usize]) -> Option<Vec<Vec<usize>>> {
+    let mut roots: Vec<usize> = Vec::new();
+    let mut all = Vec::with_capacity(arities.len());
+    for (word, arity) in arities.iter().enumerate() {
+        let first = roots.len().checked_sub(*arity)?;
+        all.push(roots.split_off(first));
+        roots.push(word);
+    }
+    (roots.len() == 1).then_some(all)
+}
+
+/// How many words the subtree of each word has.
+pub fn sizes(children: &[Vec<usize>]) -> Vec<usize> {
+    let mut sizes: Vec<usize> = Vec::with_capacity(children.len());
+    for own in children {
+        let size = 1 + own.iter().map(|child| sizes[*child]).sum::<usize>();
+        sizes.push(size);
+    }
+    sizes
+}
+
+/// The ancestors of a word, from the nearest upwards.
+pub fn ancestors(children: &[Vec<usize>], word: usize) -> Vec<usize> {
+    let sizes = sizes(children);
+    (word + 1..children.len())
+        .filter(|above| above + 1 - sizes[*above] <= word)
+        .collect()
+}
