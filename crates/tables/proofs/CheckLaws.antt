@@ -7,9 +7,8 @@ use native.Mathlib.Omega.{arith}
 use lib.ListN.{length}
 use lib.Dec.{ltb, leb, eqb}
 use borrow.Author.Tests.{eq-eqb, ne-eqb, lt-ltb}
-use Rattle.words.specs.Word.{Kind, headKind, transitionKind, epsilonKind, sourceKind, kindNumber, numberOf, hasKind, bodyOf, fieldRange, isOf, symbolAbove, countAbove, stateAbove, stateBelow}
+use Rattle.words.specs.Word.{Kind, headKind, transitionKind, epsilonKind, sourceKind, kindNumber, numberOf, hasKind, spareBitsClear, isOf, symbolAbove, countAbove, stateAbove, stateBelow}
 use Rattle.words.specs.Alphabet.{isSymbol, rankOf}
-use Rattle.words.proofs.KindLaws.{isOf-range}
 use Rattle.automaton.specs.Table.{isHead, isTransition, isTableWord, sourcesLeft}
 
 -- ---- a test of two, by the branch on the first
@@ -22,29 +21,40 @@ and-first a b r e h = h ∙ e ∙ sym (rw e)
 
 -- ---- the head
 
-module _ (w : ℕ) where
-  head-tests : eqb (numberOf w) 8 && ltb (bodyOf w) 2097152 && ltb 0 (countAbove w) && leb (countAbove w) 1024 && ltb (stateBelow w) (countAbove w) ≡ isHead w
-  unfolding isHead
-  head-tests = rw (isOf-range headKind w)
-
-  pub head-value : (p q r s : Bool) → p ≡ eqb (numberOf w) 8 && ltb (bodyOf w) 2097152 → q ≡ p && ltb 0 (countAbove w)
-      → r ≡ q && leb (countAbove w) 1024 → s ≡ r && ltb (stateBelow w) (countAbove w) → s ≡ isHead w
-  head-value p q r s ep eq er es = es ∙ rw (er, eq, ep) head-tests
+pub head-value : (w : ℕ) (p q r s : Bool) → p ≡ isOf headKind w → q ≡ p && ltb 0 (countAbove w) → r ≡ q && leb (countAbove w) 1024
+    → s ≡ r && ltb (stateBelow w) (countAbove w) → s ≡ isHead w
+unfolding isHead
+head-value w p q r s ep eq er es = es ∙ rw (er, eq, ep)
 
 -- ---- a word behind the head
 
--- a word of another kind
-not-of : (k : Kind) (w : ℕ) → (numberOf w ≡ kindNumber k → ⊥) → isOf k w ≡ false
-not-of k w h = isOf-range k w ∙ rw (ne-eqb (numberOf w) (kindNumber k) h)
+module _ (k : Kind) (w : ℕ) where
+  not-clear : spareBitsClear w ≡ false → isOf k w ≡ false
+  unfolding isOf
+  not-clear h = rw h (none (hasKind k w))
+    where
+      none : (b : Bool) → b && false ≡ false
+      none true = refl
+      none false = refl
 
-is-of : (k : Kind) (w : ℕ) → numberOf w ≡ kindNumber k → isOf k w ≡ ltb (bodyOf w) (fieldRange k)
-is-of k w h = isOf-range k w ∙ rw (eq-eqb (numberOf w) (kindNumber k) h)
+  not-of : (numberOf w ≡ kindNumber k → ⊥) → isOf k w ≡ false
+  unfolding isOf
+  not-of h = rw (ne-eqb (numberOf w) (kindNumber k) h)
+
+  is-of : numberOf w ≡ kindNumber k → spareBitsClear w ≡ true → isOf k w ≡ true
+  unfolding isOf
+  is-of e h = rw (eq-eqb (numberOf w) (kindNumber k) e, h)
 
 or-none : (b : Bool) → b || false ≡ b
 or-none true = refl
 or-none false = refl
 
 module _ (a : List ℕ) (n : ℕ) (w : ℕ) where
+  pub spare-bits : (k : ℕ) → spareBitsClear w ≡ false → false ≡ isTableWord a n k w
+  unfolding isTableWord
+  spare-bits zero h = sym (rw (not-clear transitionKind w h, not-clear epsilonKind w h))
+  spare-bits (suc k) h = sym (rw (not-clear sourceKind w h))
+
   pub no-table-word : (k : ℕ) → (numberOf w ≡ 9 → ⊥) → (numberOf w ≡ 10 → ⊥) → (numberOf w ≡ 11 → ⊥) → false ≡ isTableWord a n k w
   unfolding isTableWord
   no-table-word zero h i j = sym (rw (not-of transitionKind w h, not-of epsilonKind w i))
@@ -53,34 +63,25 @@ module _ (a : List ℕ) (n : ℕ) (w : ℕ) where
   pub lower-kind : (k : ℕ) → numberOf w < 9 → false ≡ isTableWord a n k w
   lower-kind k h = no-table-word k (λ e. omega arith) (λ e. omega arith) (λ e. omega arith)
 
-  module _ (e : numberOf w ≡ 9) where
-    on-symbol : (k : ℕ) → eqb k 0 && ltb (bodyOf w) 262144 && isSymbol a (symbolAbove w) && ltb (stateBelow w) n ≡ isTableWord a n k w
+  module _ (clear : spareBitsClear w ≡ true) where
+    pub on-symbol-value : numberOf w ≡ 9 → (k : ℕ) (p r : Bool) → p ≡ eqb k 0 && isSymbol a (symbolAbove w) → r ≡ p && ltb (stateBelow w) n → r ≡ isTableWord a n k w
     unfolding isTableWord
-    on-symbol zero = sym (rw (is-of transitionKind w e, not-of epsilonKind w (λ i. omega arith), or-none))
-    on-symbol (suc k) = rw (ne-eqb (suc k) 0 (λ i. omega arith), not-of sourceKind w (λ i. omega arith))
+    on-symbol-value e zero p r ep er =
+        er ∙ rw ep (sym (rw (is-of transitionKind w e clear, not-of epsilonKind w (λ i. omega arith), or-none)))
+    on-symbol-value e (suc k) p r ep er =
+        er ∙ rw (ep, ne-eqb (suc k) 0 (λ i. omega arith), not-of sourceKind w (λ i. omega arith))
 
-    pub on-symbol-value : (k : ℕ) (p q r : Bool) → p ≡ eqb k 0 && ltb (bodyOf w) 262144 → q ≡ p && isSymbol a (symbolAbove w)
-        → r ≡ q && ltb (stateBelow w) n → r ≡ isTableWord a n k w
-    on-symbol-value k p q r ep eq er = er ∙ rw (eq, ep) (on-symbol k)
-
-  module _ (e : numberOf w ≡ 10) where
-    epsilon-tests : (k : ℕ) → eqb k 0 && ltb (bodyOf w) 1048576 && ltb (stateAbove w) n && ltb (stateBelow w) n ≡ isTableWord a n k w
+    pub epsilon-value : numberOf w ≡ 10 → (k : ℕ) (p r : Bool) → p ≡ eqb k 0 && ltb (stateAbove w) n → r ≡ p && ltb (stateBelow w) n → r ≡ isTableWord a n k w
     unfolding isTableWord
-    epsilon-tests zero = sym (rw (is-of epsilonKind w e, not-of transitionKind w (λ i. omega arith)))
-    epsilon-tests (suc k) = rw (ne-eqb (suc k) 0 (λ i. omega arith), not-of sourceKind w (λ i. omega arith))
+    epsilon-value e zero p r ep er =
+        er ∙ rw ep (sym (rw (is-of epsilonKind w e clear, not-of transitionKind w (λ i. omega arith))))
+    epsilon-value e (suc k) p r ep er =
+        er ∙ rw (ep, ne-eqb (suc k) 0 (λ i. omega arith), not-of sourceKind w (λ i. omega arith))
 
-    pub epsilon-value : (k : ℕ) (p q r : Bool) → p ≡ eqb k 0 && ltb (bodyOf w) 1048576 → q ≡ p && ltb (stateAbove w) n
-        → r ≡ q && ltb (stateBelow w) n → r ≡ isTableWord a n k w
-    epsilon-value k p q r ep eq er = er ∙ rw (eq, ep) (epsilon-tests k)
-
-  module _ (e : numberOf w ≡ 11) where
-    source-tests : (k : ℕ) → ltb 0 k && ltb (bodyOf w) 1024 && ltb (stateBelow w) n ≡ isTableWord a n k w
+    pub source-value : numberOf w ≡ 11 → (k : ℕ) (r : Bool) → r ≡ ltb 0 k && ltb (stateBelow w) n → r ≡ isTableWord a n k w
     unfolding isTableWord
-    source-tests zero = sym (rw (not-of transitionKind w (λ i. omega arith), not-of epsilonKind w (λ i. omega arith)))
-    source-tests (suc k) = rw (lt-ltb 0 (suc k) (omega arith), is-of sourceKind w e)
-
-    pub source-value : (k : ℕ) (p r : Bool) → p ≡ ltb 0 k && ltb (bodyOf w) 1024 → r ≡ p && ltb (stateBelow w) n → r ≡ isTableWord a n k w
-    source-value k p r ep er = er ∙ rw ep (source-tests k)
+    source-value e zero r er = er ∙ sym (rw (not-of transitionKind w (λ i. omega arith), not-of epsilonKind w (λ i. omega arith)))
+    source-value e (suc k) r er = er ∙ rw (lt-ltb 0 (suc k) (omega arith), is-of sourceKind w e clear)
 
 -- ---- how many part states are to come
 

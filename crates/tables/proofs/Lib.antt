@@ -6,3 +6,4 @@ pub mod SourceLaws
 pub mod GrowthLaws
 pub mod StartLaws
 pub mod PassLaws
+pub mod NodeLaws

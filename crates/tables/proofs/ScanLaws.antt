@@ -4,16 +4,12 @@ use mathlib.Core.Bool.{Bool, true, false, not, _&&_}
 use mathlib.Core.List.{List, [], _∷_}
 use Prim.Native.Nat.{ℕ, _+_, _<_, _≤_}
 use native.Mathlib.Omega.{arith}
-use native.Mathlib.Numerals.{add-one}
-use lib.ListN.{length, getD, drop, drop-of-length-le}
-use lib.Seq.{drop-cons}
+use lib.ListN.{length, getD, drop}
 use lib.Dec.{eqb}
 use borrow.Author.Tests.{le-leb, lt-leb}
 use Rattle.words.specs.Word.{countAbove}
+use Rattle.words.proofs.ScanLaws.{drop-step, drop-end}
 use Rattle.automaton.specs.Table.{isTable, isHead, isTableWord, sourcesLeft, areTransitions}
-
-pub drop-step : (l : List ℕ) (i : ℕ) → i < length l → drop i l ≡ getD l i 0 ∷ drop (i + 1) l
-drop-step l i h = rw (add-one, drop-cons l i 0)
 
 -- the words before word i are in order, and `left` part states are still to come
 pub record Checked (a : List ℕ) (n : ℕ) (table : List ℕ) (left i : ℕ) : Type 0 where
@@ -25,7 +21,7 @@ checked-none a n table = record { rest = refl }
 module _ {a : List ℕ} {n : ℕ} {table : List ℕ} {left i : ℕ} (s : Checked a n table left i) where
   pub checked-end : length table ≤ i → eqb left 0 ≡ areTransitions a n 0 (drop 1 table)
   unfolding areTransitions
-  checked-end h = sym (s .rest ∙ ap (areTransitions a n left) (drop-of-length-le table h))
+  checked-end h = sym (s .rest ∙ ap (areTransitions a n left) (drop-end table i h))
 
   module _ (h : i < length table) where
     next : areTransitions a n left (drop i table)

@@ -1,50 +1,64 @@
 // The check of a table (document 01's refusal 8).
 ghost use mathlib.Core.Path.{_≡_};
 ghost use lib.ListN.{drop};
-ghost use Rattle.words.specs.Alphabet.{rankOf};
 ghost use Rattle.automaton.specs.Table.{isHead, isTableWord, sourcesLeft, areTransitions, isTable};
+use super::head::COUNT_RANGE;
+use super::head::STATE_RANGE;
+use super::head::SYMBOL_RANGE;
+use words::alphabet::rank;
+use words::word::CLOSURE;
+use words::word::EMPTY;
+use words::word::ENTRY;
+use words::word::EPSILON;
+use words::word::HEAD;
+use words::word::KIND_UNIT;
+use words::word::NODE;
+use words::word::PRODUCT;
+use words::word::SOURCE;
+use words::word::SYMBOL;
+use words::word::TRANSITION;
+use words::word::UNION;
+use words::word::is_of;
+use words::word::spare_bits_clear;
+
+// The limits of a table.
+pub const STATES_MOST: u32 = 1024;
+
+pub const TABLE_MOST: usize = 2048;
 
 // Whether the word is a head: 1 to 1,024 states, and the final state is one of them.
 fn is_head(w: u32) -> bool
     ensures { λ r. ⌜ r ≡ isHead w ⌝ }
 {
-    let kind = w / 268435456;
-    let states = w / 1024 % 2048;
-    kind == 8 && w % 268435456 < 2097152 && 0 < states && states <= 1024 && w % 1024 < states
+    let states = w / STATE_RANGE % COUNT_RANGE;
+    is_of(HEAD, w) && 0 < states && states <= STATES_MOST && w % STATE_RANGE < states
 }
 
 // Whether the word may stand where `left` part states are still to come: a transition where none is, else a part state.
 fn is_table_word(alphabet: &[u32], states: usize, left: usize, w: u32) -> bool
     ensures { λ r. ⌜ r ≡ isTableWord (now (alphabet .entry)) states left w ⌝ }
 {
-    let kind = w / 268435456;
-    let symbol = (w / 1024 % 256) as usize;
-    let above = (w / 1024 % 1024) as usize;
-    let below = (w % 1024) as usize;
+    if !spare_bits_clear(w) {
+        return false;
+    }
+    let kind = w / KIND_UNIT;
+    let symbol = (w / STATE_RANGE % SYMBOL_RANGE) as usize;
+    let above = (w / STATE_RANGE % STATE_RANGE) as usize;
+    let below = (w % STATE_RANGE) as usize;
     match kind {
-        1 => false,
-        2 => false,
-        3 => false,
-        4 => false,
-        5 => false,
-        6 => false,
-        7 => false,
-        8 => false,
-        9 => left == 0 && w % 268435456 < 262144 && symbol < alphabet.len() && below < states,
-        10 => left == 0 && w % 268435456 < 1048576 && above < states && below < states,
-        11 => 0 < left && w % 268435456 < 1024 && below < states,
+        ENTRY => false,
+        SYMBOL => false,
+        EMPTY => false,
+        UNION => false,
+        PRODUCT => false,
+        CLOSURE => false,
+        NODE => false,
+        HEAD => false,
+        TRANSITION => left == 0 && symbol < alphabet.len() && below < states,
+        EPSILON => left == 0 && above < states && below < states,
+        SOURCE => 0 < left && below < states,
         _ => false,
     }
-}
-
-// The rank of a symbol, 0 for an unknown one.
-fn rank(alphabet: &[u32], symbol: usize) -> usize
-    ensures { λ r. ⌜ r ≡ rankOf (now (alphabet .entry)) symbol ⌝ }
-{
-    if symbol < alphabet.len() {
-        return (alphabet[symbol] % 256) as usize;
-    }
-    0
 }
 
 // How many part states are to come behind the word, where `left` were before it.
@@ -54,19 +68,19 @@ fn sources_left(alphabet: &[u32], left: usize, w: u32) -> usize
     if 0 < left {
         return left - 1;
     }
-    let kind = w / 268435456;
+    let kind = w / KIND_UNIT;
     match kind {
-        1 => 0,
-        2 => 0,
-        3 => 0,
-        4 => 0,
-        5 => 0,
-        6 => 0,
-        7 => 0,
-        8 => 0,
-        9 => rank(alphabet, (w / 1024 % 256) as usize),
-        10 => 0,
-        11 => 0,
+        ENTRY => 0,
+        SYMBOL => 0,
+        EMPTY => 0,
+        UNION => 0,
+        PRODUCT => 0,
+        CLOSURE => 0,
+        NODE => 0,
+        HEAD => 0,
+        TRANSITION => rank(alphabet, (w / STATE_RANGE % SYMBOL_RANGE) as usize),
+        EPSILON => 0,
+        SOURCE => 0,
         _ => 0,
     }
 }
@@ -95,12 +109,12 @@ pub fn is_table(alphabet: &[u32], table: &[u32]) -> bool
     if table.len() == 0 {
         return false;
     }
-    if 2048 < table.len() {
+    if table.len() > TABLE_MOST {
         return false;
     }
     let head = table[0];
     if !is_head(head) {
         return false;
     }
-    are_transitions(alphabet, (head / 1024 % 2048) as usize, table)
+    are_transitions(alphabet, (head / STATE_RANGE % COUNT_RANGE) as usize, table)
 }

@@ -4,6 +4,17 @@ ghost use lib.ListN.{getD};
 ghost use Rattle.automaton.specs.Transition.{automatonOf};
 ghost use Rattle.operations.specs.Marks.{sizeOf, finalOf};
 
+// Bits 9..0 of a word of a table are a state. Above them stand a head's state count, a symbol transition's symbol, or the
+// from state of an epsilon transition.
+pub const STATE_RANGE: u32 = 1024;
+
+pub const COUNT_RANGE: u32 = 2048;
+
+pub const SYMBOL_RANGE: u32 = 256;
+
+// State s is a bit of word s / 32 of a state set.
+pub const WORD_BITS: usize = 32;
+
 // The first word, or 0 of a table with none.
 fn head_word(table: &[u32]) -> u32
     ensures { λ r. ⌜ r ≡ getD (now (table .entry)) 0 0 ⌝ }
@@ -17,18 +28,18 @@ fn head_word(table: &[u32]) -> u32
 pub fn state_count(table: &[u32]) -> usize
     ensures { λ r. ⌜ r ≡ automatonOf (now (table .entry)) .states ⌝ }
 {
-    (head_word(table) / 1024 % 2048) as usize
+    (head_word(table) / STATE_RANGE % COUNT_RANGE) as usize
 }
 
 pub fn final_state(table: &[u32]) -> usize
     ensures { λ r. ⌜ r ≡ finalOf (now (table .entry)) ⌝ }
 {
-    (head_word(table) % 1024) as usize
+    (head_word(table) % STATE_RANGE) as usize
 }
 
 // Document 01's S: the words of one node's state set.
 pub fn set_size(table: &[u32]) -> usize
     ensures { λ r. ⌜ r ≡ sizeOf (now (table .entry)) ⌝ }
 {
-    (state_count(table) + 31) / 32
+    (state_count(table) + 31) / WORD_BITS
 }

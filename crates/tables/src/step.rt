@@ -10,6 +10,8 @@ ghost use Rattle.operations.specs.Marks.{sizeOf};
 ghost use Rattle.tables.specs.Ready.{Ready, childSets};
 ghost use Rattle.tables.specs.Growth.{Put, Sources, Firing, Given, GivenAt, Followed, Passed, indexAt};
 ghost use Rattle.tables.specs.Growth.{fires as Growth·fires};
+use super::head::STATE_RANGE;
+use super::head::SYMBOL_RANGE;
 use super::head::set_size;
 use super::set::contains;
 use super::set::insert;
@@ -51,7 +53,7 @@ fn sources_contained(table: &[u32], at: usize, size: usize, marks: &[u32], child
     let mut k = 0;
     while k < children.len() {
         let first = children[k] as usize * size;
-        let state = (table[at + k] % 1024) as usize;
+        let state = (table[at + k] % STATE_RANGE) as usize;
         if !contains(&marks[first..first + size], state) {
             return false;
         }
@@ -66,7 +68,7 @@ fn fires(table: &[u32], i: usize, symbol: u32, size: usize, marks: &[u32], child
     ensures { λ r. ⌜ r ≡ Growth·fires (now (table .entry)) i symbol (childSets size (now (marks .entry)) (now (children .entry))) ⌝ }
 {
     let w = table[i];
-    if w / 1024 % 256 != symbol {
+    if w / STATE_RANGE % SYMBOL_RANGE != symbol {
         return false;
     }
     sources_contained(table, i + 1, size, marks, children)
@@ -89,8 +91,8 @@ fn follow(
 {
     let w = table[i];
     let kind = w / KIND_UNIT;
-    let above = (w / 1024 % 1024) as usize;
-    let below = (w % 1024) as usize;
+    let above = (w / STATE_RANGE % STATE_RANGE) as usize;
+    let below = (w % STATE_RANGE) as usize;
     match kind {
         ENTRY => false,
         SYMBOL => false,

@@ -157,15 +157,6 @@ isOf-from k w e h =
     true-and (hasKind k w) (spareBitsClear w) (eq-eqb (numberOf w) (kindNumber k) e)
     (rw (ap kindAt e ∙ kindAt-number k) (lt-ltb (bodyOf w) (fieldRange k) h))
 
--- the test of the spare bits is against the kind's own range
-pub isOf-range : (k : Kind) (w : ℕ) → isOf k w ≡ hasKind k w && ltb (bodyOf w) (fieldRange k)
-unfolding isOf spareBitsClear
-isOf-range k w = go (hasKind k w) refl
-  where
-    go : (b : Bool) → hasKind k w ≡ b → b && ltb (bodyOf w) (fieldRange (kindOf w)) ≡ b && ltb (bodyOf w) (fieldRange k)
-    go true e = ap (λ (j : Kind). ltb (bodyOf w) (fieldRange j)) (hasKind-kindOf k w e)
-    go false e = refl
-
 pub isOf-wordOf : (k : Kind) (b : ℕ) → b < fieldRange k → isOf k (wordOf k b) ≡ true
 isOf-wordOf k b h =
     let l : b < 0x1000_0000 = omega (arith, fieldRange-fits k) in

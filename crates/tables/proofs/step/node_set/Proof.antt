@@ -3,7 +3,7 @@
 use mathlib.Core.Path.{sym}
 use borrow.Author.Needs.{needs}
 use Rattle.tables.specs.Ready.{childSets}
-use Rattle.tables.proofs.PassLaws.{Growing, growing-none, growing-given, growing-more, growing-end, measure, measure-falls}
+use Rattle.tables.proofs.NodeLaws.{Growing, growing-none, growing-given, growing-more, growing-end, measure, measure-falls}
 use Rattle.tables.proofs.step.node_set.Statement.{statement}
 use Rattle.tables.proofs.step.node_set.Tie as tie
 
