@@ -1,4 +1,4 @@
--- The table of the source's own example, computed from the definitions. Assumes nothing.
+-- The table of the source's own example, and of two small expressions, computed from the definitions. Assumes nothing.
 use Prim.Native.Nat.{ℕ}
 use mathlib.Core.Path.{_≡_, refl}
 use mathlib.Core.List.{List, [], _∷_, flatMap}
@@ -32,3 +32,21 @@ table =
 pub example-table : tableWords (compiled alphabet rule) ≡ table
 unfolding kindAt rankOf constantsFrom constantsOf arity hasEntries statesOf portOf ownTransitions portsFrom statesAfter transitionsFrom compiled flatMap
 example-table = refl
+
+-- c of rank 0 and f of rank 2
+abbrev smallAlphabet : List ℕ
+smallAlphabet = 0x10000000 ∷ 0x10000002 ∷ []
+
+-- f(c, c): the entry for c goes to both children, the left one first
+pub twice-table :
+    tableWords (compiled smallAlphabet (0x20000000 ∷ 0x20000000 ∷ 0x20000001 ∷ []))
+    ≡ 0x80001002 ∷ 0x90000003 ∷ 0x90000402 ∷ 0xb0000000 ∷ 0xb0000001 ∷ 0xa0000c00 ∷ 0xa0000c01 ∷ []
+unfolding kindAt rankOf constantsFrom constantsOf arity hasEntries statesOf portOf ownTransitions portsFrom statesAfter transitionsFrom compiled flatMap
+twice-table = refl
+
+-- the closure over c of the empty language, which has no entry
+pub empty-table :
+    tableWords (compiled smallAlphabet (0x30000000 ∷ 0x60000000 ∷ []))
+    ≡ 0x80000c01 ∷ 0x90000002 ∷ 0xa0000001 ∷ 0xa0000801 ∷ []
+unfolding kindAt rankOf constantsFrom constantsOf arity hasEntries statesOf portOf ownTransitions portsFrom statesAfter transitionsFrom compiled flatMap
+empty-table = refl
