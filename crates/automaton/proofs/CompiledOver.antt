@@ -19,7 +19,8 @@ use Rattle.automaton.specs.Numbering.{Port, statesOf, portOf, entryFor, 
 use Rattle.automaton.specs.Table.{AllBelow, TransitionOver, TransitionsOver, AutomatonOver}
 use Rattle.automaton.proofs.EntryLaws.{to-epsilons, to-fan, to-constants, numbered-all, constantTransitions}
 use Rattle.automaton.proofs.Ports.{statesIn, Entries, every, own, missing, PortIn, Children, noChild, child, children-le}
-use Rattle.automaton.proofs.Reading.{Own, leaf, ofSymbol, ofUnion, ofProduct, ofClosure, Reading, ended, word, childrenOn, expression-reading}
+use Rattle.automaton.proofs.OwnTransitions.{Own, leaf, ofSymbol, ofUnion, ofProduct, ofClosure}
+use Rattle.automaton.proofs.Reading.{Reading, ended, word, childrenOn, expression-reading}
 use Rattle.automaton.proofs.LastPort.{statesAfter-le, lastPort-in}
 use Rattle.automaton.proofs.TargetLaws.{symbolTargets, unionTargets, productTargets, closureTargets, entryFor-ascending, symbol-ascending, union-ascending, product-ascending, closure-ascending}
 

@@ -2,6 +2,7 @@ pub mod CompiledExample
 pub mod BitLaws
 pub mod KeepLaws
 pub mod Ports
+pub mod OwnTransitions
 pub mod Reading
 pub mod TargetLaws
 pub mod TransitionOrder

@@ -16,7 +16,8 @@ use Rattle.automaton.specs.Transition.{Transition, onSymbol, transitionW
 use Rattle.automaton.specs.Numbering.{Port, hasEntries, statesOf, portOf, entryFor, epsilons, fan, statesAfter, ownTransitions, transitionsFrom, lastPort, compiled}
 use Rattle.automaton.proofs.EntryLaws.{constantTransitions}
 use Rattle.automaton.proofs.Ports.{constantsIn, PortIn, Children, child}
-use Rattle.automaton.proofs.Reading.{Own, leaf, ofSymbol, ofUnion, ofProduct, ofClosure, WordRead, Reading, word, childrenOn, expression-reading, expression-length}
+use Rattle.automaton.proofs.OwnTransitions.{Own, leaf, ofSymbol, ofUnion, ofProduct, ofClosure}
+use Rattle.automaton.proofs.Reading.{WordRead, Reading, word, childrenOn, expression-reading, expression-length}
 use Rattle.automaton.proofs.TargetLaws.{symbolTargets, unionTargets, productTargets, closureTargets}
 use Rattle.automaton.proofs.TargetCount.{total, weight, lookup-once, total-symbol, total-union, total-product, total-closure}
 use Rattle.automaton.proofs.StateCount.{innerWords}
