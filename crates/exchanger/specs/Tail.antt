@@ -1,0 +1,10 @@
+-- Which words of a slice may move as its tail: a condition that callers show. It serves inner functions. Assumes nothing.
+use Prim.Native.Nat.{ℕ, _+_, _-_, _≤_}
+use mathlib.Core.List.{List}
+use lib.ListN.{length}
+
+-- the words from index `end` up to `used`, and the places from index `at` on, lie inside the slice
+pub record TailFits (words : List ℕ) (used end at : ℕ) : Type 0 where
+  pub some : end ≤ used
+  pub inside : used ≤ length words
+  pub room : at + (used - end) ≤ length words
