@@ -1,0 +1,91 @@
+-- Laws of words in bytes, and of the loop that keeps them as far as a slice reaches. Assumes nothing.
+use mathlib.Core.Path.{_≡_, refl, ap, ap₂, _∙_, sym}
+use mathlib.Core.List.{List, [], _∷_, _++_}
+use Prim.Native.Nat.{ℕ, zero, suc, _+_, _*_, _-_, _/_, _<_, _≤_, min}
+use native.Mathlib.Omega.{arith}
+use native.Mathlib.Nat.{zero-add, add-zero}
+use native.Mathlib.Numerals.{add-one}
+use native.Mathlib.Decide.{decLe}
+use lib.ListN.{length, getD, take, drop, set, length-set, length-take, take-append-drop}
+use lib.Seq.{sets, length-sets, set-out, take-suc, take-all, length-take-le}
+use Rattle.words.specs.Lists.{listFrom}
+use Rattle.words.proofs.ListLaws.{length-listFrom, getD-listFrom}
+use Rattle.emitter.proofs.WritingLaws.{sets-append}
+use Rattle.report.specs.Input.{wordAt, wordsIn}
+
+-- ---- words in bytes
+
+pub length-wordsIn : (bytes : List ℕ) → length (wordsIn bytes) ≡ length bytes / 4
+unfolding wordsIn
+length-wordsIn bytes = length-listFrom (wordAt bytes) (length bytes / 4) 0
+
+pub getD-wordsIn : (bytes : List ℕ) (i : ℕ) → i < length bytes / 4 → getD (wordsIn bytes) i 0 ≡ wordAt bytes i
+unfolding wordsIn
+getD-wordsIn bytes i h = getD-listFrom (wordAt bytes) 0 (length bytes / 4) 0 i h ∙ ap (wordAt bytes) (zero-add i)
+
+-- ---- stores past the end of a list change nothing
+
+pub sets-past : (vs l : List ℕ) (i : ℕ) → length l ≤ i → sets l i vs ≡ l
+sets-past [] l i h = refl
+sets-past (v ∷ vs) l i h = rw (set-out l i v) (sets-past vs l (suc i) (omega arith))
+
+-- so those that do not fit may be left out
+pub sets-take : (vs l : List ℕ) (at n : ℕ) → length l ≤ at + n → sets l at (take n vs) ≡ sets l at vs
+sets-take vs l at n h = go (decLe n (length vs))
+  where
+    go : Dec (n ≤ length vs) → sets l at (take n vs) ≡ sets l at vs
+    go (yes k) =
+        let e : length (take n vs) ≡ n = length-take-le n vs k in
+        let e′ : length (sets l at (take n vs)) ≡ length l = length-sets l at (take n vs) in
+        sym (sets-past (drop n vs) (sets l at (take n vs)) (at + length (take n vs)) (omega arith))
+        ∙ sym (sets-append (take n vs) (drop n vs) l at) ∙ ap (sets l at) (take-append-drop n vs)
+    go (no k) = ap (sets l at) (take-all n vs (omega arith))
+
+-- ---- the loop after i words
+
+pub record Keeping (words₀ : List ℕ) (at : ℕ) (bytes : List ℕ) (count : ℕ) (words : List ℕ) (i : ℕ) : Type 0 where
+  pub few : i ≤ count
+  pub whole : 4 * count ≤ length bytes
+  pub room : at + count ≤ length words₀
+  pub long : length words ≡ length words₀
+  pub same : words ≡ sets words₀ at (take i (wordsIn bytes))
+
+module _ (words₀ : List ℕ) (at : ℕ) (bytes : List ℕ) (count : ℕ) where
+  pub keeping-none : at < length words₀ → count ≡ min (length bytes / 4) (length words₀ - at) → Keeping words₀ at bytes count words₀ 0
+  keeping-none h e = record { few = omega arith; whole = omega arith; room = omega arith; long = refl; same = refl }
+
+  pub keeping-more : (words : List ℕ) (i w : ℕ) → Keeping words₀ at bytes count words i → i < count
+      → w ≡ getD bytes (4 * i) 0 + 256 * getD bytes (4 * i + 1) 0 + 65536 * getD bytes (4 * i + 2) 0 + 16777216 * getD bytes (4 * i + 3) 0
+      → Keeping words₀ at bytes count (set words (at + i) w) (i + 1)
+  unfolding wordAt
+  keeping-more words i w k h e =
+      let whole = k .whole in
+      let low : i < length bytes / 4 = omega arith in
+      let n : length (wordsIn bytes) ≡ length bytes / 4 = length-wordsIn bytes in
+      let l : length (take i (wordsIn bytes)) ≡ i = length-take-le i (wordsIn bytes) (omega arith) in
+      record {
+        few = omega arith;
+        whole = whole;
+        room = k .room;
+        long = length-set words (at + i) w ∙ k .long;
+        same =
+            ap₂ (λ (l : List ℕ) (x : ℕ). set l (at + i) x) (k .same) (e ∙ sym (getD-wordsIn bytes i low))
+            ∙ sym
+            (ap (λ (j : ℕ). sets words₀ at (take j (wordsIn bytes))) (add-one i)
+            ∙ ap (sets words₀ at) (take-suc (wordsIn bytes) i 0 (omega arith))
+            ∙ sets-append (take i (wordsIn bytes)) (getD (wordsIn bytes) i 0 ∷ []) words₀ at
+            ∙ ap (λ (j : ℕ). set (sets words₀ at (take i (wordsIn bytes))) (at + j) (getD (wordsIn bytes) i 0)) l);
+      }
+
+  pub keeping-end : (words : List ℕ) (i : ℕ) → Keeping words₀ at bytes count words i → count ≤ i → at < length words₀
+      → count ≡ min (length bytes / 4) (length words₀ - at) → words ≡ sets words₀ at (wordsIn bytes)
+  keeping-end words i k h low e =
+      let few = k .few in
+      let q : i ≡ count = omega arith in
+      let n : length (wordsIn bytes) ≡ length bytes / 4 = length-wordsIn bytes in
+      k .same ∙ rw q (go (decLe (length words₀) (at + count)) n)
+    where
+      go : Dec (length words₀ ≤ at + count) → length (wordsIn bytes) ≡ length bytes / 4
+          → sets words₀ at (take count (wordsIn bytes)) ≡ sets words₀ at (wordsIn bytes)
+      go (yes z) n = sets-take (wordsIn bytes) words₀ at count z
+      go (no z) n = ap (sets words₀ at) (take-all count (wordsIn bytes) (omega arith))

@@ -1,0 +1,90 @@
+-- The output depends on the first 65 words of the alphabet, the first 65 of the rule and the first 257 of the chapter: one
+-- word more than the most that is accepted. Assumes nothing.
+use mathlib.Core.Path.{_≡_, refl, ap, _∙_, sym}
+use mathlib.Core.Bool.{Bool, true, false, cond}
+use mathlib.Core.List.{List, [], _∷_, _++_}
+use Prim.Native.Nat.{ℕ, _+_, _<_, _≤_}
+use native.Mathlib.Omega.{arith}
+use native.Mathlib.Decide.{decLe}
+use lib.ListN.{length, take}
+use lib.Seq.{take-all, length-take-le}
+use borrow.Author.Tests.{lt-ltb, ne-eqb}
+use Rattle.words.specs.Alphabet.{noAlphabet, wrongConstants}
+use Rattle.words.specs.Expression.{wrongLength, noExpressionWords}
+use Rattle.words.specs.Postfix.{notOneTree}
+use Rattle.operations.specs.Compile.{tooManyStates}
+use Rattle.report.specs.Output.{refusedLine, wrongChapter, marklistFault, marklistOutput}
+
+-- ---- a refused call prints its number
+
+pub refused-output : (a e ch : List ℕ) (n : ℕ) → marklistFault a e ch ≡ n → 0 < n → marklistOutput a e ch ≡ refusedLine n
+unfolding marklistOutput
+refused-output a e ch n f h = rw (f, ne-eqb n 0 (λ z. omega arith))
+
+some-number : (b : Bool) (n m : ℕ) → 0 < n → 0 < m → 0 < cond b n m
+some-number true n m h k = h
+some-number false n m h k = k
+
+-- ---- a list that is too long is refused whatever its words are
+
+alphabet-long : (a e ch : List ℕ) → 64 < length a → marklistFault a e ch ≡ 1
+unfolding noAlphabet
+alphabet-long a e ch h = rw (ne-eqb (length a) 0 (λ z. omega arith), lt-ltb 64 (length a) h)
+
+rule-long : (a e ch : List ℕ) → 64 < length e → marklistFault a e ch ≡ cond (noAlphabet a) 1 (cond (wrongConstants a) 2 3)
+unfolding wrongLength
+rule-long a e ch h = rw (ne-eqb (length e) 0 (λ z. omega arith), lt-ltb 64 (length e) h)
+
+-- the number of a chapter that is too long
+abbrev longNumber : List ℕ → List ℕ → ℕ
+longNumber a e =
+    cond (noAlphabet a) 1 (cond (wrongConstants a) 2 (cond (wrongLength e) 3
+    (cond (noExpressionWords a e) 4 (cond (notOneTree a e) 5 (cond (tooManyStates a e) 6 9)))))
+
+chapter-long : (a e ch : List ℕ) → 256 < length ch → marklistFault a e ch ≡ longNumber a e
+unfolding wrongChapter
+chapter-long a e ch h = rw (ne-eqb (length ch) 0 (λ z. omega arith), lt-ltb 256 (length ch) h)
+
+rule-number : (a : List ℕ) → 0 < cond (noAlphabet a) 1 (cond (wrongConstants a) 2 3)
+rule-number a = some-number (noAlphabet a) 1 _ (omega arith) (some-number (wrongConstants a) 2 3 (omega arith) (omega arith))
+
+chapter-number : (a e : List ℕ) → 0 < longNumber a e
+chapter-number a e =
+    some-number (noAlphabet a) 1 _ (omega arith) (some-number (wrongConstants a) 2 _ (omega arith)
+    (some-number (wrongLength e) 3 _ (omega arith) (some-number (noExpressionWords a e) 4 _ (omega arith)
+    (some-number (notOneTree a e) 5 _ (omega arith) (some-number (tooManyStates a e) 6 9 (omega arith) (omega arith))))))
+
+-- ---- the words that are kept
+
+kept-long : (l : List ℕ) (k : ℕ) → k < length l → k < length (take (k + 1) l)
+kept-long l k h = rw (length-take-le (k + 1) l (omega arith)) (omega arith)
+
+keep-alphabet : (a e ch : List ℕ) → marklistOutput (take 65 a) e ch ≡ marklistOutput a e ch
+keep-alphabet a e ch = go (decLe (length a) 64)
+  where
+    go : Dec (length a ≤ 64) → marklistOutput (take 65 a) e ch ≡ marklistOutput a e ch
+    go (yes h) = ap (λ (l : List ℕ). marklistOutput l e ch) (take-all 65 a (omega arith))
+    go (no h) =
+        refused-output (take 65 a) e ch 1 (alphabet-long (take 65 a) e ch (kept-long a 64 (omega arith))) (omega arith)
+        ∙ sym (refused-output a e ch 1 (alphabet-long a e ch (omega arith)) (omega arith))
+
+keep-rule : (a e ch : List ℕ) → marklistOutput a (take 65 e) ch ≡ marklistOutput a e ch
+keep-rule a e ch = go (decLe (length e) 64)
+  where
+    go : Dec (length e ≤ 64) → marklistOutput a (take 65 e) ch ≡ marklistOutput a e ch
+    go (yes h) = ap (λ (l : List ℕ). marklistOutput a l ch) (take-all 65 e (omega arith))
+    go (no h) =
+        refused-output a (take 65 e) ch _ (rule-long a (take 65 e) ch (kept-long e 64 (omega arith))) (rule-number a)
+        ∙ sym (refused-output a e ch _ (rule-long a e ch (omega arith)) (rule-number a))
+
+keep-chapter : (a e ch : List ℕ) → marklistOutput a e (take 257 ch) ≡ marklistOutput a e ch
+keep-chapter a e ch = go (decLe (length ch) 256)
+  where
+    go : Dec (length ch ≤ 256) → marklistOutput a e (take 257 ch) ≡ marklistOutput a e ch
+    go (yes h) = ap (marklistOutput a e) (take-all 257 ch (omega arith))
+    go (no h) =
+        refused-output a e (take 257 ch) _ (chapter-long a e (take 257 ch) (kept-long ch 256 (omega arith))) (chapter-number a e)
+        ∙ sym (refused-output a e ch _ (chapter-long a e ch (omega arith)) (chapter-number a e))
+
+pub kept-output : (a e ch : List ℕ) → marklistOutput (take 65 a) (take 65 e) (take 257 ch) ≡ marklistOutput a e ch
+kept-output a e ch = keep-alphabet a (take 65 e) (take 257 ch) ∙ keep-rule a e (take 257 ch) ∙ keep-chapter a e ch

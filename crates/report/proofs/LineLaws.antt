@@ -1,0 +1,77 @@
+-- Laws of lines written part after part, and of the loop over the hits. Assumes nothing.
+use mathlib.Core.Path.{_≡_, refl, ap, _∙_, sym}
+use mathlib.Core.List.{List, [], _∷_, _++_, append-nil, append-assoc}
+use Prim.Native.Nat.{ℕ, zero, suc, _+_, _-_, _<_, _≤_}
+use native.Mathlib.Omega.{arith}
+use native.Mathlib.Numerals.{add-one}
+use lib.ListN.{length, getD, take, List·getD-eq-default}
+use lib.Seq.{take-suc, take-all}
+use Rattle.words.specs.Chapter.{symbolOf}
+use Rattle.words.specs.Postfix.{startOf}
+use Rattle.report.specs.Decimal.{decimal}
+use Rattle.report.specs.Output.{space, newline, refusedText, nodesText, statesText, hitsText, refusedLine, headLine, hitLine, hitLines}
+use Rattle.report.specs.Writing.{Written}
+use Rattle.report.proofs.WritingLaws.{written-none, written-more, written-same}
+
+-- ---- lines
+
+module _ {out o₁ o₂ o₃ : List ℕ} {n₁ n₂ r : ℕ} (number : ℕ) where
+  pub refused-written : Written 0 refusedText out o₁ n₁ → Written n₁ (decimal number) o₁ o₂ n₂ → Written n₂ newline o₂ o₃ r
+      → Written 0 (refusedLine number) out o₃ r
+  unfolding refusedLine
+  refused-written p q s = written-more (written-more p q) s
+
+module _ {out o₁ o₂ o₃ o₄ o₅ o₆ o₇ : List ℕ} {n₁ n₂ n₃ n₄ n₅ n₆ r : ℕ} (nodes states hits : ℕ) where
+  pub head-written : Written 0 nodesText out o₁ n₁ → Written n₁ (decimal nodes) o₁ o₂ n₂ → Written n₂ statesText o₂ o₃ n₃
+      → Written n₃ (decimal states) o₃ o₄ n₄ → Written n₄ hitsText o₄ o₅ n₅ → Written n₅ (decimal hits) o₅ o₆ n₆ → Written n₆ newline o₆ o₇ r
+      → Written 0 (headLine nodes states hits) out o₇ r
+  unfolding headLine
+  head-written p q s t u v w = written-more (written-more (written-more (written-more (written-more (written-more p q) s) t) u) v) w
+
+module _ {out o₁ o₂ o₃ o₄ o₅ o₆ : List ℕ} {at n₁ n₂ n₃ n₄ n₅ r : ℕ} (a ch : List ℕ) (i : ℕ) where
+  pub hit-written : (symbol start : ℕ) → symbol ≡ symbolOf (getD ch i 0) → start ≡ startOf a ch i
+      → Written at (decimal i) out o₁ n₁ → Written n₁ space o₁ o₂ n₂ → Written n₂ (decimal symbol) o₂ o₃ n₃
+      → Written n₃ space o₃ o₄ n₄ → Written n₄ (decimal (i + 1 - start)) o₄ o₅ n₅ → Written n₅ newline o₅ o₆ r
+      → Written at (hitLine a ch i) out o₆ r
+  unfolding hitLine
+  hit-written symbol start e f p q s t u v =
+      rw (← e, ← f) (written-more (written-more (written-more (written-more (written-more p q) s) t) u) v)
+
+-- a symbol where there is no node
+pub no-symbol : (ch : List ℕ) (i : ℕ) → length ch ≤ i → 0 ≡ symbolOf (getD ch i 0)
+no-symbol ch i h = rw (List·getD-eq-default ch 0 h)
+
+-- ---- the loop over the hits, after i of them
+
+pub hitLines-more : (a ch is : List ℕ) (j : ℕ) → hitLines a ch (is ++ j ∷ []) ≡ hitLines a ch is ++ hitLine a ch j
+unfolding hitLines
+hitLines-more a ch [] j = append-nil (hitLine a ch j)
+hitLines-more a ch (i ∷ is) j =
+    ap (λ (l : List ℕ). hitLine a ch i ++ l) (hitLines-more a ch is j) ∙ sym (append-assoc (hitLine a ch i) (hitLines a ch is) (hitLine a ch j))
+
+pub record Hit (a ch hits : List ℕ) (at : ℕ) (out₀ out : List ℕ) (next i : ℕ) : Type 0 where
+  pub few : i ≤ length hits
+  pub long : length out ≡ length out₀
+  pub written : Written at (hitLines a ch (take i hits)) out₀ out next
+
+module _ (a ch hits : List ℕ) (at : ℕ) (out₀ : List ℕ) where
+  pub hit-none : Hit a ch hits at out₀ out₀ at 0
+  unfolding hitLines
+  hit-none = record { few = omega arith; long = refl; written = written-none at out₀ }
+
+  pub hit-more : (out : List ℕ) (next i : ℕ) → Hit a ch hits at out₀ out next i → i < length hits
+      → (out′ : List ℕ) (r : ℕ) → length out′ ≡ length out → Written next (hitLine a ch (getD hits i 0)) out out′ r
+      → Hit a ch hits at out₀ out′ r (i + 1)
+  hit-more out next i t h out′ r l w =
+      record {
+        few = omega arith;
+        long = l ∙ t .long;
+        written =
+            written-same (written-more (t .written) w)
+            (sym
+            (ap (λ (k : ℕ). hitLines a ch (take k hits)) (add-one i) ∙ ap (hitLines a ch) (take-suc hits i 0 h)
+            ∙ hitLines-more a ch (take i hits) (getD hits i 0)));
+      }
+
+  pub hit-end : (out : List ℕ) (next i : ℕ) → Hit a ch hits at out₀ out next i → length hits ≤ i → Written at (hitLines a ch hits) out₀ out next
+  hit-end out next i t h = written-same (t .written) (ap (hitLines a ch) (take-all i hits h))

@@ -1,0 +1,151 @@
+-- The output never has more than 4,096 bytes. Assumes nothing.
+use mathlib.Core.Path.{_≡_, refl, ap, _∙_, sym}
+use mathlib.Core.Bool.{Bool, true, false, cond, _&&_}
+use mathlib.Core.List.{List, [], _∷_, _++_}
+use Prim.Native.Nat.{ℕ, zero, suc, _+_, _-_, _*_, _/_, _%_, _^_, _<_, _≤_}
+use native.Mathlib.Omega.{arith}
+use native.Mathlib.Decide.{decLe}
+use native.Mathlib.Nat.{pow-suc}
+use lib.ListN.{length, getD, length-append}
+use lib.Dec.{eqb, ltb, leb}
+use borrow.Author.Tests.{ltb-false, leb-true, eqb-true}
+use Rattle.words.specs.Refusal.{Refusals, refusal}
+use Rattle.words.specs.Chapter.{symbolOf}
+use Rattle.words.specs.Postfix.{startOf}
+use Rattle.words.proofs.RefusalLaws.{refusal-none}
+use Rattle.words.proofs.TestLaws.{and-true, or-false}
+use Rattle.automaton.specs.StateSet.{StateSet, contains}
+use Rattle.automaton.specs.Table.{AllBelow}
+use Rattle.automaton.specs.Numbering.{compiled}
+use Rattle.operations.specs.Compile.{compiledTable, tooManyStates}
+use Rattle.operations.specs.Marks.{nodeSets}
+use Rattle.operations.specs.Listing.{matchesIn}
+use Rattle.operations.proofs.MarksLaws.{length-nodeSets}
+use Rattle.report.specs.Decimal.{decimal}
+use Rattle.report.specs.Output.{refusedLine, headLine, hitLine, hitLines, wrongChapter, marklistRefusals, marklistFault, hitsOf, marklistOutput, outputOf}
+use Rattle.report.proofs.DecimalLaws.{decimal-one, decimal-several}
+
+-- ---- how many digits a number has
+
+pub decimal-most : (k n : ℕ) → n < 10 ^ suc k → length (decimal n) ≤ suc k
+decimal-most zero n h = rw (decimal-one n h) (omega arith)
+decimal-most (suc k) n h = go (decLe 10 n) (decimal-most k (n / 10))
+  where
+    go : Dec (10 ≤ n) → (n / 10 < 10 ^ suc k → length (decimal (n / 10)) ≤ suc k) → length (decimal n) ≤ suc (suc k)
+    go (yes l) ih =
+        let p : 10 ^ suc (suc k) ≡ 10 ^ suc k * 10 = pow-suc 10 (suc k) in
+        let i = ih (omega arith) in
+        rw (decimal-several n l, length-append) (omega arith)
+    go (no l) ih = rw (decimal-one n (omega arith)) (omega arith)
+
+-- ---- how long a line is
+
+pub refused-short : (n : ℕ) → n < 100 → length (refusedLine n) ≤ 11
+unfolding refusedLine
+refused-short n h = let d = decimal-most 1 n h in simp length-append (omega arith)
+
+head-short : (nodes states hits : ℕ) → nodes ≤ 256 → states ≤ 1024 → hits ≤ 256 → length (headLine nodes states hits) ≤ 31
+unfolding headLine
+head-short nodes states hits n s h =
+    let x = decimal-most 2 nodes (omega arith) in
+    let y = decimal-most 3 states (omega arith) in
+    let z = decimal-most 2 hits (omega arith) in
+    simp length-append (omega arith)
+
+hit-short : (a ch : List ℕ) (i : ℕ) → i < 256 → length (hitLine a ch i) ≤ 12
+unfolding hitLine
+hit-short a ch i h =
+    let x = decimal-most 2 i (omega arith) in
+    let y = decimal-most 2 (symbolOf (getD ch i 0)) (omega arith) in
+    let z = decimal-most 2 (i + 1 - startOf a ch i) (omega arith) in
+    simp length-append (omega arith)
+
+hits-short : (a ch is : List ℕ) → AllBelow 256 is → length (hitLines a ch is) ≤ 12 * length is
+unfolding hitLines
+hits-short a ch [] h = omega arith
+hits-short a ch (i ∷ is) h =
+    let x = hit-short a ch i (h .0) in
+    let y = hits-short a ch is (h .1) in
+    simp length-append (omega arith)
+
+-- ---- the hits are nodes, each named once
+
+matches-below : (final : ℕ) (rs : List StateSet) (i n : ℕ) → i + length rs ≤ n → AllBelow n (matchesIn final i rs)
+unfolding matchesIn
+matches-below final [] i n h = tt
+matches-below final (r ∷ rs) i n h = go (contains r final) (matches-below final rs (suc i) n (omega arith))
+  where
+    go : (b : Bool) → AllBelow n (matchesIn final (suc i) rs) → AllBelow n (cond b (i ∷ matchesIn final (suc i) rs) (matchesIn final (suc i) rs))
+    go true k = (omega arith, k)
+    go false k = k
+
+pub matches-few : (final : ℕ) (rs : List StateSet) (i : ℕ) → length (matchesIn final i rs) ≤ length rs
+unfolding matchesIn
+matches-few final [] i = omega arith
+matches-few final (r ∷ rs) i = go (contains r final) (matches-few final rs (suc i))
+  where
+    go : (b : Bool) → length (matchesIn final (suc i) rs) ≤ length rs
+        → length (cond b (i ∷ matchesIn final (suc i) rs) (matchesIn final (suc i) rs)) ≤ suc (length rs)
+    go true k = omega arith
+    go false k = omega arith
+
+-- ---- the whole output
+
+-- every number of a list of refusals is at most m
+abbrev atMost : ℕ → Refusals → Bool
+atMost m [] = true
+atMost m (r ∷ rs) = leb (r .0) m && atMost m rs
+
+refusal-most : (m : ℕ) (rs : Refusals) → atMost m rs ≡ true → refusal rs ≤ m
+refusal-most m [] h = omega arith
+refusal-most m ((n, true) ∷ rs) h = leb-true n m (and-true (leb n m) (atMost m rs) h .0)
+refusal-most m ((n, false) ∷ rs) h = refusal-most m rs (and-true (leb n m) (atMost m rs) h .1)
+
+hits-few : (a e ch : List ℕ) → length (hitsOf a e ch) ≤ length ch
+unfolding hitsOf
+hits-few a e ch =
+    let n = length-nodeSets a (compiledTable a e) ch in
+    omega (arith, matches-few (compiled a e .final) (nodeSets a (compiledTable a e) ch) 0)
+
+hits-below : (a e ch : List ℕ) → length ch ≤ 256 → AllBelow 256 (hitsOf a e ch)
+unfolding hitsOf
+hits-below a e ch h =
+    let n = length-nodeSets a (compiledTable a e) ch in
+    matches-below (compiled a e .final) (nodeSets a (compiledTable a e) ch) 0 256 (omega arith)
+
+-- an accepted chapter has at most 256 elements
+pub accepted-few : (a e ch : List ℕ) → marklistFault a e ch ≡ 0 → length ch ≤ 256
+unfolding wrongChapter
+accepted-few a e ch f =
+    let p = refusal-none (marklistRefusals a e ch) refl f in
+    ltb-false 256 (length ch) (or-false (eqb (length ch) 0) (ltb 256 (length ch)) (p .1 .1 .1 .1 .1 .1 .0) .1)
+
+accepted-states : (a e ch : List ℕ) → marklistFault a e ch ≡ 0 → compiled a e .states ≤ 1024
+unfolding tooManyStates
+accepted-states a e ch f = ltb-false 1024 (compiled a e .states) (refusal-none (marklistRefusals a e ch) refl f .1 .1 .1 .1 .1 .0)
+
+marklist-short : (a e ch : List ℕ) → length (marklistOutput a e ch) ≤ 4096
+unfolding marklistOutput
+marklist-short a e ch = go (eqb (marklistFault a e ch) 0) refl
+  where
+    go : (b : Bool) → eqb (marklistFault a e ch) 0 ≡ b
+        → length
+        (cond b (headLine (length ch) (compiled a e .states) (length (hitsOf a e ch)) ++ hitLines a ch (hitsOf a e ch))
+        (refusedLine (marklistFault a e ch)))
+        ≤ 4096
+    go true q =
+        let f = eqb-true (marklistFault a e ch) 0 q in
+        let few = accepted-few a e ch f in
+        let n = hits-few a e ch in
+        let x = head-short (length ch) (compiled a e .states) (length (hitsOf a e ch)) few (accepted-states a e ch f) (omega arith) in
+        let y = hits-short a ch (hitsOf a e ch) (hits-below a e ch few) in
+        simp length-append (omega arith)
+    go false q =
+        let m = refusal-most 11 (marklistRefusals a e ch) refl in
+        let x = refused-short (marklistFault a e ch) (omega arith) in
+        omega arith
+
+pub output-short : (complete : Bool) (a e ch : List ℕ) → length (outputOf complete a e ch) ≤ 4096
+unfolding outputOf
+output-short true a e ch = marklist-short a e ch
+output-short false a e ch = omega (arith, refused-short 0 (omega arith))

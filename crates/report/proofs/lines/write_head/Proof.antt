@@ -1,0 +1,67 @@
+-- `lines::write_head` meets its contract: the parts of the line are written one after the other. Assumes nothing.
+use Rattle.report.proofs.LineLaws.{head-written}
+use borrow.Author.Needs.{needs}
+use Rattle.report.proofs.lines.write_head.Statement.{statement}
+use Rattle.report.proofs.lines.write_head.Tie as tie
+
+slice-aggregate-write-text : tie.Need-slice-aggregate-write-text
+slice-aggregate-write-text c = search needs
+
+write-text-requires : tie.Need-write-text-requires
+write-text-requires c κs = search needs
+
+write-number-requires : tie.Need-write-number-requires
+write-number-requires c κs = search needs
+
+slice-aggregate-write-text-2 : tie.Need-slice-aggregate-write-text-2
+slice-aggregate-write-text-2 c = search needs
+
+write-text-requires-2 : tie.Need-write-text-requires-2
+write-text-requires-2 c κs = search needs
+
+write-number-requires-2 : tie.Need-write-number-requires-2
+write-number-requires-2 c κs = search needs
+
+slice-aggregate-write-text-3 : tie.Need-slice-aggregate-write-text-3
+slice-aggregate-write-text-3 c = search needs
+
+write-text-requires-3 : tie.Need-write-text-requires-3
+write-text-requires-3 c κs = search needs
+
+write-number-requires-3 : tie.Need-write-number-requires-3
+write-number-requires-3 c κs = search needs
+
+write-byte-requires : tie.Need-write-byte-requires
+write-byte-requires c κs = search needs
+
+same-length : tie.Need-same-length
+same-length c = search needs
+
+returns : tie.Need-returns
+returns c =
+    let seventh = c .before .before in
+    let sixth = seventh .before .before .before .before in
+    let fifth = sixth .before .before .before .before in
+    let fourth = fifth .before .before .before .before .before in
+    let third = fourth .before .before .before .before in
+    let second = third .before .before .before .before .before in
+    let first = second .before .before .before .before in
+    head-written _ _ _ (first .write-text .ensures) (second .write-number .ensures) (third .write-text2 .ensures) (fourth .write-number2 .ensures)
+    (fifth .write-text3 .ensures) (sixth .write-number3 .ensures) (seventh .write-byte .ensures)
+
+pub write-head-spec : {M : Type 1} → statement M
+write-head-spec =
+    tie.close
+    (tie.spec
+    slice-aggregate-write-text
+    write-text-requires
+    write-number-requires
+    slice-aggregate-write-text-2
+    write-text-requires-2
+    write-number-requires-2
+    slice-aggregate-write-text-3
+    write-text-requires-3
+    write-number-requires-3
+    write-byte-requires
+    same-length
+    returns)

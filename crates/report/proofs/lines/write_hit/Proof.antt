@@ -1,0 +1,71 @@
+-- `lines::write_hit` meets its contract: the parts of the line are written one after the other, and a subtree begins at or
+-- before its last node. Assumes nothing.
+use native.Mathlib.Omega.{arith}
+use Rattle.words.proofs.PostfixLaws.{start-le}
+use Rattle.report.proofs.LineLaws.{hit-written}
+use borrow.Author.Needs.{needs}
+use Rattle.report.proofs.lines.write_hit.Statement.{statement}
+use Rattle.report.proofs.lines.write_hit.Tie as tie
+
+add-size : tie.Need-add-size
+add-size c = search needs
+
+subtree-start-requires : tie.Need-subtree-start-requires
+subtree-start-requires c κs = search needs
+
+sub-size : tie.Need-sub-size
+sub-size c = omega (arith, c .subtree-start .ensures, start-le (c .before .before .before .before .args .alphabet .now) (c .before .before .before .before .args .chapter .now) (c .before .before .before .before .args .hit))
+
+write-number-requires : tie.Need-write-number-requires
+write-number-requires c κs = search needs
+
+write-byte-requires : tie.Need-write-byte-requires
+write-byte-requires c κs = search needs
+
+symbol-of-requires : tie.Need-symbol-of-requires
+symbol-of-requires c κs = search needs
+
+write-number-requires-2 : tie.Need-write-number-requires-2
+write-number-requires-2 c κs = search needs
+
+write-byte-requires-2 : tie.Need-write-byte-requires-2
+write-byte-requires-2 c κs = search needs
+
+write-number-requires-3 : tie.Need-write-number-requires-3
+write-number-requires-3 c κs = search needs
+
+write-byte-requires-3 : tie.Need-write-byte-requires-3
+write-byte-requires-3 c κs = search needs
+
+same-length : tie.Need-same-length
+same-length c = search needs
+
+returns : tie.Need-returns
+returns c =
+    let sixth = c .before .before in
+    let fifth = sixth .before .before .before .before in
+    let fourth = fifth .before .before .before .before in
+    let third = fourth .before .before .before .before in
+    let symbol = third .before in
+    let second = symbol .before .before .before .before in
+    let first = second .before .before .before .before in
+    let start = first .before .before in
+    hit-written _ _ _ _ _ (symbol .symbol-of .ensures) (start .subtree-start .ensures) (first .write-number .ensures) (second .write-byte .ensures)
+    (third .write-number2 .ensures) (fourth .write-byte2 .ensures) (fifth .write-number3 .ensures) (sixth .write-byte3 .ensures)
+
+pub write-hit-spec : {M : Type 1} → statement M
+write-hit-spec =
+    tie.close
+    (tie.spec
+    add-size
+    subtree-start-requires
+    sub-size
+    write-number-requires
+    write-byte-requires
+    symbol-of-requires
+    write-number-requires-2
+    write-byte-requires-2
+    write-number-requires-3
+    write-byte-requires-3
+    same-length
+    returns)

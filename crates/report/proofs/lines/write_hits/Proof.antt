@@ -1,0 +1,59 @@
+-- `lines::write_hits` meets its contract: the loop writes the lines one after the other. Assumes nothing.
+use Prim.Native.Nat.{_-_}
+use lib.ListN.{length}
+use borrow.Author.Needs.{needs}
+use Rattle.report.proofs.LineLaws.{Hit, hit-none, hit-more, hit-end}
+use Rattle.report.proofs.lines.write_hits.Statement.{statement}
+use Rattle.report.proofs.lines.write_hits.Tie as tie
+
+abbrev Inv-loop : tie.InvT-loop
+Inv-loop out₀ at alphabet chapter hits next₀ i₀ out next i = Hit alphabet chapter hits at out₀ out next i
+
+abbrev μ-loop : tie.MeasureT-loop
+μ-loop out₀ at alphabet chapter hits next₀ i₀ out next i = length hits - i
+
+loop-holds : tie.Need-loop-holds Inv-loop μ-loop
+loop-holds c = hit-none _ _ _ _ _
+
+mul-write-hit : tie.Need-mul-write-hit Inv-loop μ-loop
+mul-write-hit c = search needs
+
+shared-slice-read-write-hit : tie.Need-shared-slice-read-write-hit Inv-loop μ-loop
+shared-slice-read-write-hit c = search needs
+
+write-hit-requires : tie.Need-write-hit-requires Inv-loop μ-loop
+write-hit-requires c κs = search needs
+
+add-i : tie.Need-add-i Inv-loop μ-loop
+add-i c = search needs
+
+loop-less : tie.Need-loop-less Inv-loop μ-loop
+loop-less c = search needs
+
+loop-again : tie.Need-loop-again Inv-loop μ-loop
+loop-again c =
+    let at-call = c .before .before in
+    let at-loop = at-call .before .before .before .before in
+    hit-more _ _ _ _ _ _ _ _ (at-loop .loop .inv) (at-call .before .before .before .loop-test .taken) _ _ (at-call .write-hit .kept .0) (at-call .write-hit .ensures)
+
+same-length : tie.Need-same-length Inv-loop μ-loop
+same-length c = c .before .loop .inv .long
+
+returns : tie.Need-returns Inv-loop μ-loop
+returns c = hit-end _ _ _ _ _ _ _ _ (c .before .loop .inv) (c .loop-test .left)
+
+pub write-hits-spec : {M : Type 1} → statement M
+write-hits-spec =
+    tie.close
+    (tie.spec
+    Inv-loop
+    μ-loop
+    loop-holds
+    mul-write-hit
+    shared-slice-read-write-hit
+    write-hit-requires
+    add-i
+    loop-less
+    loop-again
+    same-length
+    returns)

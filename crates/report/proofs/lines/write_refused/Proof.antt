@@ -1,0 +1,38 @@
+-- `lines::write_refused` meets its contract: the parts of the line are written one after the other. Assumes nothing.
+use Rattle.report.proofs.LineLaws.{refused-written}
+use borrow.Author.Needs.{needs}
+use Rattle.report.proofs.lines.write_refused.Statement.{statement}
+use Rattle.report.proofs.lines.write_refused.Tie as tie
+
+slice-aggregate-write-text : tie.Need-slice-aggregate-write-text
+slice-aggregate-write-text c = search needs
+
+write-text-requires : tie.Need-write-text-requires
+write-text-requires c κs = search needs
+
+write-number-requires : tie.Need-write-number-requires
+write-number-requires c κs = search needs
+
+write-byte-requires : tie.Need-write-byte-requires
+write-byte-requires c κs = search needs
+
+same-length : tie.Need-same-length
+same-length c = search needs
+
+returns : tie.Need-returns
+returns c =
+    let third = c .before .before in
+    let second = third .before .before .before .before in
+    let first = second .before .before .before .before in
+    refused-written _ (first .write-text .ensures) (second .write-number .ensures) (third .write-byte .ensures)
+
+pub write-refused-spec : {M : Type 1} → statement M
+write-refused-spec =
+    tie.close
+    (tie.spec
+    slice-aggregate-write-text
+    write-text-requires
+    write-number-requires
+    write-byte-requires
+    same-length
+    returns)

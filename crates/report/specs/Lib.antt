@@ -1,0 +1,4 @@
+pub mod Decimal
+pub mod Output
+pub mod Input
+pub mod Writing

@@ -1,0 +1,90 @@
+-- What `marklist` prints of an alphabet, a rule and a chapter, as bytes (document 01, "The source's own example").
+-- Assumes nothing.
+use Prim.Native.Nat.{ℕ, _+_, _-_}
+use mathlib.Core.List.{List, [], _∷_, _++_}
+use mathlib.Core.Bool.{Bool, cond, _||_}
+use lib.ListN.{length, getD}
+use lib.Dec.{eqb, ltb}
+use Rattle.words.specs.Refusal.{Refusals, refusal}
+use Rattle.words.specs.Alphabet.{alphabetRefusals}
+use Rattle.words.specs.Expression.{expressionRefusals}
+use Rattle.words.specs.Chapter.{symbolOf, treeRefusals}
+use Rattle.words.specs.Postfix.{startOf}
+use Rattle.automaton.specs.Numbering.{compiled}
+use Rattle.operations.specs.Compile.{compiledTable, tooManyStates}
+use Rattle.operations.specs.Marks.{nodeSets}
+use Rattle.operations.specs.Listing.{matchesIn}
+use Rattle.report.specs.Decimal.{decimal}
+
+-- ---- texts, in ASCII
+
+abbrev pub space : List ℕ
+space = 32 ∷ []
+
+abbrev pub newline : List ℕ
+newline = 10 ∷ []
+
+-- `refused `
+abbrev pub refusedText : List ℕ
+refusedText = 114 ∷ 101 ∷ 102 ∷ 117 ∷ 115 ∷ 101 ∷ 100 ∷ 32 ∷ []
+
+-- `nodes `
+abbrev pub nodesText : List ℕ
+nodesText = 110 ∷ 111 ∷ 100 ∷ 101 ∷ 115 ∷ 32 ∷ []
+
+-- ` states `
+abbrev pub statesText : List ℕ
+statesText = 32 ∷ 115 ∷ 116 ∷ 97 ∷ 116 ∷ 101 ∷ 115 ∷ 32 ∷ []
+
+-- ` hits `
+abbrev pub hitsText : List ℕ
+hitsText = 32 ∷ 104 ∷ 105 ∷ 116 ∷ 115 ∷ 32 ∷ []
+
+-- ---- lines
+
+unfoldable pub refusedLine : ℕ → List ℕ
+refusedLine number = refusedText ++ decimal number ++ newline
+
+-- "a head line of element, state and hit counts"
+unfoldable pub headLine : ℕ → ℕ → ℕ → List ℕ
+headLine nodes states hits = nodesText ++ decimal nodes ++ statesText ++ decimal states ++ hitsText ++ decimal hits ++ newline
+
+-- "for each hit the element, its symbol and its subtree's element count"; the subtree ends at the element
+unfoldable pub hitLine : List ℕ → List ℕ → ℕ → List ℕ
+hitLine a ch i =
+    decimal i ++ space ++ decimal (symbolOf (getD ch i 0)) ++ space ++ decimal (i + 1 - startOf a ch i) ++ newline
+
+unfoldable pub hitLines : List ℕ → List ℕ → List ℕ → List ℕ
+hitLines a ch [] = []
+hitLines a ch (i ∷ is) = hitLine a ch i ++ hitLines a ch is
+
+-- ---- the whole output
+
+-- 9 in Run's place: "Over 256 elements it says 9", and a chapter of 0 elements
+unfoldable pub wrongChapter : List ℕ → Bool
+wrongChapter ch = eqb (length ch) 0 || ltb 256 (length ch)
+
+-- "the faults of Compile before those of Run"; its memory is so large that 7, 8, 12 and 13 cannot arise
+abbrev pub marklistRefusals : List ℕ → List ℕ → List ℕ → Refusals
+marklistRefusals a e ch =
+    alphabetRefusals a ++ (expressionRefusals a e ++ ((6, tooManyStates a e) ∷ (9, wrongChapter ch) ∷ treeRefusals a ch))
+
+abbrev pub marklistFault : List ℕ → List ℕ → List ℕ → ℕ
+marklistFault a e ch = refusal (marklistRefusals a e ch)
+
+-- the hits: the nodes whose state sets hold the final state
+unfoldable pub hitsOf : List ℕ → List ℕ → List ℕ → List ℕ
+hitsOf a e ch = matchesIn (compiled a e .final) 0 (nodeSets a (compiledTable a e) ch)
+
+abbrev pub reportLines : List ℕ → List ℕ → List ℕ → List ℕ
+reportLines a e ch =
+    headLine (length ch) (compiled a e .states) (length (hitsOf a e ch)) ++ hitLines a ch (hitsOf a e ch)
+
+unfoldable pub marklistOutput : List ℕ → List ℕ → List ℕ → List ℕ
+marklistOutput a e ch =
+    let lines = reportLines a e ch in
+    cond (eqb (marklistFault a e ch) 0) lines (refusedLine (marklistFault a e ch))
+
+-- the same of words of which some may be missing: "input that ends early is number 0, before all others"
+unfoldable pub outputOf : Bool → List ℕ → List ℕ → List ℕ → List ℕ
+outputOf complete a e ch = cond complete (marklistOutput a e ch) (refusedLine 0)

@@ -1,0 +1,77 @@
+// Writers of the lines that `marklist` prints.
+ghost use Rattle.report.specs.Output.{refusedLine, headLine, hitLine, hitLines};
+ghost use Rattle.report.specs.Writing.{Written};
+ghost use mathlib.Core.Path.{_≡_};
+ghost use lib.ListN.{getD};
+ghost use Rattle.words.specs.Chapter.{symbolOf};
+use super::writer::write_byte;
+use super::writer::write_number;
+use super::writer::write_text;
+use words::postfix::subtree_start;
+
+// The line `refused N`.
+pub fn write_refused(out: &mut [u8], number: u32) -> usize
+    ensures { λ r. ⌜ Written 0 (refusedLine number) (now (out .entry)) (now (out .exit)) r ⌝ }
+{
+    let mut next = write_text(out, 0, b"refused ");
+    next = write_number(out, next, number as usize);
+    write_byte(out, next, b'\n')
+}
+
+// The head line: element, state and hit counts.
+pub fn write_head(out: &mut [u8], nodes: usize, states: usize, hits: usize) -> usize
+    ensures { λ r. ⌜ Written 0 (headLine nodes states hits) (now (out .entry)) (now (out .exit)) r ⌝ }
+{
+    let mut next = write_text(out, 0, b"nodes ");
+    next = write_number(out, next, nodes);
+    next = write_text(out, next, b" states ");
+    next = write_number(out, next, states);
+    next = write_text(out, next, b" hits ");
+    next = write_number(out, next, hits);
+    write_byte(out, next, b'\n')
+}
+
+// The symbol of a node; 0 where there is no such node.
+fn symbol_of(chapter: &[u32], node: usize) -> usize
+    ensures { λ r. ⌜ r ≡ symbolOf (getD (now (chapter .entry)) node 0) ⌝ }
+{
+    if node < chapter.len() {
+        return (chapter[node] % 256) as usize;
+    }
+    0
+}
+
+// The line of one hit: the element, its symbol and its subtree's element count.
+fn write_hit(out: &mut [u8], at: usize, alphabet: &[u32], chapter: &[u32], hit: u32) -> usize
+    ensures { λ r. ⌜ Written at (hitLine (now (alphabet .entry)) (now (chapter .entry)) hit) (now (out .entry)) (now (out .exit)) r ⌝ }
+{
+    let node = hit as usize;
+    let size = node + 1 - subtree_start(alphabet, chapter, node);
+    let mut next = write_number(out, at, node);
+    next = write_byte(out, next, b' ');
+    next = write_number(out, next, symbol_of(chapter, node));
+    next = write_byte(out, next, b' ');
+    next = write_number(out, next, size);
+    write_byte(out, next, b'\n')
+}
+
+// The lines of all hits.
+pub fn write_hits(
+    out: &mut [u8],
+    at: usize,
+    alphabet: &[u32],
+    chapter: &[u32],
+    hits: &[u32],
+) -> usize
+    ensures { λ r. ⌜
+        Written at (hitLines (now (alphabet .entry)) (now (chapter .entry)) (now (hits .entry))) (now (out .entry)) (now (out .exit)) r
+        ⌝ }
+{
+    let mut next = at;
+    let mut i = 0;
+    while i < hits.len() {
+        next = write_hit(out, next, alphabet, chapter, hits[i]);
+        i += 1;
+    }
+    next
+}
