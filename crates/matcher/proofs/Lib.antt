@@ -1,1 +1,3 @@
 pub mod RootLaws
+pub mod NodeLaws
+pub mod WorkedLaws
