@@ -10,7 +10,8 @@ use Rattle.words.specs.Postfix.{arity, valueOn, childrenOf}
 use Rattle.words.proofs.ListLaws.{map-drop, map-set-below}
 use Rattle.words.proofs.ChildLaws.{numbers-more, numbers-below, children-value}
 use Rattle.automaton.specs.StateSet.{StateSet}
-use Rattle.operations.specs.Marks.{nodeSet}
+use Rattle.operations.specs.Marks.{sizeOf, nodeSet}
+use Rattle.operations.proofs.MarksLaws.{length-nodeSet}
 use Rattle.matcher.specs.Nodes.{rootsOf}
 
 abbrev pub look : List StateSet → ℕ → StateSet
@@ -20,6 +21,10 @@ module _ (a table ch : List ℕ) where
   -- node i's state set from its children's, which are in the list
   unfoldable pub newSet : ℕ → List StateSet → StateSet
   newSet i rows = nodeSet table (getD ch i 0) (map (look rows) (childrenOf a ch i))
+
+  pub length-newSet : (i : ℕ) (rows : List StateSet) → length (newSet i rows) ≡ sizeOf table
+  unfolding newSet
+  length-newSet i rows = length-nodeSet table (getD ch i 0) _
 
   -- where the sets that the stack names are the stack of the definition
   pub newSet-on : (i : ℕ) (rows stack : List StateSet) → map (look rows) (rootsOf a ch i) ≡ stack

@@ -2,19 +2,20 @@
 -- children are, and that an array with as many words as there are nodes is large enough. Assumes nothing.
 use mathlib.Core.Path.{_≡_, refl, ap, ap₂, _∙_, sym, subst}
 use mathlib.Core.Bool.{true}
-use mathlib.Core.List.{List, [], _∷_, _++_, reverse, reverse-append, reverse-cons}
+use mathlib.Core.List.{List, [], _∷_, _++_, reverse, reverseAux, reverse-append, reverse-cons}
 use Prim.Native.Nat.{ℕ, zero, suc, _+_, _-_, _<_, _≤_}
 use native.Mathlib.Omega.{arith}
 use native.Mathlib.Numerals.{add-one}
-use lib.ListN.{length, getD, take, drop, set, length-drop, length-set, length-reverse, take-append-drop}
-use lib.Seq.{slice, split-at, take-at, drop-at, take-take, take-suc-set}
+use lib.ListN.{length, getD, take, drop, set, length-drop, length-reverse, take-append-drop}
+use lib.Seq.{slice, split-at, take-at, drop-at, take-take, take-suc-set, length-take-le}
 use lib.Dec.{leb}
 use borrow.Author.Tests.{leb-true}
 use Rattle.words.specs.Postfix.{arity, trees, oneTree, stackGiven, childrenOf}
 use Rattle.words.proofs.PostfixLaws.{picked, trees-split}
-use Rattle.words.proofs.ChildLaws.{numbers-more}
+use Rattle.words.proofs.ListLaws.{Below}
+use Rattle.words.proofs.ChildLaws.{numbers-more, numbers-below}
 use Rattle.words.proofs.ChildSubtreeLaws.{given-height}
-use Rattle.matcher.specs.Nodes.{rootsOf, Stacked}
+use Rattle.matcher.specs.Nodes.{rootsOf, Stacked, Rootable, AtRoot}
 
 -- ---- the top of a stack is the end of its reverse
 
@@ -46,6 +47,22 @@ stacked-push array h roots r v g l room = record {
       ∙ sym (reverse-cons v (drop r roots));
 }
 
+-- ---- numbers below a bound
+
+below-take : (n k : ℕ) (l : List ℕ) → Below n l → Below n (take k l)
+below-take n zero l h = tt
+below-take n (suc k) [] h = tt
+below-take n (suc k) (x ∷ l) h = (h .0, below-take n k l (h .1))
+
+below-reverse : (n : ℕ) (l r : List ℕ) → Below n l → Below n r → Below n (reverseAux l r)
+below-reverse n [] r h g = g
+below-reverse n (x ∷ l) r h g = below-reverse n l (x ∷ r) (h .1) (h .0, g)
+
+pub below-getD : (n : ℕ) (l : List ℕ) (k : ℕ) → Below n l → k < length l → getD l k 0 < n
+below-getD n [] k h m = absurd (omega arith)
+below-getD n (x ∷ l) zero h m = h .0
+below-getD n (x ∷ l) (suc k) h m = below-getD n l k (h .1) (omega arith)
+
 -- ---- the stack behind the first nodes of a tree
 
 module _ (a ch : List ℕ) where
@@ -76,33 +93,64 @@ module _ (a ch : List ℕ) where
       ∙ ap₂ (λ (n k : ℕ). drop (n - k) (reverse (rootsOf a ch i))) (g .height-is) e
       ∙ drop-reverse (arity a (getD ch i 0)) (rootsOf a ch i)
 
+  pub length-children : (i : ℕ) → oneTree a ch ≡ true → i < length ch → length (childrenOf a ch i) ≡ arity a (getD ch i 0)
+  unfolding childrenOf
+  length-children i h l =
+      let r = arity a (getD ch i 0) in
+      length-reverse (take r (rootsOf a ch i)) ∙ length-take-le r (rootsOf a ch i) (arity-fits i h l)
+
+  -- children are earlier nodes
+  pub children-below : (i : ℕ) → i ≤ length ch → Below i (childrenOf a ch i)
+  unfolding childrenOf
+  children-below i h =
+      below-reverse i (take (arity a (getD ch i 0)) (rootsOf a ch i)) []
+      (below-take i (arity a (getD ch i 0)) (rootsOf a ch i) (numbers-below a ch i h)) tt
+
+-- ---- one node more
+
+module _ {a ch : List ℕ} {i : ℕ} {array : List ℕ} {h : ℕ} (g : AtRoot a ch i array h) (r : ℕ) (e : r ≡ arity a (getD ch i 0)) where
+  pub root-fits : r ≤ h
+  root-fits = let f = arity-fits a ch i (g .tree) (g .inside) in omega (arith, g .stacked .height-is)
+
+  pub root-room : h - r < length array
+  root-room =
+      let inside = g .inside in
+      let f = roots-few a ch i (omega arith) in
+      omega (arith, g .stacked .height-is, g .room)
+
+  pub root-pushed : Stacked (set array (h - r) i) (h - r + 1) (rootsOf a ch (i + 1))
+  root-pushed =
+      let q : i ∷ drop r (rootsOf a ch i) ≡ rootsOf a ch (i + 1) =
+      ap (λ (k : ℕ). i ∷ drop k (rootsOf a ch i)) e ∙ sym (numbers-more a ch i (g .inside)) ∙ ap (rootsOf a ch) (sym (add-one i)) in
+      subst (Stacked (set array (h - r) i) (h - r + 1)) q (stacked-push array h (rootsOf a ch i) r i (g .stacked) root-fits root-room)
+
 -- ---- the stack in a loop over the nodes
 
 -- the stack behind i nodes; the array keeps its length
 pub record Rooted (a ch array₀ array : List ℕ) (h i : ℕ) : Type 0 where
   pub long : length array ≡ length array₀
-  pub few : h ≤ i
   pub stacked : Stacked array h (rootsOf a ch i)
 
 pub rooted-none : (a ch array : List ℕ) → Rooted a ch array array 0 0
 unfolding stackGiven
-rooted-none a ch array = record { long = refl; few = omega arith; stacked = stacked-none array }
+rooted-none a ch array = record { long = refl; stacked = stacked-none array }
 
-module _ {a ch array₀ array : List ℕ} {h i : ℕ} (g : Rooted a ch array₀ array h i) (tree : oneTree a ch ≡ true) (l : i < length ch) where
-  pub rooted-fits : (r : ℕ) → r ≡ arity a (getD ch i 0) → r ≤ h
-  rooted-fits r e = let f = arity-fits a ch i tree l in omega (arith, g .stacked .height-is)
+pub rooted-at : (a ch array₀ array : List ℕ) (h i count : ℕ) → Rooted a ch array₀ array h i → Rootable a ch count array₀ → i < count
+    → AtRoot a ch i array h
+rooted-at a ch array₀ array h i count g pre l =
+    let within = pre .within in
+    let room = pre .room in
+    record {
+      tree = pre .tree;
+      inside = omega arith;
+      few = pre .few;
+      room = omega (arith, g .long);
+      stacked = g .stacked;
+    }
 
-  pub rooted-more : (r : ℕ) → r ≡ arity a (getD ch i 0) → i < length array₀ → Rooted a ch array₀ (set array (h - r) i) (h - r + 1) (i + 1)
-  rooted-more r e room =
-      let f = rooted-fits r e in
-      let few = g .few in
-      let p = stacked-push array h (rootsOf a ch i) r i (g .stacked) f (omega (arith, g .long)) in
-      let q : i ∷ drop r (rootsOf a ch i) ≡ rootsOf a ch (i + 1) =
-      ap (λ (k : ℕ). i ∷ drop k (rootsOf a ch i)) e ∙ sym (numbers-more a ch i l) ∙ ap (rootsOf a ch) (sym (add-one i)) in
-      let n = roots-few a ch (i + 1) (omega arith) in
-      let stacked : Stacked (set array (h - r) i) (h - r + 1) (rootsOf a ch (i + 1)) = subst (Stacked (set array (h - r) i) (h - r + 1)) q p in
-      record {
-        long = length-set array (h - r) i ∙ g .long;
-        few = omega (arith, stacked .height-is);
-        stacked = stacked;
-      }
+-- the loop ends behind the last node
+pub stacked-end : (a ch array : List ℕ) (h i count : ℕ) → Stacked array h (rootsOf a ch i) → i ≤ count → count ≤ i
+    → Stacked array h (rootsOf a ch count)
+stacked-end a ch array h i count g l m =
+    let q : i ≡ count = omega arith in
+    subst (λ (k : ℕ). Stacked array h (rootsOf a ch k)) q g

@@ -29,23 +29,46 @@ pub record Rootable (a ch : List ℕ) (count : ℕ) (array : List ℕ) : Type 0 
   pub few : length ch ≤ 4096
   pub room : count ≤ length array
 
+-- what putting node i on the stack asks
+pub record AtRoot (a ch : List ℕ) (i : ℕ) (array : List ℕ) (height : ℕ) : Type 0 where
+  pub tree : oneTree a ch ≡ true
+  pub inside : i < length ch
+  pub few : length ch ≤ 4096
+  pub room : i < length array
+  pub stacked : Stacked array height (rootsOf a ch i)
+
 -- node i's state set from its children's, which are in the marks
 unfoldable pub setFrom : List ℕ → List ℕ → List ℕ → List ℕ → ℕ → StateSet
 setFrom a table ch marks i = nodeSet table (getD ch i 0) (map (storedSet (sizeOf table) marks) (childrenOf a ch i))
 
+-- the marks with node i's words as they are worked out
+unfoldable pub markedAt : List ℕ → List ℕ → List ℕ → ℕ → List ℕ → List ℕ
+markedAt a table ch i marks = paste marks (i * sizeOf table) (setFrom a table ch marks i) (sizeOf table)
+
 -- the marks behind n nodes from node i on, each worked out from the marks as the one before left them
 unfoldable pub markedFrom : List ℕ → List ℕ → List ℕ → ℕ → ℕ → List ℕ → List ℕ
 markedFrom a table ch i zero marks = marks
-markedFrom a table ch i (suc n) marks =
-    let before = markedFrom a table ch i n marks in
-    paste before ((i + n) * sizeOf table) (setFrom a table ch before (i + n)) (sizeOf table)
+markedFrom a table ch i (suc n) marks = markedAt a table ch (i + n) (markedFrom a table ch i n marks)
 
--- a tree over the alphabet and a table for it, with room for the marks and for the stack
-pub record Workable (a table ch marks array : List ℕ) : Type 0 where
+-- a tree over the alphabet and a table for it; the marks slice has room for its state sets, and the stack for its nodes
+pub record Workable (a table ch : List ℕ) (marksRoom stackRoom : ℕ) : Type 0 where
   pub alphabet : length a ≤ 64
   pub checked : isTable a table ≡ true
   pub nodes : all (isNode a) ch ≡ true
   pub tree : oneTree a ch ≡ true
   pub few : length ch ≤ 4096
-  pub marks-room : length ch * sizeOf table ≤ length marks
-  pub stack-room : length ch ≤ length array
+  pub marks-room : length ch * sizeOf table ≤ marksRoom
+  pub stack-room : length ch ≤ stackRoom
+
+-- what working out node i asks
+pub record AtNode (a table ch : List ℕ) (i : ℕ) (marks array : List ℕ) (height : ℕ) : Type 0 where
+  pub workable : Workable a table ch (length marks) (length array)
+  pub inside : i < length ch
+  pub stacked : Stacked array height (rootsOf a ch i)
+
+-- what working out the nodes from `from` up to `to` asks
+pub record AtNodes (a table ch : List ℕ) (from to : ℕ) (marks array : List ℕ) (height : ℕ) : Type 0 where
+  pub workable : Workable a table ch (length marks) (length array)
+  pub order : from ≤ to
+  pub inside : to ≤ length ch
+  pub stacked : Stacked array height (rootsOf a ch from)

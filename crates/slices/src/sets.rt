@@ -1,8 +1,9 @@
 // State sets in the marks: one is written or read, two are compared, and the ones of all are counted.
 ghost use mathlib.Core.Path.{_≡_};
 ghost use mathlib.Core.List.{_++_};
-ghost use Prim.Native.Nat.{_-_, _≤_};
+ghost use Prim.Native.Nat.{_+_, _-_, _≤_};
 ghost use lib.ListN.{length, drop, replicate};
+ghost use lib.Seq.{paste};
 ghost use Rattle.operations.specs.Marks.{sameWords};
 ghost use Rattle.operations.specs.Run.{cellsIn};
 
@@ -16,6 +17,14 @@ pub fn write_set(part: &mut [u32], set: &[u32])
         part[k] = set[k];
         k += 1;
     }
+}
+
+// Writes the words of one set from index `at` on, through the part that begins there.
+pub fn write_set_at(marks: &mut [u32], at: usize, set: &[u32])
+    requires { ⌜ at + length (now set) ≤ length (now marks) ⌝ }
+    ensures { λ _. ⌜ now (marks .exit) ≡ paste (now (marks .entry)) at (now (set .entry)) (length (now (set .entry))) ⌝ }
+{
+    write_set(&mut marks[at..], set);
 }
 
 // The words of one set, and zeros behind them.

@@ -1,0 +1,98 @@
+-- State sets that are worked out in the marks are those worked out over a list of state sets; Run's nodes, one after the
+-- other, leave what the definition says. Assumes nothing.
+use mathlib.Core.Path.{_≡_, refl, ap, ap₂, _∙_, sym}
+use mathlib.Core.List.{List, [], _∷_, _++_, map, flatten, append-nil}
+use Prim.Native.Nat.{ℕ, zero, suc, _+_, _*_, _<_, _≤_}
+use native.Mathlib.Omega.{arith}
+use native.Mathlib.Nat.{zero-add}
+use lib.ListN.{length, getD, take, drop, set, drop-of-length-le}
+use lib.Seq.{paste, slice, take-length}
+use Rattle.words.specs.Lists.{listFrom}
+use Rattle.words.specs.Postfix.{values, stackAfter, stackGiven, childrenOf}
+use Rattle.words.proofs.ListLaws.{map-below, length-listFrom}
+use Rattle.automaton.specs.StateSet.{StateSet}
+use Rattle.operations.specs.Marks.{sizeOf, nodeSet, nodeSets, storedSet}
+use Rattle.operations.specs.Run.{runMarks}
+use Rattle.operations.proofs.MarksLaws.{Sized, length-nodeSet, storedSet-flatten}
+use Rattle.slices.proofs.RowLaws.{paste-row, sized-set, sized-stored, stored-split}
+use Rattle.matcher.specs.Nodes.{rootsOf, setFrom, markedAt, markedFrom}
+use Rattle.matcher.proofs.RootLaws.{children-below}
+use Rattle.matcher.proofs.NodeLaws.{look, newSet, length-newSet}
+use Rattle.matcher.proofs.WorkedLaws.{workedFrom, length-worked, Worked, worked-is}
+
+-- the marks begin with these state sets
+pub record Holding (size : ℕ) (marks : List ℕ) (rows : List StateSet) (rest : List ℕ) : Type 0 where
+  pub words : marks ≡ flatten rows ++ rest
+  pub sized : Sized size rows
+
+-- the first n sets of a slice that is long enough
+pub holding-stored : (size : ℕ) (marks : List ℕ) (n : ℕ) → n * size ≤ length marks
+    → Holding size marks (listFrom (storedSet size marks) 0 n) (drop (n * size) marks)
+holding-stored size marks n h = record {
+  words = stored-split size marks n;
+  sized = sized-stored size marks n 0 (rw (zero-add n) h);
+}
+
+pub holding-set : (size : ℕ) (marks : List ℕ) (rows : List StateSet) (rest : List ℕ) (k : ℕ) → Holding size marks rows rest → k < length rows
+    → storedSet size marks k ≡ look rows k
+holding-set size marks rows rest k g l =
+    ap (λ (m : List ℕ). storedSet size m k) (g .words) ∙ storedSet-flatten size rows rest k (g .sized) l
+
+pub holding-write : (size : ℕ) (marks : List ℕ) (rows : List StateSet) (rest : List ℕ) (i : ℕ) (v : StateSet) → Holding size marks rows rest
+    → length v ≡ size → i < length rows → Holding size (paste marks (i * size) v size) (set rows i v) rest
+holding-write size marks rows rest i v g e l = record {
+  words =
+      ap₂ (λ (m : List ℕ) (n : ℕ). paste m (i * size) v n) (g .words) (sym e)
+      ∙ paste-row size rows rest i v (g .sized) e l;
+  sized = sized-set size rows i v (g .sized) e;
+}
+
+module _ (a table ch : List ℕ) where
+  abbrev size : ℕ
+  size = sizeOf table
+
+  pub length-setFrom : (marks : List ℕ) (i : ℕ) → length (setFrom a table ch marks i) ≡ sizeOf table
+  unfolding setFrom
+  length-setFrom marks i = length-nodeSet table (getD ch i 0) _
+
+  pub setFrom-rows : (marks : List ℕ) (rows : List StateSet) (rest : List ℕ) (i : ℕ) → Holding (sizeOf table) marks rows rest → i ≤ length rows
+      → i ≤ length ch → setFrom a table ch marks i ≡ newSet a table ch i rows
+  unfolding setFrom newSet
+  setFrom-rows marks rows rest i g l h =
+      ap (nodeSet table (getD ch i 0))
+      (map-below (storedSet size marks) (look rows) i (childrenOf a ch i) (children-below a ch i h)
+      (λ k m. holding-set size marks rows rest k g (omega arith)))
+
+  pub markedFrom-rows : (marks : List ℕ) (rows : List StateSet) (rest : List ℕ) (i n : ℕ) → Holding (sizeOf table) marks rows rest
+      → i + n ≤ length rows → i + n ≤ length ch
+      → Holding (sizeOf table) (markedFrom a table ch i n marks) (workedFrom a table ch i n rows) rest
+  unfolding markedFrom markedAt workedFrom
+  markedFrom-rows marks rows rest i zero g l h = g
+  markedFrom-rows marks rows rest i (suc n) g l h =
+      let before = markedFrom a table ch i n marks in
+      let worked = workedFrom a table ch i n rows in
+      let ih : Holding size before worked rest = markedFrom-rows marks rows rest i n g (omega arith) (omega arith) in
+      let inside : i + n < length worked = rw (length-worked a table ch i n rows) (omega arith) in
+      let new = newSet a table ch (i + n) worked in
+      rw (setFrom-rows before worked rest (i + n) ih (omega arith) (omega arith))
+      (holding-write size before worked rest (i + n) new ih (length-newSet a table ch (i + n) worked) inside)
+
+  -- ---- Run
+
+  pub marked-run : (marks : List ℕ) → length ch * sizeOf table ≤ length marks
+      → markedFrom a table ch 0 (length ch) marks ≡ runMarks a table ch marks
+  unfolding runMarks nodeSets stackGiven
+  marked-run marks h =
+      let n = length ch in
+      let old = listFrom (storedSet size marks) 0 n in
+      let rest = drop (n * size) marks in
+      let m : length old ≡ n = length-listFrom (storedSet size marks) n 0 in
+      let z : 0 + n ≡ n = zero-add n in
+      let w : Worked a table ch old 0 [] n (workedFrom a table ch 0 n old) = worked-is a table ch old 0 [] n (omega arith) (omega arith) refl in
+      markedFrom-rows marks old rest 0 n (holding-stored size marks n h) (omega arith) (omega arith) .words
+      ∙ ap (λ (rows : List StateSet). flatten rows ++ rest)
+      (w .rows-are
+      ∙ ap₂ (λ (l : List ℕ) (r : List StateSet). values a (nodeSet table) l [] ++ r)
+      (ap (λ (i : ℕ). take i ch) z ∙ take-length ch)
+      (ap (λ (i : ℕ). drop i old) z ∙ drop-of-length-le old {i = n} (omega arith))
+      ∙ append-nil (values a (nodeSet table) ch []))
