@@ -4,3 +4,7 @@ pub mod WorkedLaws
 pub mod MarkLaws
 pub mod ReadyLaws
 pub mod WriteLaws
+pub mod FaultLaws
+pub mod ListingLaws
+pub mod UpwardLaws
+pub mod ExchangeLaws

@@ -1,0 +1,44 @@
+-- Laws of a refusal that is looked for in parts: where one part refuses, so does the whole, and otherwise the next decides.
+-- Assumes nothing.
+use mathlib.Core.Path.{_≡_, refl, _∙_, sym}
+use mathlib.Core.Bool.{Bool, true, false}
+use mathlib.Core.List.{List, [], _∷_, _++_}
+use Prim.Native.Nat.{ℕ, _<_}
+use native.Mathlib.Omega.{arith}
+use borrow.Author.Tests.{ne-eqb}
+use Rattle.words.specs.Refusal.{Refusals, refusal}
+use Rattle.words.proofs.RefusalLaws.{positive, refusal-here, refusal-next, refusal-before, refusal-rest}
+use Rattle.operations.specs.Answer.{Answer, refused, accepted, answerOf, exitOf}
+
+-- ---- a part of the list
+
+module _ (rs ks : Refusals) (f : ℕ) (e : f ≡ refusal rs) where
+  pub part-refuses : (f ≡ 0 → ⊥) → f ≡ refusal (rs ++ ks)
+  part-refuses h = e ∙ sym (refusal-before rs ks (omega arith))
+
+  pub part-passes : positive rs ≡ true → f ≡ 0 → (r : ℕ) → r ≡ refusal ks → r ≡ refusal (rs ++ ks)
+  part-passes p h r q = q ∙ sym (refusal-rest rs ks p (sym e ∙ h))
+
+-- ---- one condition
+
+module _ (n : ℕ) (b : Bool) (rs : Refusals) where
+  pub one-refuses : b ≡ true → n ≡ refusal ((n, b) ∷ rs)
+  one-refuses h = sym (refusal-here n b rs h)
+
+  pub one-passes : b ≡ false → (r : ℕ) → r ≡ refusal rs → r ≡ refusal ((n, b) ∷ rs)
+  one-passes h r q = q ∙ sym (refusal-next n b rs h)
+
+-- ---- the answer and a slice of a refused and of an accepted call
+
+module _ (f g : ℕ) (e : f ≡ g) where
+  pub answer-refused : (values : List ℕ) → (f ≡ 0 → ⊥) → refused f ≡ answerOf g values
+  answer-refused values h = sym (rw (← e, ne-eqb f 0 h))
+
+  pub answer-accepted : (values : List ℕ) → f ≡ 0 → accepted values ≡ answerOf g values
+  answer-accepted values h = sym (rw (← e, h))
+
+  pub exit-refused : (after before : List ℕ) → (f ≡ 0 → ⊥) → before ≡ exitOf g after before
+  exit-refused after before h = sym (rw (← e, ne-eqb f 0 h))
+
+  pub exit-accepted : (after before : List ℕ) → f ≡ 0 → after ≡ exitOf g after before
+  exit-accepted after before h = sym (rw (← e, h))

@@ -1,0 +1,108 @@
+-- Laws of the matches found one node after the other. Assumes nothing.
+use mathlib.Core.Path.{_≡_, refl, ap, ap₂, _∙_, sym}
+use mathlib.Core.Bool.{Bool, true, false, cond}
+use mathlib.Core.List.{List, [], _∷_, _++_, append-nil, append-assoc}
+use Prim.Native.Nat.{ℕ, zero, suc, _+_, _-_, _*_, _<_, _≤_}
+use native.Mathlib.Omega.{arith}
+use native.Mathlib.Nat.{zero-add, add-zero, add-suc, suc-add}
+use native.Mathlib.Numerals.{add-one}
+use lib.ListN.{length, getD, take, drop, length-append}
+use lib.Seq.{sets, sets-eq, take-at, drop-append-add, drop-drop}
+use Rattle.words.specs.Lists.{listFrom}
+use Rattle.words.proofs.ListLaws.{listFrom-add, length-listFrom}
+use Rattle.automaton.specs.StateSet.{StateSet, contains}
+use Rattle.operations.specs.Marks.{sizeOf, finalOf, storedSet}
+use Rattle.operations.specs.Listing.{matchesIn, matchesOf}
+
+module _ (final : ℕ) where
+  pub matches-append : (l k : List StateSet) (i : ℕ) → matchesIn final i (l ++ k) ≡ matchesIn final i l ++ matchesIn final (i + length l) k
+  unfolding matchesIn
+  matches-append [] k i = rw (add-zero i)
+  matches-append (r ∷ l) k i =
+      ap (λ (t : List ℕ). cond (contains r final) (i ∷ t) t)
+      (matches-append l k (suc i) ∙ ap (λ (j : ℕ). matchesIn final (suc i) l ++ matchesIn final j k) (suc-add i (length l) ∙ sym (add-suc i (length l))))
+      ∙ go (contains r final) (matchesIn final (suc i) l) (matchesIn final (i + suc (length l)) k)
+    where
+      go : (b : Bool) (u v : List ℕ) → cond b (i ∷ (u ++ v)) (u ++ v) ≡ cond b (i ∷ u) u ++ v
+      go true u v = refl
+      go false u v = refl
+
+  -- no more matches than nodes
+  pub matches-few : (l : List StateSet) (i : ℕ) → length (matchesIn final i l) ≤ length l
+  unfolding matchesIn
+  matches-few [] i = omega arith
+  matches-few (r ∷ l) i = go (contains r final) (matches-few l (suc i))
+    where
+      go : (b : Bool) → length (matchesIn final (suc i) l) ≤ length l
+          → length (cond b (i ∷ matchesIn final (suc i) l) (matchesIn final (suc i) l)) ≤ suc (length l)
+      go true h = omega arith
+      go false h = omega arith
+
+  -- one node
+  pub match-here : (r : StateSet) (i : ℕ) → contains r final ≡ true → matchesIn final i (r ∷ []) ≡ i ∷ []
+  unfolding matchesIn
+  match-here r i h = rw h
+
+  pub match-none : (r : StateSet) (i : ℕ) → contains r final ≡ false → matchesIn final i (r ∷ []) ≡ []
+  unfolding matchesIn
+  match-none r i h = rw h
+
+-- the matches among the first i nodes stand at the front of the list
+pub record Found (table marks list₀ list : List ℕ) (found i : ℕ) : Type 0 where
+  pub long : length list ≡ length list₀
+  pub count : found ≡ length (matchesOf table i marks)
+  pub words : list ≡ matchesOf table i marks ++ drop (length (matchesOf table i marks)) list₀
+
+module _ (table marks : List ℕ) where
+  abbrev stored : ℕ → StateSet
+  stored = storedSet (sizeOf table) marks
+
+  pub matchesOf-few : (i : ℕ) → length (matchesOf table i marks) ≤ i
+  unfolding matchesOf
+  matchesOf-few i = let n = length-listFrom stored i 0 in omega (arith, matches-few (finalOf table) (listFrom stored 0 i) 0)
+
+  pub matchesOf-more : (i : ℕ) → matchesOf table (i + 1) marks ≡ matchesOf table i marks ++ matchesIn (finalOf table) i (storedSet (sizeOf table) marks i ∷ [])
+  unfolding matchesOf
+  matchesOf-more i =
+      let n : 0 + length (listFrom stored 0 i) ≡ i = zero-add _ ∙ length-listFrom stored i 0 in
+      ap (matchesIn (finalOf table) 0) (listFrom-add stored i 1 0)
+      ∙ matches-append (finalOf table) (listFrom stored 0 i) (listFrom stored (0 + i) 1) 0
+      ∙ ap₂ (λ (j k : ℕ). matchesIn (finalOf table) 0 (listFrom stored 0 i) ++ matchesIn (finalOf table) j (stored k ∷ [])) n (zero-add i)
+
+  module _ (list₀ : List ℕ) where
+    pub found-none : Found table marks list₀ list₀ 0 0
+    unfolding matchesOf matchesIn
+    found-none = record { long = refl; count = refl; words = refl }
+
+    pub found-more : (list : List ℕ) (found i : ℕ) (list′ : List ℕ) (found′ : ℕ) (set : StateSet) (last : ℕ) → Found table marks list₀ list found i
+        → set ≡ storedSet (sizeOf table) marks i → last ≡ finalOf table → i < length list₀
+        → found′ ≡ found + length (matchesIn last i (set ∷ [])) → list′ ≡ sets list found (matchesIn last i (set ∷ []))
+        → length list′ ≡ length list → Found table marks list₀ list′ found′ (i + 1)
+    found-more list found i list′ found′ set last g es el room ef eq n =
+        let ms = matchesOf table i marks in
+        let one = matchesIn last i (set ∷ []) in
+        let few = matchesOf-few i in
+        let more : matchesOf table (i + 1) marks ≡ ms ++ one =
+        matchesOf-more i ∙ ap₂ (λ (f : ℕ) (s : StateSet). ms ++ matchesIn f i (s ∷ [])) (sym el) (sym es) in
+        let small = matches-few last (set ∷ []) i in
+        let count = g .count in
+        let long = g .long in
+        let inside : found + length one ≤ length list = omega arith in
+        let joined : length (ms ++ one) ≡ found + length one = length-append ms one ∙ ap (λ (k : ℕ). k + length one) (sym count) in
+        record {
+          long = n ∙ long;
+          count = ef ∙ sym (ap length more ∙ joined);
+          words =
+              eq ∙ sets-eq one list found inside
+              ∙ ap₂ (λ (u v : List ℕ). (u ++ one) ++ v)
+              (ap (take found) (g .words) ∙ take-at ms (drop (length ms) list₀) found (sym count))
+              (ap₂ (λ (k : ℕ) (l : List ℕ). drop (k + length one) l) count (g .words)
+              ∙ drop-append-add ms (drop (length ms) list₀) (length one) ∙ drop-drop (length one) (length ms) list₀
+              ∙ ap (λ (k : ℕ). drop k list₀) (sym (length-append ms one)))
+              ∙ ap (λ (l : List ℕ). l ++ drop (length l) list₀) (sym more);
+        }
+
+    pub found-end : (list : List ℕ) (found i n : ℕ) → Found table marks list₀ list found i → i ≤ n → n ≤ i → Found table marks list₀ list found n
+    found-end list found i n g h l =
+        let q : i ≡ n = omega arith in
+        rw (← q) g
