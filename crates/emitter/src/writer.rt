@@ -11,8 +11,8 @@ const TRANSITION_WORD: u32 = 2415919104;
 
 const EPSILON_WORD: u32 = 2684354560;
 
-// A from state or a symbol stands above bits 9..0.
-const ABOVE: u32 = 1024;
+// A from state, a symbol or a state count stands above bits 9..0.
+pub const ABOVE: u32 = 1024;
 
 pub fn push(out: &mut [u32], at: usize, w: u32) -> usize
     requires { ⌜ at < lastIndex ⌝ }

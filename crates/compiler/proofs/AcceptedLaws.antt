@@ -1,0 +1,59 @@
+-- What holds of an alphabet and a rule that refusals 1 to 5 let pass. Assumes nothing.
+use mathlib.Core.Path.{_≡_, refl, ap, _∙_, sym}
+use mathlib.Core.Bool.{true}
+use mathlib.Core.List.{List, [], _∷_, _++_}
+use Prim.Native.Nat.{ℕ, zero, suc, _+_, _*_, _<_, _≤_}
+use native.Mathlib.Omega.{arith}
+use lib.ListN.{length, take, length-append}
+use lib.Seq.{take-at}
+use borrow.Author.Tests.{not-false}
+use Rattle.words.specs.Lists.{all}
+use Rattle.words.specs.Alphabet.{constantsOf, alphabetFault}
+use Rattle.words.specs.Postfix.{oneTree, notOneTree}
+use Rattle.words.specs.Expression.{isExpressionWord, noExpressionWords, expressionRefusals, expressionFault}
+use Rattle.words.proofs.RefusalLaws.{refusal-none}
+use Rattle.words.proofs.AcceptedAlphabet.{alphabet-accepted}
+use Rattle.automaton.proofs.Reading.{expression-length}
+use Rattle.compiler.specs.Compiling.{Counted}
+
+pub record AcceptedExpression (a e : List ℕ) : Type 0 where
+  pub some : 0 < length e
+  pub few : length e ≤ 64
+  pub words : all (isExpressionWord a) e ≡ true
+  pub shape : oneTree a e ≡ true
+
+pub expression-accepted : (a e : List ℕ) → expressionFault a e ≡ 0 → AcceptedExpression a e
+unfolding noExpressionWords notOneTree
+expression-accepted a e h =
+    let f = refusal-none (expressionRefusals a e) refl h in
+    let l = expression-length a e h in
+    record {
+      some = l .0;
+      few = l .1;
+      words = not-false (all (isExpressionWord a) e) (f .1 .0);
+      shape = not-false (oneTree a e) (f .1 .1 .0);
+    }
+
+-- the number of the constants
+pub constants-counted : (a cs : List ℕ) → alphabetFault a ≡ 0 → cs ≡ constantsOf a → Counted a (length cs)
+constants-counted a cs h known =
+    let l = ap length known in
+    let few = alphabet-accepted a h .fewConstants in
+    record { constants = l; few = omega arith }
+
+pub length-take-most : (e : List ℕ) (n : ℕ) → length (take n e) ≤ length e
+length-take-most e zero = omega arith
+length-take-most [] (suc n) = omega arith
+length-take-most (w ∷ e) (suc n) = omega (arith, length-take-most e n)
+
+-- the states of a rule's first words are few
+pub states-few : (e : List ℕ) (n x : ℕ) → length e ≤ 64 → x ≤ 17 * length (take n e) → x ≤ 1088
+states-few e n x few h = omega (arith, length-take-most e n)
+
+-- a list that begins with the constants
+module _ (a l rest : List ℕ) (r : ℕ) (count : r ≡ length (constantsOf a)) (begins : l ≡ constantsOf a ++ rest) where
+  pub constants-first : take r l ≡ constantsOf a
+  constants-first = ap (take r) begins ∙ take-at (constantsOf a) rest r (sym count)
+
+  pub constants-within : r ≤ length l
+  constants-within = rw (begins, length-append) (omega arith)

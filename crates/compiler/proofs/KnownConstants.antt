@@ -1,0 +1,98 @@
+-- What the emitter asks of the constants holds of an accepted alphabet's: each stands once, and the c of a rule word is one
+-- of them. Assumes nothing.
+use mathlib.Core.Path.{_≡_, refl, ap, _∙_, sym}
+use mathlib.Core.Bool.{true}
+use mathlib.Core.List.{List, [], _∷_, List·Memᴰ, List·Memᴰ·head, List·Memᴰ·tail}
+use Prim.Native.Nat.{ℕ, zero, suc, _+_, _<_, _≤_}
+use native.Mathlib.Omega.{arith}
+use native.Mathlib.Nat.{add-zero, add-suc, suc-add, le-refl}
+use lib.ListN.{length, getD}
+use lib.Dec.{eqb}
+use borrow.Author.Tests.{eq-eqb, ne-eqb}
+use Rattle.words.specs.Word.{unionKind, productKind, closureKind, Kind, kindAt, kindOf, numberOf, lowByte}
+use Rattle.words.specs.Alphabet.{isConstant, constantsOf}
+use Rattle.words.specs.Postfix.{arity}
+use Rattle.words.specs.Expression.{isExpressionWord}
+use Rattle.words.proofs.KindLaws.{kindAt-number}
+use Rattle.words.proofs.Ascending.{Ascending, end, next}
+use Rattle.words.proofs.AlphabetLaws.{constantsOf-isConstant}
+use Rattle.words.proofs.ConstantLaws.{constants-ascending}
+use Rattle.words.proofs.ExpressionWordLaws.{ExpressionWord, symbolWord, emptyWord, unionWord, productWord, closureWord, expressionWord}
+use Rattle.automaton.specs.Numbering.{numbered, lookup}
+use Rattle.emitter.specs.Ports.{EachOnce}
+use Rattle.emitter.specs.Emission.{Listed, Takes}
+
+-- ---- each constant stands once
+
+lookup-behind : {lo hi : ℕ} {cs : List ℕ} (n c : ℕ) → c < lo → Ascending lo hi cs → lookup (numbered n cs) c ≡ []
+lookup-behind n c h (end l) = refl
+lookup-behind n c h (next {x = x} l s) = rw (ne-eqb x c (λ e. omega arith)) (lookup-behind (suc n) c (omega arith) s)
+
+-- the member at an index lies in the range
+pub ascending-at : {lo hi : ℕ} {cs : List ℕ} (k : ℕ) → k < length cs → Ascending lo hi cs → (lo ≤ getD cs k 0) × (getD cs k 0 < hi)
+ascending-at k h (end l) = absurd (omega arith)
+ascending-at zero h (next {x = x} {xs = xs} l s) = (l, below s)
+  where
+    below : {lo′ hi : ℕ} {ys : List ℕ} → Ascending lo′ hi ys → lo′ ≤ hi
+    below (end q) = q
+    below (next q r) = let z = below r in omega arith
+ascending-at (suc k) h (next {x = x} {xs = xs} l s) = let p = ascending-at k (omega arith) s in (omega (arith, p .0), p .1)
+
+pub ascending-once : {lo hi : ℕ} {cs : List ℕ} → Ascending lo hi cs → EachOnce cs
+ascending-once (end l) n k h = absurd (omega arith)
+ascending-once (next {x = x} {xs = xs} l s) n zero h =
+    rw (eq-eqb x x refl, lookup-behind (suc n) x (le-refl (suc x)) s, add-zero n)
+ascending-once (next {x = x} {xs = xs} l s) n (suc k) h =
+    let p = ascending-at k (omega arith) s .0 in
+    rw (ne-eqb x (getD xs k 0) (λ e. omega arith), add-suc, ← suc-add) (ascending-once s (suc n) k (omega arith))
+
+module _ (a cs : List ℕ) (known : cs ≡ constantsOf a) where
+  ordered : Ascending 0 (length a) cs
+  ordered = rw known (constants-ascending a)
+
+  pub constants-once : EachOnce cs
+  constants-once = ascending-once ordered
+
+  pub constants-symbols : length a ≤ 64 → (k : ℕ) → k < length cs → getD cs k 0 < 256
+  constants-symbols few k h = let p = ascending-at k h ordered .1 in omega arith
+
+  -- ---- the c of a word is a constant
+
+  member-listed : (c : ℕ) (ds : List ℕ) → List·Memᴰ c ds → Listed ds c
+  member-listed c (d ∷ ds) (List·Memᴰ·head e) = (0, omega arith, sym e)
+  member-listed c (d ∷ ds) (List·Memᴰ·tail m) = let (k, h, e) = member-listed c ds m in (suc k, omega arith, e)
+
+  constant-listed : (c : ℕ) → isConstant a c ≡ true → Listed cs c
+  constant-listed c h = rw known (member-listed c (constantsOf a) (constantsOf-isConstant a c .1 h))
+
+  pub word-takes : (ps : List ℕ) (w : ℕ) → isExpressionWord a w ≡ true → length ps ≡ arity a w → Takes cs ps w
+  word-takes ps w h r =
+      record {
+        union = λ e. union (expressionWord a w h) (ap kindAt e ∙ kindAt-number unionKind);
+        product = λ e. product (expressionWord a w h) (ap kindAt e ∙ kindAt-number productKind);
+        closure = λ e. closure (expressionWord a w h) (ap kindAt e ∙ kindAt-number closureKind);
+      }
+    where
+      never : {A : Type 0} → _≡_ {A = ℕ} 0 1 → A
+      never z = absurd (omega arith)
+
+      union : ExpressionWord a w → kindOf w ≡ unionKind → length ps ≡ 2
+      union (symbolWord q l s) e = never (cc)
+      union (emptyWord q s) e = never (cc)
+      union (unionWord q s) e = r ∙ s
+      union (productWord q c s) e = r ∙ s
+      union (closureWord q c s) e = never (cc)
+
+      product : ExpressionWord a w → kindOf w ≡ productKind → (length ps ≡ 2) × Listed cs (lowByte w)
+      product (symbolWord q l s) e = never (cc)
+      product (emptyWord q s) e = never (cc)
+      product (unionWord q s) e = never (cc)
+      product (productWord q c s) e = (r ∙ s, constant-listed (lowByte w) c)
+      product (closureWord q c s) e = never (cc)
+
+      closure : ExpressionWord a w → kindOf w ≡ closureKind → (length ps ≡ 1) × Listed cs (lowByte w)
+      closure (symbolWord q l s) e = never (cc)
+      closure (emptyWord q s) e = never (cc)
+      closure (unionWord q s) e = never (cc)
+      closure (productWord q c s) e = never (cc)
+      closure (closureWord q c s) e = (r ∙ s, constant-listed (lowByte w) c)

@@ -1,0 +1,112 @@
+-- Laws of the states of rule words: how many each has, the loop that adds them, and a word's port as a number.
+-- Assumes nothing.
+use mathlib.Core.Path.{_≡_, refl, ap, ap₂, _∙_, sym}
+use mathlib.Core.Bool.{Bool, true, false, not, cond}
+use mathlib.Core.List.{List, [], _∷_, _++_}
+use Prim.Native.Nat.{ℕ, suc, _+_, _*_, _/_, _%_, _<_, _≤_}
+use native.Mathlib.Omega.{arith}
+use native.Mathlib.Numerals.{add-one}
+use lib.ListN.{length, getD, drop}
+use lib.Dec.{eqb}
+use borrow.Author.Tests.{eq-eqb, ne-eqb}
+use Rattle.words.specs.Word.{symbolKind, kindAt, kindOf, numberOf, lowByte}
+use Rattle.words.specs.Alphabet.{constantsOf}
+use Rattle.words.specs.Postfix.{arity}
+use Rattle.words.specs.Expression.{isExpressionWord}
+use Rattle.words.proofs.KindLaws.{kindAt-number}
+use Rattle.words.proofs.ScanLaws.{drop-step, drop-end}
+use Rattle.words.proofs.ExpressionWordLaws.{ExpressionWord, symbolWord, emptyWord, unionWord, productWord, closureWord, expressionWord}
+use Rattle.automaton.specs.Numbering.{Port, numbered, hasEntries, statesOf, ownEntry, portOf, statesAfter}
+use Rattle.emitter.specs.Ports.{entriesIn, exitIn, portIn, fullPort}
+use Rattle.emitter.proofs.PortLaws.{entries-every, entries-none, entries-own}
+
+-- ---- how many states a word has
+
+module _ (a : List ℕ) (w r : ℕ) (e : r ≡ arity a w) where
+  pub statesOf-one : r ≡ 0 → 1 ≡ statesOf a w
+  unfolding statesOf hasEntries
+  statesOf-one z = rw (← e, eq-eqb r 0 z)
+
+  pub statesOf-entries : (count : ℕ) → (r ≡ 0 → ⊥) → count ≡ length (constantsOf a) → count + 1 ≡ statesOf a w
+  unfolding statesOf hasEntries
+  statesOf-entries count n h = rw (← e, ne-eqb r 0 n, ← h) (add-one count)
+
+-- the loop after i words
+pub record Counting (a e : List ℕ) (state i : ℕ) : Type 0 where
+  pub within : i ≤ length e
+  pub low : state ≤ 17 * i
+  pub left : statesAfter a 0 e ≡ statesAfter a state (drop i e)
+
+pub counting-none : (a e : List ℕ) → Counting a e 0 0
+counting-none a e = record { within = omega arith; low = omega arith; left = refl }
+
+module _ {a e : List ℕ} {state i : ℕ} (c : Counting a e state i) where
+  pub counting-more : (r : ℕ) → i < length e → r ≡ statesOf a (getD e i 0) → r ≤ 17 → Counting a e (state + r) (i + 1)
+  unfolding statesAfter
+  counting-more r h s l =
+      let k = c .low in
+      record {
+        within = omega arith;
+        low = omega arith;
+        left = c .left ∙ ap (statesAfter a state) (drop-step e i h) ∙ ap (λ (m : ℕ). statesAfter a (state + m) (drop (i + 1) e)) (sym s);
+      }
+
+  pub counting-end : length e ≤ i → (state ≡ statesAfter a 0 e) × (state ≤ 17 * length e)
+  unfolding statesAfter
+  counting-end h =
+      let k = c .low in
+      let j = c .within in
+      (sym (c .left ∙ ap (statesAfter a state) (drop-end e i h)), omega arith)
+
+-- ---- a word's port
+
+-- the exit and the entries of a number
+port-fields : (cs : List ℕ) (x t : ℕ) → x < 2048 → t < 128 → portIn cs (x * 128 + t) ≡ record { exit = x; entries = entriesIn cs x t }
+port-fields cs x t h l =
+    let e : exitIn (x * 128 + t) ≡ x = omega arith in
+    let f : (x * 128 + t) % 128 ≡ t = omega arith in
+    ap₂ (λ (y u : ℕ). record { exit = y; entries = entriesIn cs y u }) e f
+
+-- a word with children has an entry for each constant
+pub portOf-full : (a : List ℕ) (x w : ℕ) → (arity a w ≡ 0 → ⊥) → portOf a x w ≡ fullPort (constantsOf a) x
+unfolding portOf hasEntries
+portOf-full a x w n = rw (ne-eqb (arity a w) 0 n)
+
+module _ (a : List ℕ) (x w r p : ℕ) (e : r ≡ arity a w) (low : x < 2048) where
+  pub port-full : (r ≡ 0 → ⊥) → p ≡ x * 128 + 64 → portIn (constantsOf a) p ≡ portOf a x w
+  port-full n q =
+      ap (portIn (constantsOf a)) q ∙ port-fields (constantsOf a) x 64 low (omega arith)
+      ∙ rw (entries-every (constantsOf a) x 64 refl, portOf-full a x w (λ z. n (e ∙ z)))
+
+  leaf : Bool → Port
+  leaf b = record { exit = x; entries = cond b ((lowByte w, x) ∷ []) [] }
+
+  portOf-leaf : r ≡ 0 → (b : Bool) → eqb (numberOf w) 2 ≡ b → portOf a x w ≡ leaf b
+  unfolding portOf hasEntries leaf
+  portOf-leaf z b h = rw (← e, eq-eqb r 0 z, h)
+
+  pub port-constant : length a ≤ 64 → lowByte w < length a → r ≡ 0 → numberOf w ≡ 2 → p ≡ x * 128 + lowByte w → portIn (constantsOf a) p ≡ portOf a x w
+  unfolding leaf
+  port-constant few l z k q =
+      ap (portIn (constantsOf a)) q ∙ port-fields (constantsOf a) x (lowByte w) low (omega arith)
+      ∙ rw (entries-own (constantsOf a) x (lowByte w) (λ m. omega arith) (λ m. omega arith), portOf-leaf z true (eq-eqb (numberOf w) 2 k))
+
+  pub port-empty : r ≡ 0 → (numberOf w ≡ 2 → ⊥) → p ≡ x * 128 + 65 → portIn (constantsOf a) p ≡ portOf a x w
+  unfolding leaf
+  port-empty z k q =
+      ap (portIn (constantsOf a)) q ∙ port-fields (constantsOf a) x 65 low (omega arith)
+      ∙ rw (entries-none (constantsOf a) x 65 refl, portOf-leaf z false (ne-eqb (numberOf w) 2 k))
+
+-- the symbol of a symbol word is one of the alphabet's
+pub symbol-known : (a : List ℕ) (w : ℕ) → isExpressionWord a w ≡ true → numberOf w ≡ 2 → lowByte w < length a
+symbol-known a w h k = go (expressionWord a w h) (ap kindAt k ∙ kindAt-number symbolKind)
+  where
+    other : _≡_ {A = ℕ} 0 1 → lowByte w < length a
+    other z = absurd (omega arith)
+
+    go : ExpressionWord a w → kindOf w ≡ symbolKind → lowByte w < length a
+    go (symbolWord q l r) e = l
+    go (emptyWord q r) e = other (cc)
+    go (unionWord q r) e = other (cc)
+    go (productWord q c r) e = other (cc)
+    go (closureWord q c r) e = other (cc)

@@ -1,0 +1,97 @@
+-- Laws of a rule's table: the last word's states, and the table's words in three parts. Assumes nothing.
+use mathlib.Core.Path.{_≡_, refl, ap, ap₂, _∙_, sym, subst}
+use mathlib.Core.Bool.{Bool, true, false}
+use mathlib.Core.List.{List, [], _∷_, _++_, append-assoc}
+use Prim.Native.Nat.{ℕ, suc, _+_, _*_, _-_, _<_, _≤_}
+use native.Mathlib.Omega.{arith}
+use native.Mathlib.Numerals.{add-one}
+use lib.ListN.{length, getD, take, drop, length-take}
+use lib.Seq.{take-suc, take-all, length-take-le}
+use Rattle.words.specs.Lists.{all}
+use Rattle.words.specs.Word.{headKind, wordOf}
+use Rattle.words.specs.Alphabet.{constantsOf}
+use Rattle.words.specs.Expression.{isExpressionWord, expressionFault}
+use Rattle.words.proofs.TestLaws.{and-true, all-right}
+use Rattle.automaton.specs.Transition.{Transition, Automaton, transitionsWords, headWord, tableWords}
+use Rattle.automaton.specs.Numbering.{Port, statesOf, portOf, childPort, portsFrom, statesAfter, transitionsFrom, lastPort, compiled}
+use Rattle.automaton.proofs.TransitionLaws.{transitionsWords-append}
+use Rattle.operations.specs.Compile.{compiledTable}
+use Rattle.emitter.specs.Writing.{Wrote}
+use Rattle.emitter.specs.Ports.{portIn}
+use Rattle.emitter.specs.Emission.{constantTransitions}
+use Rattle.emitter.proofs.WritingLaws.{wrote-more, wrote-same}
+
+-- ---- the last word
+
+-- a list that is not empty is its members before the last and the last
+pub before-last : (e : List ℕ) → 0 < length e → e ≡ take (length e - 1) e ++ getD e (length e - 1) 0 ∷ []
+before-last e h =
+    let n : suc (length e - 1) ≡ length e = omega arith in
+    sym (take-all (length e) e (omega arith)) ∙ ap (λ (k : ℕ). take k e) (sym n) ∙ take-suc e (length e - 1) 0 (omega arith)
+
+module _ (a : List ℕ) where
+  states-snoc : (ws : List ℕ) (n w : ℕ) → statesAfter a n (ws ++ w ∷ []) ≡ statesAfter a n ws + statesOf a w
+  unfolding statesAfter
+  states-snoc [] n w = refl
+  states-snoc (v ∷ ws) n w = states-snoc ws (n + statesOf a v) w
+
+  port-snoc : (ws : List ℕ) (n w : ℕ) → childPort (portsFrom a n (ws ++ w ∷ [])) (length ws) ≡ portOf a (statesAfter a n ws) w
+  unfolding statesAfter portsFrom
+  port-snoc [] n w = refl
+  port-snoc (v ∷ ws) n w = port-snoc ws (n + statesOf a v) w
+
+  module _ (e : List ℕ) (some : 0 < length e) where
+    abbrev front : List ℕ
+    front = take (length e - 1) e
+
+    abbrev last : ℕ
+    last = getD e (length e - 1) 0
+
+    pub states-last : statesAfter a 0 e ≡ statesAfter a 0 front + statesOf a last
+    states-last = ap (statesAfter a 0) (before-last e some) ∙ states-snoc front 0 last
+
+    pub lastPort-last : lastPort a e ≡ portOf a (statesAfter a 0 front) last
+    lastPort-last =
+        let n : length front ≡ length e - 1 = length-take-le (length e - 1) e (omega arith) in
+        ap₂ (λ (l : List ℕ) (k : ℕ). childPort (portsFrom a 0 l) k) (before-last e some) (sym n) ∙ port-snoc front 0 last
+
+    -- the last word is a rule word
+    pub word-last : all (isExpressionWord a) e ≡ true → isExpressionWord a last ≡ true
+    word-last h =
+        and-true (isExpressionWord a last) true
+        (all-right (isExpressionWord a) front (last ∷ []) (subst (λ (l : List ℕ). all (isExpressionWord a) l ≡ true) (before-last e some) h)) .0
+
+-- ---- the table in three parts
+
+pub table-parts : (a e : List ℕ)
+    → wordOf headKind (statesAfter a 0 e * 1024 + lastPort a e .exit)
+    ∷ (transitionsWords (constantTransitions (lastPort a e .entries)) ++ transitionsWords (transitionsFrom a 0 e []))
+    ≡ compiledTable a e
+unfolding compiled
+table-parts a e =
+    ap (λ (l : List ℕ). wordOf headKind (statesAfter a 0 e * 1024 + lastPort a e .exit) ∷ l)
+    (sym (transitionsWords-append (constantTransitions (lastPort a e .entries)) (transitionsFrom a 0 e [])))
+
+portOf-exit : (a : List ℕ) (n w : ℕ) → portOf a n w .exit ≡ n
+unfolding portOf
+portOf-exit a n w = refl
+
+-- the three writers one after the other; x and s are the last word's exit and the state count, p its port
+pub wrote-table : (a cs e : List ℕ) (some : 0 < length e) (x s p : ℕ) (out o₁ o₂ o₃ : List ℕ) (n₁ n₂ r : ℕ) → cs ≡ constantsOf a
+    → x ≡ statesAfter a 0 (take (length e - 1) e) → s ≡ statesOf a (getD e (length e - 1) 0)
+    → portIn (constantsOf a) p ≡ portOf a x (getD e (length e - 1) 0)
+    → Wrote 1 0 (wordOf headKind ((x + s) * 1024 + x) ∷ []) out o₁ n₁
+    → Wrote 16 n₁ (transitionsWords (constantTransitions (portIn cs p .entries))) o₁ o₂ n₂
+    → Wrote 5440 n₂ (transitionsWords (transitionsFrom a 0 e [])) o₂ o₃ r → Wrote 5457 0 (compiledTable a e) out o₃ r
+wrote-table a cs e some x s p out o₁ o₂ o₃ n₁ n₂ r known ex es ep h c w =
+    let w₀ = getD e (length e - 1) 0 in
+    let port : portIn cs p ≡ lastPort a e =
+    ap (λ (ds : List ℕ). portIn ds p) known ∙ ep ∙ ap (λ (n : ℕ). portOf a n w₀) ex ∙ sym (lastPort-last a e some) in
+    let exit : x ≡ lastPort a e .exit = sym (portOf-exit a x w₀) ∙ ap (λ (P : Port). P .exit) (sym ep ∙ ap (λ (ds : List ℕ). portIn ds p) (sym known) ∙ port) in
+    let states : x + s ≡ statesAfter a 0 e = ap₂ (λ (m n : ℕ). m + n) ex es ∙ sym (states-last a e some) in
+    wrote-same 5457 5457 0 r _ _ out o₃
+    (wrote-more 1 5456 0 n₁ r _ _ out o₁ o₃ h (wrote-more 16 5440 n₁ n₂ r _ _ o₁ o₂ o₃ c w)) (omega arith)
+    (ap₂ (λ (k : ℕ) (l : List ℕ). wordOf headKind k ∷ (l ++ transitionsWords (transitionsFrom a 0 e [])))
+    (ap₂ (λ (m n : ℕ). m * 1024 + n) states exit)
+    (ap (λ (P : Port). transitionsWords (constantTransitions (P .entries))) port)
+    ∙ table-parts a e)

@@ -1,0 +1,142 @@
+-- `compiler::table::write_words` meets its contract. The invariant: the transitions of the first i words are written, and those of
+-- the words from i on follow from the next state and the stack. Assumes nothing.
+use Prim.Native.Nat.{_-_}
+use mathlib.Core.Path.{_≡_, refl, sym, _∙_, ap}
+use native.Mathlib.Omega.{arith}
+use lib.ListN.{length}
+use borrow.Author.Needs.{needs}
+use Rattle.words.specs.Alphabet.{constantsOf}
+use Rattle.words.proofs.AcceptedAlphabet.{alphabet-accepted}
+use Rattle.compiler.proofs.AcceptedLaws.{expression-accepted}
+use Rattle.compiler.proofs.EmittedLaws.{Emitted, emitted-none, emitted-word, emitted-children, emitted-height, emitted-emits, emitted-takes, emitted-more, emitted-end}
+use Rattle.compiler.proofs.table.write_words.Statement.{statement}
+use Rattle.compiler.proofs.table.write_words.Tie as tie
+
+abbrev Inv-loop : tie.InvT-loop
+Inv-loop alphabet constants expression out₀ at stack₀ height₀ state₀ next₀ i₀ out stack height state next i = Emitted alphabet constants expression at out₀ out stack height state next i
+
+abbrev μ-loop : tie.MeasureT-loop
+μ-loop alphabet constants expression out₀ at stack₀ height₀ state₀ next₀ i₀ out stack height state next i = length expression - i
+
+loop-holds : tie.Need-loop-holds Inv-loop μ-loop
+loop-holds c =
+    let e = expression-accepted _ _ (c .before .before .before .before .pre .accepted .expression) in
+    emitted-none _ _ _ _ _ _ (e .words) (e .shape) refl
+
+mul-w : tie.Need-mul-w Inv-loop μ-loop
+mul-w c = search needs
+
+shared-slice-read-w : tie.Need-shared-slice-read-w Inv-loop μ-loop
+shared-slice-read-w c = search needs
+
+arity-requires : tie.Need-arity-requires Inv-loop μ-loop
+arity-requires c κs = search needs
+
+sub-base : tie.Need-sub-base Inv-loop μ-loop
+sub-base c = emitted-children (c .before .before .before .loop .inv) _ (c .before .before .loop-test .taken) (c .arity .ensures)
+
+mul-push-own : tie.Need-mul-push-own Inv-loop μ-loop
+mul-push-own c = let h = emitted-height (c .before .before .before .loop .inv) (c .before .before .loop-test .taken) (c .before .before .before .before .before .before .before .before .pre .accepted .expression) in omega arith
+
+sub-push-own : tie.Need-sub-push-own Inv-loop μ-loop
+sub-push-own c = omega arith
+
+part-push-own-start : tie.Need-part-push-own-start Inv-loop μ-loop
+part-push-own-start c = omega arith
+
+part-push-own-end : tie.Need-part-push-own-end Inv-loop μ-loop
+part-push-own-end c = let room = c .before .before .before .before .loop .inv .room in let h = emitted-height (c .before .before .before .before .loop .inv) (c .before .before .before .loop-test .taken) (c .before .before .before .before .before .before .before .before .before .pre .accepted .expression) in omega arith
+
+push-own-requires : tie.Need-push-own-requires Inv-loop μ-loop
+push-own-requires c κs =
+    let p = c .before .before .before .before .before .before .before .before .before .before .before .pre in
+    let m = c .before .before .before .before .before .before .loop .inv in
+    let e = expression-accepted _ _ (p .accepted .expression) in
+    let h = c .before .before .before .before .before .loop-test .taken in
+    let r = c .before .before .before .arity .ensures in (
+      emitted-emits m _ _ (p .constants) (alphabet-accepted _ (p .accepted .alphabet)) h (e .few) (p .early) r refl,
+      emitted-takes m _ _ (p .constants) h (e .few) r refl,
+    )
+
+word-port-requires : tie.Need-word-port-requires Inv-loop μ-loop
+word-port-requires c κs =
+    let p = c .before .before .before .before .before .before .before .before .before .before .before .before .before .before .pre in
+    let m = c .before .before .before .before .before .before .before .before .before .loop .inv in
+    let h = c .before .before .before .before .before .before .before .before .loop-test .taken in
+    let e = expression-accepted _ _ (p .accepted .expression) in
+    let few = e .few in
+    let low = m .low in
+    record { symbols = alphabet-accepted _ (p .accepted .alphabet) .few; word = emitted-word m h; low = omega arith }
+
+mul-stack : tie.Need-mul-stack Inv-loop μ-loop
+mul-stack c = let h = emitted-height (c .before .before .before .before .before .before .before .before .before .before .loop .inv) (c .before .before .before .before .before .before .before .before .before .loop-test .taken) (c .before .before .before .before .before .before .before .before .before .before .before .before .before .before .before .pre .accepted .expression) in omega arith
+
+array-write-stack : tie.Need-array-write-stack Inv-loop μ-loop
+array-write-stack c = let h = emitted-height (c .before .before .before .before .before .before .before .before .before .before .loop .inv) (c .before .before .before .before .before .before .before .before .before .loop-test .taken) (c .before .before .before .before .before .before .before .before .before .before .before .before .before .before .before .pre .accepted .expression) in omega arith
+
+add-height : tie.Need-add-height Inv-loop μ-loop
+add-height c = let h = emitted-height (c .before .before .before .before .before .before .before .before .before .before .loop .inv) (c .before .before .before .before .before .before .before .before .before .loop-test .taken) (c .before .before .before .before .before .before .before .before .before .before .before .before .before .before .before .pre .accepted .expression) in omega arith
+
+states-of-requires : tie.Need-states-of-requires Inv-loop μ-loop
+states-of-requires c κs =
+    let p = c .before .before .before .before .before .before .before .before .before .before .before .before .before .before .before .pre in
+    let l = ap length (p .constants) in
+    let few = alphabet-accepted _ (p .accepted .alphabet) .fewConstants in
+    record { constants = l; few = omega arith }
+
+add-state : tie.Need-add-state Inv-loop μ-loop
+add-state c =
+    let p = c .before .before .before .before .before .before .before .before .before .before .before .before .before .before .before .before .pre in
+    let low = c .before .before .before .before .before .before .before .before .before .before .before .loop .inv .low in
+    let h = c .before .before .before .before .before .before .before .before .before .before .loop-test .taken in
+    let few = expression-accepted _ _ (p .accepted .expression) .few in
+    let s = c .states-of .ensures .1 in
+    omega arith
+
+add-i : tie.Need-add-i Inv-loop μ-loop
+add-i c = search needs
+
+loop-less : tie.Need-loop-less Inv-loop μ-loop
+loop-less c = search needs
+
+loop-again : tie.Need-loop-again Inv-loop μ-loop
+loop-again c =
+    let p = c .before .before .before .before .before .before .before .before .before .before .before .before .before .before .before .before .pre in
+    let m = c .before .before .before .before .before .before .before .before .before .before .before .loop .inv in
+    let e = expression-accepted _ _ (p .accepted .expression) in
+    emitted-more m _ _ _ _ _ _ (p .constants) (c .before .before .before .before .before .before .before .before .before .before .loop-test .taken) (e .few) (c .before .before .before .before .before .before .before .before .arity .ensures) refl
+    (c .before .before .before .before .push-own .ensures) (c .before .before .before .before .push-own .kept .1 .1 .0) (rw (p .constants) (c .before .word-port .ensures)) (c .states-of .ensures .0) (c .states-of .ensures .1)
+
+same-length : tie.Need-same-length Inv-loop μ-loop
+same-length c = c .before .loop .inv .long
+
+returns : tie.Need-returns Inv-loop μ-loop
+returns c = emitted-end (c .before .loop .inv) (c .loop-test .left) (expression-accepted _ _ (c .before .before .before .before .before .before .pre .accepted .expression) .few)
+
+pub write-words-spec : {M : Type 1} → statement M
+write-words-spec =
+    tie.close
+    (tie.spec
+    Inv-loop
+    μ-loop
+    loop-holds
+    mul-w
+    shared-slice-read-w
+    arity-requires
+    sub-base
+    mul-push-own
+    sub-push-own
+    part-push-own-start
+    part-push-own-end
+    push-own-requires
+    word-port-requires
+    mul-stack
+    array-write-stack
+    add-height
+    states-of-requires
+    add-state
+    add-i
+    loop-less
+    loop-again
+    same-length
+    returns)

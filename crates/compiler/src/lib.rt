@@ -1,0 +1,60 @@
+// Compile: turns an alphabet and a rule into the table of the numbered Thompson tree automaton, or refuses.
+ghost use mathlib.Core.Path.{_≡_};
+ghost use Rattle.operations.specs.Compile.{compileFault, compileAnswer, compileExit};
+ghost use Rattle.compiler.specs.Answers.{answerIn};
+use states::states_after;
+use table::write_table;
+use words::alphabet::alphabet_fault;
+use words::alphabet::count_constants;
+use words::expression::expression_fault;
+
+pub mod states;
+pub mod table;
+
+// The most states of a table.
+const STATES_MOST: u32 = 1024;
+
+// The answer: the table's word count, or document 01's number of a refusal.
+pub enum Compiled {
+    Table(usize),
+    Refused(u32),
+}
+
+// Document 01's number from 1 to 7, the first that applies, or 0; `room` is the length of the table slice. The table's
+// words are counted by writing them into a slice that they do not fit.
+fn compile_fault(alphabet: &[u32], expression: &[u32], room: usize) -> u32
+    ensures { λ r. ⌜ r ≡ compileFault (now (alphabet .entry)) (now (expression .entry)) room ⌝ }
+{
+    let wrong_alphabet = alphabet_fault(alphabet);
+    if wrong_alphabet != 0 {
+        return wrong_alphabet;
+    }
+    let wrong_expression = expression_fault(alphabet, expression);
+    if wrong_expression != 0 {
+        return wrong_expression;
+    }
+    let count = count_constants(alphabet);
+    let states = states_after(alphabet, count, expression);
+    if states > STATES_MOST {
+        return 6;
+    }
+    let mut small = [0u32; 1];
+    let size = write_table(alphabet, expression, &mut small);
+    if room < size {
+        return 7;
+    }
+    0
+}
+
+// Writes the table of the rule into the first words of the slice and answers its word count. A refused call changes no word.
+pub fn compile(alphabet: &[u32], expression: &[u32], table: &mut [u32]) -> Compiled
+    ensures answer { λ r. ⌜ answerIn r ≡ compileAnswer (now (alphabet .entry)) (now (expression .entry)) (now (table .entry)) ⌝ }
+    ensures table { λ _. ⌜ now (table .exit) ≡ compileExit (now (alphabet .entry)) (now (expression .entry)) (now (table .entry)) ⌝ }
+{
+    let fault = compile_fault(alphabet, expression, table.len());
+    if fault != 0 {
+        return Compiled::Refused(fault);
+    }
+    let size = write_table(alphabet, expression, table);
+    Compiled::Table(size)
+}

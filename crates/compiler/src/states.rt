@@ -1,0 +1,56 @@
+// The states of rule words: how many each has, and a word's port.
+ghost use mathlib.Core.Path.{_≡_};
+ghost use Prim.Native.Nat.{_*_, _≤_};
+ghost use lib.ListN.{length};
+ghost use Rattle.words.specs.Alphabet.{constantsOf};
+ghost use Rattle.automaton.specs.Numbering.{statesOf, statesAfter, portOf};
+ghost use Rattle.emitter.specs.Ports.{portIn};
+ghost use Rattle.compiler.specs.Compiling.{Counted, Exited};
+use emitter::port::EVERY;
+use emitter::port::NONE;
+use emitter::port::port_of;
+use words::alphabet::LOW_BYTE;
+use words::postfix::arity;
+use words::word::KIND_UNIT;
+use words::word::SYMBOL;
+
+// How many states a word has, where `count` is the number of constants.
+pub fn states_of(alphabet: &[u32], count: usize, w: u32) -> u32
+    requires { ⌜ Counted (now alphabet) count ⌝ }
+    ensures { λ r. ⌜ (r ≡ statesOf (now (alphabet .entry)) w) × (r ≤ 17) ⌝ }
+{
+    if arity(alphabet, w) == 0 {
+        return 1;
+    }
+    count as u32 + 1
+}
+
+// The first state behind those of the words.
+pub fn states_after(alphabet: &[u32], count: usize, expression: &[u32]) -> u32
+    requires { ⌜ Counted (now alphabet) count ⌝ }
+    requires { ⌜ length (now expression) ≤ 64 ⌝ }
+    ensures { λ r. ⌜ (r ≡ statesAfter (now (alphabet .entry)) 0 (now (expression .entry))) × (r ≤ 17 * length (now (expression .entry))) ⌝ }
+{
+    let mut state: u32 = 0;
+    let mut i = 0;
+    while i < expression.len() {
+        state += states_of(alphabet, count, expression[i]);
+        i += 1;
+    }
+    state
+}
+
+// The port of a word with this exit.
+pub fn word_port(alphabet: &[u32], exit: u32, w: u32) -> u32
+    requires { ⌜ Exited (now alphabet) exit w ⌝ }
+    ensures { λ r. ⌜ portIn (constantsOf (now (alphabet .entry))) r ≡ portOf (now (alphabet .entry)) exit w ⌝ }
+{
+    if arity(alphabet, w) != 0 {
+        return port_of(exit, EVERY);
+    }
+    let kind = w / KIND_UNIT;
+    match kind {
+        SYMBOL => port_of(exit, w % LOW_BYTE),
+        _ => port_of(exit, NONE),
+    }
+}

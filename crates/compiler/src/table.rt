@@ -1,0 +1,72 @@
+// The table of a rule: its head, the constants' symbol moves, and each word's own transitions.
+ghost use mathlib.Core.List.{[]};
+ghost use Rattle.automaton.specs.Transition.{transitionsWords};
+ghost use Rattle.automaton.specs.Numbering.{transitionsFrom};
+ghost use Rattle.emitter.specs.Writing.{Wrote};
+ghost use Rattle.operations.specs.Compile.{compiledTable};
+ghost use Rattle.compiler.specs.Compiling.{Accepted, Compiles};
+use super::states::states_after;
+use super::states::states_of;
+use super::states::word_port;
+use emitter::constants::push_constants;
+use emitter::own::push_own;
+use emitter::writer::ABOVE;
+use emitter::writer::push;
+use words::alphabet::write_constants;
+use words::postfix::arity;
+
+// The word of a table head, kind 8, over the numbers in its lower bits.
+const HEAD_WORD: u32 = 2147483648;
+
+// The own transitions of the rule's words in order. The ports of the words that wait for their parent stand on a stack.
+fn write_words(
+    alphabet: &[u32],
+    constants: &[u32],
+    expression: &[u32],
+    out: &mut [u32],
+    at: usize,
+) -> usize
+    requires { ⌜ Compiles (now alphabet) (now constants) (now expression) at ⌝ }
+    ensures { λ r. ⌜ Wrote 5440 at (transitionsWords (transitionsFrom (now (alphabet .entry)) 0 (now (expression .entry)) [])) (now (out .entry)) (now (out .exit)) r ⌝ }
+{
+    let mut stack = [0u32; 64];
+    let mut height: usize = 0;
+    let mut state: u32 = 0;
+    let mut next = at;
+    let mut i = 0;
+    while i < expression.len() {
+        let w = expression[i];
+        let base = height - arity(alphabet, w);
+        next = push_own(constants, &stack[base..height], out, next, state, w);
+        stack[base] = word_port(alphabet, state, w);
+        height = base + 1;
+        state += states_of(alphabet, constants.len(), w);
+        i += 1;
+    }
+    next
+}
+
+// The head, with the last word's exit as final state, the moves of the constants into its entries, and the own transitions.
+fn write_parts(alphabet: &[u32], constants: &[u32], expression: &[u32], out: &mut [u32]) -> usize
+    requires { ⌜ Compiles (now alphabet) (now constants) (now expression) 0 ⌝ }
+    ensures { λ r. ⌜ Wrote 5457 0 (compiledTable (now (alphabet .entry)) (now (expression .entry))) (now (out .entry)) (now (out .exit)) r ⌝ }
+{
+    let last = expression.len() - 1;
+    let w = expression[last];
+    let exit = states_after(alphabet, constants.len(), &expression[..last]);
+    let states = exit + states_of(alphabet, constants.len(), w);
+    let port = word_port(alphabet, exit, w);
+    let moves = push(out, 0, HEAD_WORD + (states * ABOVE + exit));
+    let next = push_constants(constants, port, out, moves);
+    write_words(alphabet, constants, expression, out, next)
+}
+
+// Writes the table of a rule, as far as the slice reaches, and answers its word count in both cases.
+pub fn write_table(alphabet: &[u32], expression: &[u32], out: &mut [u32]) -> usize
+    requires { ⌜ Accepted (now alphabet) (now expression) ⌝ }
+    ensures { λ r. ⌜ Wrote 5457 0 (compiledTable (now (alphabet .entry)) (now (expression .entry))) (now (out .entry)) (now (out .exit)) r ⌝ }
+{
+    let mut list = [0u32; 16];
+    let count = write_constants(alphabet, &mut list);
+    write_parts(alphabet, &list[..count], expression, out)
+}
