@@ -9,13 +9,12 @@ fn main() {
         return;
     };
     let archive = Path::new(&folder).join("libexports.a");
-    assert!(
-        archive.is_file(),
-        "HAQBYLUR_LIB_DIR: no file {}",
-        archive.display()
-    );
+    let archive = archive
+        .canonicalize()
+        .unwrap_or_else(|error| panic!("HAQBYLUR_LIB_DIR: {}: {error}", archive.display()));
+    let folder = archive.parent().expect("a folder");
     println!("cargo:rerun-if-changed={}", archive.display());
-    println!("cargo:rustc-link-search=native={folder}");
+    println!("cargo:rustc-link-search=native={}", folder.display());
     println!("cargo:rustc-link-lib=static=exports");
     println!("cargo:rustc-cfg=linked");
 }

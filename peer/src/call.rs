@@ -11,6 +11,15 @@ pub enum Operation {
     Exchange,
 }
 
+impl Operation {
+    pub const ALL: [Operation; 4] = [
+        Operation::Compile,
+        Operation::Run,
+        Operation::List,
+        Operation::Exchange,
+    ];
+}
+
 /// The operations as the library exports them: 0 is accepted, any other number is document 01's refusal.
 pub trait Matcher {
     fn compile(&mut self, alphabet: &[u32], expression: &[u32], table: &mut [u32], words: &mut u32) -> u32;

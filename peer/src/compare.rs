@@ -1,8 +1,9 @@
 //! The comparison: each call is made of the model and of the compared matcher, and everything the two leave must be
 //! equal. A difference is printed with the whole input in hexadecimal, so that it can be replayed.
 
-use crate::call::{Answer, Call, Lent, Matcher, UNWRITTEN};
+use crate::call::{Answer, Call, Lent, Matcher, Operation, UNWRITTEN};
 use crate::model::Model;
+use crate::refusals;
 use std::collections::BTreeMap;
 
 /// How many differences are printed in full.
@@ -13,7 +14,7 @@ pub struct Comparison {
     pub cases: u64,
     pub differences: u64,
     /// How often each operation gave each number, so that a run shows what it covered.
-    pub numbers: BTreeMap<String, BTreeMap<u32, u64>>,
+    pub numbers: BTreeMap<Operation, BTreeMap<u32, u64>>,
     quiet: bool,
 }
 
@@ -41,7 +42,7 @@ impl Comparison {
         self.cases += 1;
         let expected = call.perform(&mut Model);
         let found = call.perform(&mut *self.matcher);
-        let counts = self.numbers.entry(format!("{:?}", call.operation)).or_default();
+        let counts = self.numbers.entry(call.operation).or_default();
         *counts.entry(expected.number).or_default() += 1;
         let before = call.lent();
         if found != expected {
@@ -58,6 +59,17 @@ impl Comparison {
         self.cases += 1;
         if !holds {
             self.report(&format!("{wrong}\n{}", input()));
+        }
+    }
+
+    /// Checks that every operation was accepted and gave each of its numbers at least once.
+    pub fn check_numbers(&mut self) {
+        for operation in Operation::ALL {
+            let given = self.numbers.entry(operation).or_default().clone();
+            for number in [&[0], refusals::numbers(operation)].concat() {
+                let wrong = format!("no {operation:?} was answered by {number}");
+                self.check(&wrong, given.contains_key(&number), String::new);
+            }
         }
     }
 

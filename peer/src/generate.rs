@@ -48,7 +48,8 @@ pub fn alphabet(random: &mut Random) -> Vec<u32> {
         let constants = random.between(1, words::CONSTANT_LIMIT);
         (constants, random.between(0, words::SYMBOL_LIMIT - constants))
     } else {
-        (random.between(1, 4), random.between(0, 4))
+        let least = usize::from(!random.once_in(20));
+        (random.between(1, 4), random.between(least, 4))
     };
     let mut arities = vec![0; constants];
     arities.extend((0..others).map(|_| random.between(1, words::ARITY_LIMIT)));
@@ -59,7 +60,8 @@ pub fn alphabet(random: &mut Random) -> Vec<u32> {
 }
 
 /// Words of one tree in postfix order within a budget of words: `choose` names a word and how many children it takes,
-/// at most one less than the budget it is given. The words are found root first and from right to left, then turned.
+/// at most one less than the budget it is given. The words are found root first and from right to left, then turned;
+/// what a leaf leaves of its budget goes to the next word.
 fn grow<T>(
     random: &mut Random,
     budget: usize,
@@ -67,8 +69,11 @@ fn grow<T>(
 ) -> Vec<T> {
     let mut pending = vec![budget];
     let mut grown = Vec::new();
+    let mut left = 0;
     while let Some(own) = pending.pop() {
+        let own = own + left;
         let (word, arity) = choose(random, own);
+        left = if arity == 0 { own - 1 } else { 0 };
         pending.extend(split(random, own - 1, arity));
         grown.push(word);
     }
@@ -108,7 +113,7 @@ pub fn expression(random: &mut Random, alphabet: &[u32], budget: usize) -> Vec<u
         let symbols = symbols_within(alphabet, 1, own - 1);
         loop {
             let choice = match random.below(8) {
-                0 if own == 1 => (Operator::Empty, 0),
+                0 if own == 1 && random.once_in(8) => (Operator::Empty, 0),
                 1..=2 if own >= 2 => (Operator::Closure(constant), 1),
                 3 if own >= 3 => (Operator::Product(constant), 2),
                 4 if own >= 3 => (Operator::Union, 2),
@@ -146,22 +151,40 @@ pub fn tree(random: &mut Random, alphabet: &[u32], budget: usize) -> Tree {
     })
 }
 
-/// A tree in which members of the language stand at some leaves, so that matches are frequent.
+/// A tree in which members of the language stand at some leaves, or one that is a member as a whole, so that matches
+/// are frequent.
 pub fn planted_tree(random: &mut Random, alphabet: &[u32], expression: &Expression, budget: usize) -> Tree {
+    if random.once_in(3) {
+        if let Some(member) = large_member(random, expression, budget) {
+            return member;
+        }
+    }
     let ground = random.between(1, budget);
     let mut planted = Tree::new();
     let mut spare = budget - ground;
     for symbol in tree(random, alphabet, ground) {
         let is_leaf = words::arity(alphabet, symbol) == Some(0);
-        match member(random, expression, spare + 1) {
-            Some(member) if is_leaf && random.once_in(2) => {
+        let member = if is_leaf && random.once_in(2) {
+            large_member(random, expression, spare + 1)
+        } else {
+            None
+        };
+        match member {
+            Some(member) => {
                 spare -= member.len() - 1;
                 planted.extend(member);
             }
-            _ => planted.push(symbol),
+            None => planted.push(symbol),
         }
     }
     planted
+}
+
+/// The largest of a few drawn members.
+fn large_member(random: &mut Random, expression: &Expression, limit: usize) -> Option<Tree> {
+    (0..4)
+        .filter_map(|_| member(random, expression, limit))
+        .max_by_key(Tree::len)
 }
 
 /// A member of the expression's language with at most `limit` nodes, where one is found: each operator is read as the

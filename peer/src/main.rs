@@ -53,12 +53,13 @@ fn main() -> ExitCode {
         }),
         None => println!("the program marklist: skipped, HAQBYLUR_MARKLIST is not set"),
     }
+    comparison.check_numbers();
     for (operation, numbers) in &comparison.numbers {
         let counts: Vec<String> = numbers
             .iter()
             .map(|(number, times)| format!("{number}: {times}"))
             .collect();
-        println!("{operation} answered {}", counts.join(", "));
+        println!("{operation:?} answered {}", counts.join(", "));
     }
     println!(
         "peer: {} cases, {} differences",

@@ -31,7 +31,7 @@ pub fn compare(comparison: &mut Comparison, seed: u64, cases: u64) {
         true_marks(comparison, &mut random, 40, 12);
         false_marks(comparison, &mut random);
         if case % 200 == 0 {
-            true_marks(comparison, &mut random, 500, 60);
+            true_marks(comparison, &mut random, 500, 400);
         }
     }
 }

@@ -1,7 +1,7 @@
 //! The program `marklist`: what it prints for an input of bytes, compared with what document 01 says. The program's path
 //! is in HAQBYLUR_MARKLIST.
 
-use crate::call::{Hex, Matcher};
+use crate::call::Matcher;
 use crate::cases::examples;
 use crate::cases::random::{pattern, random_for, Pattern};
 use crate::compare::Comparison;
@@ -10,7 +10,7 @@ use crate::language::Expression;
 use crate::model::{self, Model};
 use crate::postfix;
 use crate::words::{self, entry_word, node_word, Operator};
-use std::io::{ErrorKind, Read, Write};
+use std::io::{Read, Write};
 use std::process::{Child, Command, Stdio};
 use std::sync::mpsc;
 use std::time::Duration;
@@ -22,7 +22,8 @@ pub fn path() -> Option<String> {
     std::env::var("HAQBYLUR_MARKLIST").ok()
 }
 
-pub fn compare(comparison: &mut Comparison, program: &str, seed: u64, cases: u64) {
+pub fn compare(comparison: &mut Comparison, path: &str, seed: u64, cases: u64) {
+    let program = &mut Program { path, hangs: false };
     source(comparison, program);
     early_ends(comparison, program);
     lengths(comparison, program);
@@ -95,8 +96,14 @@ fn matched(alphabet: &[u32], expression: &[u32], tree: &[u32]) -> Result<String,
 
 // What the program does.
 
-/// What the program printed, or why nothing is known. The input stays open while it is waited for, so a program that
-/// waits for the end of input is found; `ended` closes it first.
+/// The compared program. Once it did not end in time, it is not started again: each such wait is long.
+struct Program<'a> {
+    path: &'a str,
+    hangs: bool,
+}
+
+/// What the program printed, or why nothing is known. The input stays open until it has ended, so a program that waits
+/// for the end of input is found; with `ended` it is closed first.
 fn run(program: &str, bytes: &[u8], ended: bool) -> Result<String, String> {
     let mut child = Command::new(program)
         .stdin(Stdio::piped())
@@ -104,23 +111,22 @@ fn run(program: &str, bytes: &[u8], ended: bool) -> Result<String, String> {
         .spawn()
         .map_err(|error| format!("{program}: {error}"))?;
     let mut input = child.stdin.take().expect("a pipe");
-    match input.write_all(bytes).and_then(|()| input.flush()) {
-        // The program may end before it has read what it need not read.
-        Err(error) if error.kind() != ErrorKind::BrokenPipe => return Err(error.to_string()),
-        _ => {}
-    }
-    let kept = if ended {
-        drop(input);
-        None
-    } else {
-        Some(input)
-    };
+    let bytes = bytes.to_vec();
+    let (release, released) = mpsc::channel::<()>();
+    let writer = std::thread::spawn(move || {
+        // The program may end before it has read what it need not read; what is missing shows in what it prints.
+        let _ = input.write_all(&bytes).and_then(|()| input.flush());
+        if !ended {
+            let _ = released.recv();
+        }
+    });
     let printed = printed_in_time(&mut child);
-    drop(kept);
     if printed.is_err() {
         let _ = child.kill();
     }
+    drop(release);
     let _ = child.wait();
+    let _ = writer.join();
     printed
 }
 
@@ -139,21 +145,29 @@ fn printed_in_time(child: &mut Child) -> Result<String, String> {
     }
 }
 
-fn same(comparison: &mut Comparison, program: &str, wrong: &str, bytes: &[u8], ended: bool) {
+fn same(comparison: &mut Comparison, program: &mut Program, wrong: &str, bytes: &[u8], ended: bool) {
+    if program.hangs {
+        return;
+    }
     let expected = expected(bytes);
-    let found = run(program, bytes, ended);
+    let found = run(program.path, bytes, ended);
+    program.hangs = found.is_err();
     comparison.check(wrong, found.as_ref() == Ok(&expected), || {
-        let shown: Vec<u32> = bytes.iter().take(4000).map(|byte| u32::from(*byte)).collect();
+        let shown: String = bytes
+            .iter()
+            .take(4000)
+            .map(|byte| format!("{byte:02x}"))
+            .collect();
         format!(
-            "    expected {expected:?}\n    found {found:?}\n    bytes {}",
-            Hex(&shown)
+            "    expected {expected:?}\n    found {found:?}\n    {} bytes {shown}",
+            bytes.len()
         )
     });
 }
 
 // Inputs.
 
-fn source(comparison: &mut Comparison, program: &str) {
+fn source(comparison: &mut Comparison, program: &mut Program) {
     let bytes = encode(&examples::alphabet(), &examples::expression(), &examples::tree());
     let published = "nodes 7 states 29 hits 3\n2 4 3\n3 3 1\n4 5 2\n";
     comparison.check(
@@ -186,7 +200,7 @@ fn source(comparison: &mut Comparison, program: &str) {
 }
 
 /// The source's input cut at every byte, and counts that announce far more than is there.
-fn early_ends(comparison: &mut Comparison, program: &str) {
+fn early_ends(comparison: &mut Comparison, program: &mut Program) {
     let bytes = encode(&examples::alphabet(), &examples::expression(), &examples::tree());
     let wrong = "an input that ends early is not refused by 0";
     for length in 0..bytes.len() {
@@ -205,7 +219,7 @@ fn early_ends(comparison: &mut Comparison, program: &str) {
 }
 
 /// Lengths at the limits and far over them, all words present, with other faults beside them.
-fn lengths(comparison: &mut Comparison, program: &str) {
+fn lengths(comparison: &mut Comparison, program: &mut Program) {
     let own = examples::alphabet();
     let rule = examples::expression();
     let tree = examples::tree();
@@ -247,7 +261,7 @@ fn lengths(comparison: &mut Comparison, program: &str) {
     }
 }
 
-fn random_input(comparison: &mut Comparison, program: &str, random: &mut Random) {
+fn random_input(comparison: &mut Comparison, program: &mut Program, random: &mut Random) {
     let Pattern {
         mut alphabet,
         mut expression,

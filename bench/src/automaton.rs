@@ -1,0 +1,62 @@
+//! A table's transitions arranged for the simulations: those of each symbol together, and epsilon transitions by the
+//! state they leave. Both simulations arrange them in each call, as the library does with the table it is lent.
+
+use peer::words::{self, TableWord};
+
+pub struct Transition {
+    pub target: usize,
+    pub children: Vec<usize>,
+}
+
+pub struct Automaton {
+    pub width: usize,
+    pub by_symbol: Vec<Vec<Transition>>,
+    pub epsilons: Vec<Vec<usize>>,
+    pub arities: Vec<usize>,
+}
+
+impl Automaton {
+    /// Arranges a table that is known to be well-formed.
+    pub fn arrange(alphabet: &[u32], table: &[u32]) -> Automaton {
+        let arities: Vec<usize> = alphabet
+            .iter()
+            .map(|word| words::read_entry(*word).expect("an alphabet entry"))
+            .collect();
+        let Some(TableWord::Head { states, .. }) = TableWord::read(table[0]) else {
+            panic!("a table has a head");
+        };
+        let mut arranged = Automaton {
+            width: states.div_ceil(32),
+            by_symbol: (0..arities.len()).map(|_| Vec::new()).collect(),
+            epsilons: vec![Vec::new(); states],
+            arities,
+        };
+        let mut place = 1;
+        while place < table.len() {
+            let own = TableWord::read(table[place]).expect("a table word");
+            place += 1;
+            match own {
+                TableWord::Transition { symbol, target } => {
+                    let end = place + arranged.arities[symbol];
+                    let children = table[place..end]
+                        .iter()
+                        .map(|word| (word & 0x3ff) as usize)
+                        .collect();
+                    arranged.by_symbol[symbol].push(Transition { target, children });
+                    place = end;
+                }
+                TableWord::Epsilon { from, to } => arranged.epsilons[from].push(to),
+                _ => panic!("a move"),
+            }
+        }
+        arranged
+    }
+}
+
+pub fn has(set: &[u32], state: usize) -> bool {
+    set[state / 32] >> (state % 32) & 1 == 1
+}
+
+pub fn put(set: &mut [u32], state: usize) {
+    set[state / 32] |= 1 << (state % 32);
+}

@@ -1,0 +1,39 @@
+//! Time for one call: the best of several batches, each long enough for the clock.
+
+use std::time::{Duration, Instant};
+
+pub struct Measure {
+    pub batch: Duration,
+    pub batches: usize,
+}
+
+impl Measure {
+    /// Seconds for one call of `work`.
+    pub fn seconds(&self, mut work: impl FnMut()) -> f64 {
+        let calls = self.calls(&mut work);
+        let mut best = f64::INFINITY;
+        for _ in 0..self.batches {
+            let start = Instant::now();
+            for _ in 0..calls {
+                work();
+            }
+            best = best.min(start.elapsed().as_secs_f64() / f64::from(calls));
+        }
+        best
+    }
+
+    /// How many calls fill a batch.
+    fn calls(&self, work: &mut impl FnMut()) -> u32 {
+        let mut calls = 1;
+        loop {
+            let start = Instant::now();
+            for _ in 0..calls {
+                work();
+            }
+            if start.elapsed() >= self.batch / 2 {
+                return calls;
+            }
+            calls *= 2;
+        }
+    }
+}

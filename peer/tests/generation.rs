@@ -1,0 +1,68 @@
+//! The generated inputs reach what they are made for: a comparison on inputs that never match or never stop early would
+//! show little.
+
+use peer::automaton;
+use peer::cases::random::{pattern, random_for};
+use peer::exchange::{exchange, MarkedTree};
+use peer::generate;
+use peer::language::{Expression, Membership};
+use peer::marks::Table;
+use peer::model::arities;
+use peer::postfix;
+
+#[test]
+fn random_trees_match_nearly_never_or_nearly_always() {
+    let (mut trees_with_an_inner_match, mut inner_nodes, mut inner_matches) = (0, 0, 0);
+    for case in 0..2000 {
+        let mut random = random_for(3, case);
+        let own = pattern(&mut random);
+        let arities = arities(&own.alphabet);
+        let read = Expression::read(&own.alphabet, &own.expression).expect("an expression");
+        let tree = generate::planted_tree(&mut random, &own.alphabet, &read, 24);
+        let matches = Membership::new(&read, arities.len()).subtrees(&tree, &arities);
+        let inner = |node: &usize| arities[tree[*node]] > 0;
+        let found = (0..tree.len())
+            .filter(inner)
+            .filter(|node| matches[*node])
+            .count();
+        inner_nodes += (0..tree.len()).filter(inner).count();
+        inner_matches += found;
+        trees_with_an_inner_match += usize::from(found > 0);
+    }
+    println!("{trees_with_an_inner_match} trees, {inner_matches} of {inner_nodes} inner nodes");
+    assert!(trees_with_an_inner_match > 400);
+    assert!(inner_matches > inner_nodes / 20 && inner_matches < inner_nodes / 2);
+}
+
+#[test]
+fn random_exchanges_all_end_at_the_same_place() {
+    let (mut at_once, mut between, mut at_the_root) = (0, 0, 0);
+    for case in 0..2000 {
+        let mut random = random_for(4, case);
+        let own = pattern(&mut random);
+        let arities = arities(&own.alphabet);
+        let read = Expression::read(&own.alphabet, &own.expression).expect("an expression");
+        let words = automaton::table(&own.alphabet, &own.expression).expect("an expression");
+        let table = Table::read(&own.alphabet, &words).expect("a table");
+        let symbols = generate::planted_tree(&mut random, &own.alphabet, &read, 40);
+        let rows = table
+            .reached_by_all(&symbols, &arities)
+            .iter()
+            .map(|set| table.set_words(set))
+            .collect();
+        let old = MarkedTree { symbols, rows };
+        let node = random.below(old.symbols.len());
+        let replacement = generate::planted_tree(&mut random, &own.alphabet, &read, 10);
+        let new = exchange(&table, &arities, &old, node, &replacement);
+        let own_arities: Vec<usize> = old.symbols.iter().map(|symbol| arities[*symbol]).collect();
+        let depth = postfix::ancestors(&postfix::children(&own_arities).expect("one tree"), node).len();
+        match new.recomputed - replacement.len() {
+            _ if depth < 2 => {}
+            0 => at_once += 1,
+            above if above == depth => at_the_root += 1,
+            _ => between += 1,
+        }
+    }
+    println!("{at_once} at once, {between} between, {at_the_root} at the root");
+    assert!(at_once > 50 && between > 50 && at_the_root > 50);
+}
