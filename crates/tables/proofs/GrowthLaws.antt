@@ -1,14 +1,14 @@
 -- How a node's state set grows by one state more and by the transition at one word of the table. Assumes nothing.
 use mathlib.Core.Path.{_≡_, refl, ap, _∙_, sym, subst}
-use mathlib.Core.Bool.{Bool, true, false, not, cond, _&&_, true≢false, false≢true}
-use mathlib.Core.List.{List, [], _∷_, List·Memᴰ, List·Memᴰ·head, List·Memᴰ·not-nil, List·Memᴰ·eq-of-singleton}
-use Prim.Native.Nat.{ℕ, _+_, _*_, _/_, _<_, _≤_}
+use mathlib.Core.Bool.{Bool, true, false, not, _&&_, true≢false, false≢true}
+use mathlib.Core.List.{List, List·Memᴰ, List·Memᴰ·head, List·Memᴰ·not-nil, List·Memᴰ·eq-of-singleton}
+use Prim.Native.Nat.{ℕ, _+_, _*_, _<_, _≤_}
 use native.Mathlib.Omega.{arith}
 use native.Mathlib.Decide.{ℕ-discrete}
 use lib.ListN.{length, getD, drop}
 use lib.Dec.{eqb}
 use borrow.Author.Tests.{eqb-true, eq-eqb, ne-eqb}
-use Rattle.words.specs.Word.{transitionKind, epsilonKind, numberOf, hasKind, symbolAbove, stateAbove, stateBelow}
+use Rattle.words.specs.Word.{numberOf, symbolAbove, stateAbove, stateBelow}
 use Rattle.words.specs.Alphabet.{rankOf}
 use Rattle.words.proofs.TestLaws.{Tested, holds, fails, tested, and-true, true-and}
 use Rattle.automaton.specs.Transition.{Transition, Automaton, onSymbol, epsilon, sourcesAt, automatonOf}
@@ -16,10 +16,10 @@ use Rattle.automaton.specs.StateSet.{StateSet, contains, insert, allContained}
 use Rattle.automaton.specs.Reached.{Reached, bySymbol, byEpsilon}
 use Rattle.automaton.specs.Table.{AutomatonOver}
 use Rattle.automaton.proofs.BitLaws.{words-insert, length-insert, insert-same, insert-other, insert-keeps}
-use Rattle.automaton.proofs.ClosureLaws.{targetOf, transition-over, targets-below}
+use Rattle.automaton.proofs.ClosureLaws.{transition-over, targets-below}
 use Rattle.automaton.proofs.TableLaws.{isTable-automaton}
 use Rattle.tables.specs.Ready.{Ready, RowsInside}
-use Rattle.tables.specs.Growth.{Added, Grown, Put, Satisfied, SatisfiedAt, Followed, Firing, GivenAt, startsAt, fires}
+use Rattle.tables.specs.Growth.{Grown, Put, Satisfied, Followed, Firing, GivenAt, startsAt, fires}
 use Rattle.tables.proofs.StartLaws.{starts-member, table-transitions}
 
 -- ---- one state more

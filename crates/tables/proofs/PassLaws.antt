@@ -3,14 +3,14 @@
 use mathlib.Core.Path.{_≡_, refl, ap, _∙_, sym, subst}
 use mathlib.Core.Bool.{Bool, true, false, true≢false}
 use mathlib.Core.List.{List}
-use Prim.Native.Nat.{ℕ, _+_, _-_, _*_, _<_, _≤_}
+use Prim.Native.Nat.{ℕ, _+_, _<_, _≤_}
 use native.Mathlib.Omega.{arith}
 use native.Mathlib.Decide.{decLt}
 use lib.ListN.{length}
 use Rattle.words.proofs.TestLaws.{Tested, holds, fails, tested}
 use Rattle.automaton.specs.Transition.{Automaton, automatonOf}
 use Rattle.automaton.specs.StateSet.{StateSet, contains}
-use Rattle.tables.specs.Growth.{Added, Grown, SatisfiedAt, Followed, Passed, indexAt, Given, GivenAt}
+use Rattle.tables.specs.Growth.{Grown, SatisfiedAt, Followed, Passed, indexAt, Given, GivenAt}
 use Rattle.tables.proofs.GrowthLaws.{grown-same}
 
 -- ---- one step after another

@@ -2,7 +2,7 @@
 use mathlib.Core.Path.{_≡_, refl, ap, ap₂, _∙_, sym}
 use mathlib.Core.Bool.{Bool, true, false, cond, _&&_}
 use mathlib.Core.List.{List, [], _∷_}
-use Prim.Native.Nat.{ℕ, zero, suc, _+_, _-_, _*_, _<_, _≤_}
+use Prim.Native.Nat.{ℕ, _+_, _-_, _*_, _<_, _≤_}
 use native.Mathlib.Omega.{arith}
 use native.Mathlib.Decide.{decLt}
 use lib.ListN.{length, getD, take, drop, drop-of-length-le}
@@ -10,7 +10,7 @@ use Rattle.words.specs.Word.{sourceKind, hasKind, stateBelow}
 use Rattle.words.proofs.TestLaws.{Tested, holds, fails, tested}
 use Rattle.words.proofs.ScanLaws.{drop-step}
 use Rattle.automaton.specs.Transition.{sourcesAt}
-use Rattle.automaton.specs.StateSet.{StateSet, contains, allContained}
+use Rattle.automaton.specs.StateSet.{contains, allContained}
 use Rattle.operations.specs.Marks.{storedSet}
 use Rattle.tables.specs.Ready.{childSets}
 use Rattle.tables.specs.Growth.{Sources}

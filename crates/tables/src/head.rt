@@ -3,6 +3,7 @@ ghost use mathlib.Core.Path.{_≡_};
 ghost use lib.ListN.{getD};
 ghost use Rattle.automaton.specs.Transition.{automatonOf};
 ghost use Rattle.operations.specs.Marks.{sizeOf, finalOf};
+use super::set::WORD_BITS;
 
 // Bits 9..0 of a word of a table are a state. Above them stand a head's state count, a symbol transition's symbol, or the
 // from state of an epsilon transition.
@@ -11,9 +12,6 @@ pub const STATE_RANGE: u32 = 1024;
 pub const COUNT_RANGE: u32 = 2048;
 
 pub const SYMBOL_RANGE: u32 = 256;
-
-// State s is a bit of word s / 32 of a state set.
-pub const WORD_BITS: usize = 32;
 
 // The first word, or 0 of a table with none.
 fn head_word(table: &[u32]) -> u32

@@ -3,6 +3,9 @@ ghost use mathlib.Core.Path.{_≡_};
 ghost use Prim.Native.Nat.{_^_, _<_};
 ghost use Rattle.automaton.specs.StateSet.{contains as StateSet·contains, insert as StateSet·insert};
 
+// The states of one word of a set.
+pub const WORD_BITS: usize = 32;
+
 // The word with bit b alone, for each b.
 const MASKS: [u32; 32] = [
     1,
@@ -50,9 +53,9 @@ fn mask(b: usize) -> u32
 pub fn contains(set: &[u32], s: usize) -> bool
     ensures { λ r. ⌜ r ≡ StateSet·contains (now (set .entry)) s ⌝ }
 {
-    let at = s / 32;
+    let at = s / WORD_BITS;
     if at < set.len() {
-        let one = mask(s % 32);
+        let one = mask(s % WORD_BITS);
         return set[at] & one != 0;
     }
     false
@@ -62,9 +65,9 @@ pub fn contains(set: &[u32], s: usize) -> bool
 pub fn insert(set: &mut [u32], s: usize)
     ensures { λ _. ⌜ now (set .exit) ≡ StateSet·insert (now (set .entry)) s ⌝ }
 {
-    let at = s / 32;
+    let at = s / WORD_BITS;
     if at < set.len() {
-        let one = mask(s % 32);
+        let one = mask(s % WORD_BITS);
         set[at] = set[at] | one;
     }
 }

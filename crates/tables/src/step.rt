@@ -1,9 +1,8 @@
 // A node's state set from its symbol and its children's state sets.
 ghost use mathlib.Core.Path.{_≡_};
 ghost use mathlib.Core.List.{_++_};
-ghost use mathlib.Core.Bool.{cond};
 ghost use Prim.Native.Nat.{_-_, _<_};
-ghost use lib.ListN.{length, drop, replicate};
+ghost use lib.ListN.{drop, replicate};
 ghost use Rattle.automaton.specs.Transition.{automatonOf, sourcesAt};
 ghost use Rattle.automaton.specs.StateSet.{allContained, stateSet};
 ghost use Rattle.operations.specs.Marks.{sizeOf};
