@@ -2,7 +2,8 @@
 
 use peer::automaton;
 use peer::cases::{examples, largest};
-use peer::generate::{self, Random};
+use peer::chance::Random;
+use peer::generate;
 use peer::words::{self, entry_word, Operator, NODE_LIMIT};
 
 pub struct Workload {

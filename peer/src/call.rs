@@ -1,6 +1,7 @@
 //! One call of an operation with all that is lent to it, and what the call leaves. Each slice is lent from the middle
 //! of a longer run of words, so a write outside it is seen.
 
+use crate::guard::{Guarded, Hex};
 use std::fmt;
 
 #[derive(Clone, Copy, Debug, PartialEq, Eq, PartialOrd, Ord)]
@@ -233,55 +234,6 @@ impl Call {
             list: self.list.clone(),
             surroundings_kept: true,
         }
-    }
-}
-
-/// A slice of words within a longer run of words.
-struct Guarded {
-    words: Vec<u32>,
-}
-
-const GUARD: usize = 8;
-
-impl Guarded {
-    fn around(content: &[u32]) -> Guarded {
-        let mut words: Vec<u32> = (0..GUARD).map(Guarded::guard).collect();
-        words.extend_from_slice(content);
-        words.extend((0..GUARD).map(Guarded::guard));
-        Guarded { words }
-    }
-
-    fn guard(place: usize) -> u32 {
-        0x5a3c_9600 + place as u32
-    }
-
-    fn slice(&mut self) -> &mut [u32] {
-        let end = self.words.len() - GUARD;
-        &mut self.words[GUARD..end]
-    }
-
-    fn content(&self) -> Vec<u32> {
-        self.words[GUARD..self.words.len() - GUARD].to_vec()
-    }
-
-    fn surroundings_kept(&self) -> bool {
-        let end = self.words.len() - GUARD;
-        (0..GUARD).all(|place| {
-            self.words[place] == Guarded::guard(place) && self.words[end + place] == Guarded::guard(place)
-        })
-    }
-}
-
-/// Words in hexadecimal, for replaying a difference.
-pub struct Hex<'a>(pub &'a [u32]);
-
-impl fmt::Display for Hex<'_> {
-    fn fmt(&self, f: &mut fmt::Formatter<'_>) -> fmt::Result {
-        write!(f, "({})", self.0.len())?;
-        for word in self.0 {
-            write!(f, " {word:08x}")?;
-        }
-        Ok(())
     }
 }
 

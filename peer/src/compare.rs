@@ -2,6 +2,7 @@
 //! equal. A difference is printed with the whole input in hexadecimal, so that it can be replayed.
 
 use crate::call::{Answer, Call, Lent, Matcher, Operation, UNWRITTEN};
+use crate::chance::Random;
 use crate::model::Model;
 use crate::refusals;
 use std::collections::BTreeMap;
@@ -15,6 +16,8 @@ pub struct Comparison {
     pub differences: u64,
     /// How often each operation gave each number, so that a run shows what it covered.
     pub numbers: BTreeMap<Operation, BTreeMap<u32, u64>>,
+    /// The random case being compared, as text; empty where the input is fixed.
+    case: String,
     quiet: bool,
 }
 
@@ -25,6 +28,7 @@ impl Comparison {
             cases: 0,
             differences: 0,
             numbers: BTreeMap::new(),
+            case: String::new(),
             quiet: false,
         }
     }
@@ -35,6 +39,21 @@ impl Comparison {
             quiet: true,
             ..Comparison::with(matcher)
         }
+    }
+
+    /// Compares so many random cases: each is given the numbers that follow from the seed, the subject and its place.
+    pub fn random_cases(
+        &mut self,
+        subject: &str,
+        seed: u64,
+        cases: u64,
+        mut compare: impl FnMut(&mut Comparison, u64, &mut Random),
+    ) {
+        for case in 0..cases {
+            self.case = format!("{subject}, seed {seed}, case {case}: ");
+            compare(self, case, &mut Random::of_case(subject, seed, case));
+        }
+        self.case.clear();
     }
 
     /// Compares one call. `wrong` says what would be wrong if they differed. Answers what the model answers.
@@ -84,7 +103,7 @@ impl Comparison {
     fn report(&mut self, text: &str) {
         self.differences += 1;
         if !self.quiet && self.differences <= PRINTED {
-            println!("difference {}: {text}", self.differences);
+            println!("difference {}: {}{text}", self.differences, self.case);
         }
     }
 }

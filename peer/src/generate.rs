@@ -1,46 +1,9 @@
 //! Inputs from a seed: alphabets, expressions, trees, members of a language, tables and damaged words.
-//! The same seed gives the same inputs on every machine.
+//! The same numbers give the same inputs.
 
+use crate::chance::Random;
 use crate::language::{Expression, Tree};
 use crate::words::{self, Operator, TableWord};
-
-/// A small generator of pseudo-random numbers (splitmix64).
-pub struct Random(u64);
-
-impl Random {
-    pub fn new(seed: u64) -> Random {
-        Random(seed)
-    }
-
-    pub fn word(&mut self) -> u64 {
-        self.0 = self.0.wrapping_add(0x9e37_79b9_7f4a_7c15);
-        let mut mixed = self.0;
-        mixed = (mixed ^ (mixed >> 30)).wrapping_mul(0xbf58_476d_1ce4_e5b9);
-        mixed = (mixed ^ (mixed >> 27)).wrapping_mul(0x94d0_49bb_1331_11eb);
-        mixed ^ (mixed >> 31)
-    }
-
-    pub fn below(&mut self, bound: usize) -> usize {
-        (self.word() % bound as u64) as usize
-    }
-
-    pub fn between(&mut self, first: usize, last: usize) -> usize {
-        first + self.below(last + 1 - first)
-    }
-
-    /// True about once in so many times.
-    pub fn once_in(&mut self, times: usize) -> bool {
-        self.below(times) == 0
-    }
-
-    pub fn pick<T: Copy>(&mut self, all: &[T]) -> T {
-        all[self.below(all.len())]
-    }
-
-    pub fn words(&mut self, length: usize) -> Vec<u32> {
-        (0..length).map(|_| self.word() as u32).collect()
-    }
-}
 
 /// An alphabet: mostly small, so that symbols meet each other often; sometimes up to the limits.
 pub fn alphabet(random: &mut Random) -> Vec<u32> {

@@ -7,11 +7,14 @@
 pub mod automaton;
 pub mod call;
 pub mod cases;
+pub mod chance;
 pub mod compare;
 pub mod exchange;
 pub mod generate;
+pub mod guard;
 pub mod language;
 pub mod library;
+pub mod marklist;
 pub mod marks;
 pub mod model;
 pub mod postfix;

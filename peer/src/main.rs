@@ -1,7 +1,8 @@
-//! Compares the library with the model: `peer [SEED [CASES]]`. The last line is a summary, and the exit status is 0
-//! exactly if nothing differed.
+//! Compares the library with the model: `peer [SEED [CASES]]`. The last line is a summary, `peer: N cases, D differences`,
+//! with what was left out behind it; the exit status is 0 exactly if nothing differed.
+//! HAQBYLUR_LIB_DIR names the folder of the static library when this is built, HAQBYLUR_MARKLIST the program when it runs.
 
-use peer::cases::{damage, examples, faults, histories, largest, limits, program, random};
+use peer::cases::{damage, examples, faults, histories, largest, lengths, limits, program, random};
 use peer::compare::Comparison;
 use peer::library;
 use std::process::ExitCode;
@@ -20,26 +21,22 @@ fn main() -> ExitCode {
         eprintln!("usage: peer [SEED [CASES]]");
         return ExitCode::from(2);
     };
-    if !library::LINKED {
-        println!("peer: the library is not linked (HAQBYLUR_LIB_DIR); the model is compared with itself");
-    }
     println!("peer: seed {seed}, {cases} random cases");
     let mut comparison = Comparison::with(library::matcher());
     let mut section = |name: &str, compare: &mut dyn FnMut(&mut Comparison)| {
         let (start, before) = (Instant::now(), comparison.cases);
         compare(&mut comparison);
         let compared = comparison.cases - before;
-        println!(
-            "{name}: {compared} comparisons, {:.1} s",
-            start.elapsed().as_secs_f64()
-        );
+        let seconds = start.elapsed().as_secs_f64();
+        println!("{name}: {compared} comparisons, {seconds:.1} s");
     };
-    section("published examples", &mut |all| examples::compare(all));
-    section("limits", &mut |all| limits::compare(all));
+    section("published examples", &mut examples::compare);
+    section("limits of rules and tables", &mut limits::compare);
+    section("limits of chapters and slices", &mut lengths::compare);
     section("largest table", &mut |all| {
         largest::compare(all, seed, cases / 10)
     });
-    section("two faults at once", &mut |all| faults::compare(all));
+    section("two faults at once", &mut faults::compare);
     section("damaged words", &mut |all| damage::compare(all, seed, cases / 4));
     section("random rules and chapters", &mut |all| {
         random::compare(all, seed, cases)
@@ -47,13 +44,23 @@ fn main() -> ExitCode {
     section("lists of exchanges", &mut |all| {
         histories::compare(all, seed, cases / 4)
     });
-    match program::path() {
-        Some(path) => section("the program marklist", &mut |all| {
-            program::compare(all, &path, seed, cases / 20);
-        }),
-        None => println!("the program marklist: skipped, HAQBYLUR_MARKLIST is not set"),
+    let path = program::path();
+    if let Some(path) = &path {
+        section("the program marklist", &mut |all| {
+            program::compare(all, path, seed, cases / 20)
+        });
     }
-    comparison.check_numbers();
+    section("numbers answered", &mut Comparison::check_numbers);
+    print_numbers(&comparison);
+    let (cases, differences) = (comparison.cases, comparison.differences);
+    println!(
+        "peer: {cases} cases, {differences} differences{}",
+        missing(path.is_some())
+    );
+    ExitCode::from(u8::from(differences > 0))
+}
+
+fn print_numbers(comparison: &Comparison) {
     for (operation, numbers) in &comparison.numbers {
         let counts: Vec<String> = numbers
             .iter()
@@ -61,9 +68,16 @@ fn main() -> ExitCode {
             .collect();
         println!("{operation:?} answered {}", counts.join(", "));
     }
-    println!(
-        "peer: {} cases, {} differences",
-        comparison.cases, comparison.differences
-    );
-    ExitCode::from(u8::from(comparison.differences > 0))
+}
+
+/// What was not compared, so that a summary without it is not taken for a whole one.
+fn missing(program: bool) -> String {
+    let mut text = String::new();
+    if !library::LINKED {
+        text += "; the library is not linked (HAQBYLUR_LIB_DIR), the model was compared with itself";
+    }
+    if !program {
+        text += "; the program marklist was skipped (HAQBYLUR_MARKLIST)";
+    }
+    text
 }

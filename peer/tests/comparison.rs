@@ -3,7 +3,8 @@
 
 use peer::automaton;
 use peer::call::Matcher;
-use peer::cases::{damage, examples, faults, histories, largest, limits, random};
+use peer::cases::{damage, examples, faults, histories, largest, lengths, limits, random};
+use peer::chance::Random;
 use peer::compare::Comparison;
 use peer::generate;
 use peer::marks::Table;
@@ -186,6 +187,7 @@ fn the_model_differs_from_itself() {
     assert_eq!(differences(Fault::None), 0);
     let mut comparison = Comparison::with(Box::new(Model));
     limits::compare(&mut comparison);
+    lengths::compare(&mut comparison);
     largest::compare(&mut comparison, 5, 20);
     assert_eq!(comparison.differences, 0);
 }
@@ -213,7 +215,7 @@ fn a_wrong_matcher_is_not_found() {
 #[test]
 fn a_seed_gives_other_inputs_each_time() {
     let draw = || {
-        let mut random = random::random_for(9, 4);
+        let mut random = Random::of_case("test", 9, 4);
         let own = random::pattern(&mut random);
         let tree = generate::tree(&mut random, &own.alphabet, 30);
         (own.alphabet, own.expression, tree)

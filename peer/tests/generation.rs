@@ -2,10 +2,12 @@
 //! show little.
 
 use peer::automaton;
-use peer::cases::random::{pattern, random_for};
+use peer::cases::random::pattern;
+use peer::chance::Random;
 use peer::exchange::{exchange, MarkedTree};
 use peer::generate;
-use peer::language::{Expression, Membership};
+use peer::language::membership::Membership;
+use peer::language::Expression;
 use peer::marks::Table;
 use peer::model::arities;
 use peer::postfix;
@@ -14,7 +16,7 @@ use peer::postfix;
 fn random_trees_match_nearly_never_or_nearly_always() {
     let (mut trees_with_an_inner_match, mut inner_nodes, mut inner_matches) = (0, 0, 0);
     for case in 0..2000 {
-        let mut random = random_for(3, case);
+        let mut random = Random::of_case("test", 3, case);
         let own = pattern(&mut random);
         let arities = arities(&own.alphabet);
         let read = Expression::read(&own.alphabet, &own.expression).expect("an expression");
@@ -38,7 +40,7 @@ fn random_trees_match_nearly_never_or_nearly_always() {
 fn random_exchanges_all_end_at_the_same_place() {
     let (mut at_once, mut between, mut at_the_root) = (0, 0, 0);
     for case in 0..2000 {
-        let mut random = random_for(4, case);
+        let mut random = Random::of_case("test", 4, case);
         let own = pattern(&mut random);
         let arities = arities(&own.alphabet);
         let read = Expression::read(&own.alphabet, &own.expression).expect("an expression");

@@ -1,8 +1,11 @@
 //! The two readings of a language against each other and against document 01's examples.
 
-use peer::cases::random::{pattern, random_for};
+use peer::cases::random::pattern;
+use peer::chance::Random;
 use peer::generate;
-use peer::language::{self, members, Expression, Membership, Tree};
+use peer::language::literal::{self, members};
+use peer::language::membership::Membership;
+use peer::language::{Expression, Tree};
 use peer::model::arities;
 use peer::words::{entry_word, Operator};
 use std::collections::BTreeSet;
@@ -109,14 +112,14 @@ fn a_product_misses_the_constants_that_one_inside_has_put() {
 #[test]
 fn the_literal_members_are_not_those_decided() {
     for case in 0..300 {
-        let mut random = random_for(77, case);
+        let mut random = Random::of_case("test", 77, case);
         let pattern = pattern(&mut random);
         let arities = arities(&pattern.alphabet);
         let read = Expression::read(&pattern.alphabet, &pattern.expression).expect("an expression");
-        let limit = language::size_with_at_most(&arities, 120);
+        let limit = literal::size_with_at_most(&arities, 120);
         let literal = members(&read, &arities, limit);
         let membership = Membership::new(&read, arities.len());
-        for tree in language::trees(&arities, limit) {
+        for tree in literal::trees(&arities, limit) {
             let decided = membership.subtrees(&tree, &arities).pop() == Some(true);
             assert_eq!(literal.contains(&tree), decided, "case {case}: {tree:?}");
         }
@@ -127,7 +130,7 @@ fn the_literal_members_are_not_those_decided() {
 fn a_drawn_member_is_no_member() {
     let mut drawn = 0;
     for case in 0..2000 {
-        let mut random = random_for(78, case);
+        let mut random = Random::of_case("test", 78, case);
         let pattern = pattern(&mut random);
         let arities = arities(&pattern.alphabet);
         let read = Expression::read(&pattern.alphabet, &pattern.expression).expect("an expression");
@@ -144,8 +147,8 @@ fn a_drawn_member_is_no_member() {
 fn the_number_of_trees_of_a_size_is_counted_wrongly() {
     let arities = arities(&alphabet());
     for limit in 1..=5 {
-        let most = language::trees(&arities, limit).len();
-        assert_eq!(language::size_with_at_most(&arities, most), limit);
-        assert_eq!(language::size_with_at_most(&arities, most - 1), limit - 1);
+        let most = literal::trees(&arities, limit).len();
+        assert_eq!(literal::size_with_at_most(&arities, most), limit);
+        assert_eq!(literal::size_with_at_most(&arities, most - 1), limit - 1);
     }
 }

@@ -4,9 +4,10 @@
 use crate::automaton;
 use crate::call::{Call, Operation};
 use crate::cases::examples;
-use crate::cases::random::{pattern, random_for, Pattern};
+use crate::cases::random::{pattern, Pattern};
+use crate::chance::Random;
 use crate::compare::Comparison;
-use crate::generate::{self, Random};
+use crate::generate;
 use crate::marks::Table;
 use crate::model;
 
@@ -41,10 +42,9 @@ pub fn compare(comparison: &mut Comparison, seed: u64, cases: u64) {
     ) {
         every_bit(comparison, &call);
     }
-    for case in 0..cases {
-        let mut random = random_for(seed ^ 0x3b17, case);
-        some_bits(comparison, &mut random);
-    }
+    comparison.random_cases("damaged words", seed, cases, |comparison, _, random| {
+        some_bits(comparison, random);
+    });
 }
 
 /// The arguments that a call reads or may read.

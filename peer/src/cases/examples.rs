@@ -2,7 +2,8 @@
 
 use crate::call::Call;
 use crate::compare::Comparison;
-use crate::language::{members, Expression};
+use crate::language::literal::members;
+use crate::language::Expression;
 use crate::model;
 use crate::words::{entry_word, node_word, Operator};
 

@@ -3,11 +3,13 @@
 //! the exact count decide, which the model states.
 
 use crate::automaton;
-use crate::call::{Call, Hex};
-use crate::cases::random::{pattern, random_for, Pattern};
+use crate::call::Call;
+use crate::cases::random::{pattern, Pattern};
+use crate::chance::Random;
 use crate::compare::Comparison;
 use crate::exchange::splice;
-use crate::generate::{self, Random};
+use crate::generate;
+use crate::guard::Hex;
 use crate::language::Expression;
 use crate::marks::Table;
 use crate::model;
@@ -26,14 +28,13 @@ struct Held {
 }
 
 pub fn compare(comparison: &mut Comparison, seed: u64, cases: u64) {
-    for case in 0..cases {
-        let mut random = random_for(seed ^ 0x4815, case);
-        true_marks(comparison, &mut random, 40, 12);
-        false_marks(comparison, &mut random);
+    comparison.random_cases("lists of exchanges", seed, cases, |comparison, case, random| {
+        true_marks(comparison, random, 40, 12);
+        false_marks(comparison, random);
         if case % 200 == 0 {
-            true_marks(comparison, &mut random, 500, 400);
+            true_marks(comparison, random, 500, 400);
         }
-    }
+    });
 }
 
 /// A rule's or any other table, a tree that Run marked, and slices with room to grow.

@@ -8,7 +8,7 @@
 
 use crate::automaton;
 use crate::call::Call;
-use crate::cases::random::random_for;
+use crate::chance::Random;
 use crate::compare::Comparison;
 use crate::generate;
 use crate::words::{self, entry_word, Operator, CONSTANT_LIMIT, EXPRESSION_LIMIT, STATE_LIMIT};
@@ -66,9 +66,9 @@ pub fn compare(comparison: &mut Comparison, seed: u64, cases: u64) {
         format!("    {bounds:?}")
     });
     attained(comparison);
-    for case in 0..cases {
-        near_the_limits(comparison, &mut random_for(seed ^ 0x1147, case), &bounds);
-    }
+    comparison.random_cases("long rules", seed, cases, |comparison, _, random| {
+        near_the_limits(comparison, random, &bounds);
+    });
 }
 
 fn attained(comparison: &mut Comparison) {
@@ -84,7 +84,7 @@ fn attained(comparison: &mut Comparison) {
 }
 
 /// A long rule over many constants, in a slice of 1,147 words: 7 may not be the answer.
-fn near_the_limits(comparison: &mut Comparison, random: &mut generate::Random, bounds: &[usize]) {
+fn near_the_limits(comparison: &mut Comparison, random: &mut Random, bounds: &[usize]) {
     let constants = random.between(12, CONSTANT_LIMIT);
     let mut alphabet = vec![entry_word(0); constants];
     alphabet.extend((1..=4).map(entry_word));

@@ -1,11 +1,12 @@
-//! Every limit that document 01 names, at it and one beyond: lengths of alphabets, rules, tables, trees and slices,
-//! numbers of constants and states, and counts that do not fit 32 bits.
+//! The limits that document 01 names of alphabets, rules and tables, at each and one beyond: their lengths, and the
+//! numbers of constants and states.
 
 use crate::automaton;
 use crate::call::Call;
+use crate::chance::Random;
 use crate::compare::Comparison;
-use crate::generate::{self, Random};
-use crate::language::Membership;
+use crate::generate;
+use crate::language::membership::Membership;
 use crate::marks::Table;
 use crate::model;
 use crate::words::{entry_word, node_word, Operator, TableWord};
@@ -15,13 +16,10 @@ pub fn compare(comparison: &mut Comparison) {
     rules(comparison);
     states(comparison);
     tables(comparison);
-    trees(comparison);
-    slices(comparison);
-    exchanges(comparison);
 }
 
 /// An alphabet with so many constants, then so many symbols of arity 1.
-fn alphabet(constants: usize, unary: usize) -> Vec<u32> {
+pub fn alphabet(constants: usize, unary: usize) -> Vec<u32> {
     [vec![entry_word(0); constants], vec![entry_word(1); unary]].concat()
 }
 
@@ -32,7 +30,7 @@ fn closures(count: usize) -> Vec<u32> {
 }
 
 /// Expects this number of the model as well, so that a limit is not only compared but also where it is said to be.
-fn expect(comparison: &mut Comparison, wrong: &str, call: &Call, number: u32) {
+pub fn expect(comparison: &mut Comparison, wrong: &str, call: &Call, number: u32) {
     let answer = comparison.call(wrong, call);
     comparison.check(wrong, answer.number == number, || {
         format!(
@@ -202,59 +200,7 @@ fn long_chain() -> Vec<u32> {
     table.into_iter().map(TableWord::word).collect()
 }
 
-/// Chains and random trees of up to 4,096 nodes and one more.
-fn trees(comparison: &mut Comparison) {
-    let own = [
-        entry_word(0),
-        entry_word(1),
-        entry_word(2),
-        entry_word(4),
-        entry_word(0),
-    ];
-    let rule: Vec<u32> = [
-        Operator::Symbol(0),
-        Operator::Symbol(1),
-        Operator::Symbol(0),
-        Operator::Symbol(4),
-        Operator::Symbol(2),
-        Operator::Union,
-        Operator::Closure(0),
-    ]
-    .map(Operator::word)
-    .to_vec();
-    let table = automaton::table(&own, &rule).expect("an expression");
-    for (nodes, number) in [(0, 9), (1, 0), (4095, 0), (4096, 0), (4097, 9), (9000, 9)] {
-        let mut chain = vec![node_word(0)];
-        chain.resize(nodes.max(1), node_word(1));
-        chain.truncate(nodes);
-        let call = Call::run(&own, &table, &chain, vec![3; 2 * nodes + 2]);
-        expect(comparison, "a tree's length is judged otherwise", &call, number);
-        let call = Call::list(&own, &table, nodes, &vec![3; 2 * nodes + 2], vec![3; nodes + 2]);
-        expect(comparison, "a list's count is judged otherwise", &call, number);
-    }
-    for seed in 0..4 {
-        let tree = generate::tree(&mut Random::new(seed), &own, 4096);
-        run_and_list(comparison, &own, &table, &generate::tree_words(&tree));
-    }
-    for arity in 0..=4 {
-        let one = [entry_word(0), entry_word(arity)];
-        for leaves in 0..6 {
-            let mut words = vec![node_word(0); leaves];
-            words.push(node_word(1));
-            let table = [TableWord::Head {
-                states: 1,
-                accepting: 0,
-            }
-            .word()];
-            comparison.call(
-                "too few or too many parts are judged otherwise",
-                &Call::run(&one, &table, &words, vec![1; 9]),
-            );
-        }
-    }
-}
-
-fn run_and_list(comparison: &mut Comparison, alphabet: &[u32], table: &[u32], tree: &[u32]) {
+pub fn run_and_list(comparison: &mut Comparison, alphabet: &[u32], table: &[u32], tree: &[u32]) {
     let width = 32;
     let marked = comparison.call(
         "a table or tree at a limit has other marks",
@@ -270,97 +216,4 @@ fn run_and_list(comparison: &mut Comparison, alphabet: &[u32], table: &[u32], tr
             vec![9; tree.len()],
         ),
     );
-}
-
-/// Every lent slice at its least length, one word less and one more; counts one off.
-fn slices(comparison: &mut Comparison) {
-    use crate::cases::examples;
-    let own = examples::alphabet();
-    let rule = examples::expression();
-    let tree = examples::tree();
-    let table = automaton::table(&own, &rule).expect("an expression");
-    let wrong = "a slice's length is judged otherwise";
-    for (length, number) in [(0, 7), (35, 7), (36, 0), (37, 0)] {
-        expect(
-            comparison,
-            wrong,
-            &Call::compile(&own, &rule, vec![1; length]),
-            number,
-        );
-    }
-    for (length, number) in [(0, 12), (6, 12), (7, 0), (8, 0)] {
-        expect(
-            comparison,
-            wrong,
-            &Call::run(&own, &table, &tree, vec![1; length]),
-            number,
-        );
-        let call = Call::list(&own, &table, 7, &vec![1; length], vec![1; 7]);
-        expect(comparison, wrong, &call, number);
-        let call = Call::list(&own, &table, 7, &[1; 7], vec![1; length]);
-        expect(comparison, wrong, &call, if number == 12 { 13 } else { 0 });
-    }
-    for (count, number) in [
-        (0, 9),
-        (6, 0),
-        (7, 0),
-        (8, 12),
-        (4096, 12),
-        (4097, 9),
-        (usize::MAX, 9),
-    ] {
-        let call = Call::list(&own, &table, count, &[1; 7], vec![1; 7]);
-        expect(comparison, wrong, &call, number);
-    }
-}
-
-/// Counts, elements, replacements and results at their limits.
-fn exchanges(comparison: &mut Comparison) {
-    let own = alphabet(1, 1);
-    let table = automaton::table(&own, &[Operator::Symbol(0).word(), Operator::Symbol(1).word()])
-        .expect("an expression");
-    let chain = |nodes: usize| {
-        let mut words = vec![node_word(0)];
-        words.resize(nodes, node_word(1));
-        words
-    };
-    let wrong = "an exchange at a limit is judged otherwise";
-    // old nodes, chapter slice, marks slice, element, replacement nodes, number
-    let cases = [
-        (4096, 4096, 4096, 0, 1, 0),
-        (4096, 5000, 5000, 0, 1, 0),
-        (4096, 5000, 5000, 0, 2, 16),
-        (4096, 5000, 5000, 1, 2, 0),
-        (4096, 5000, 5000, 4095, 4096, 0),
-        (4096, 5000, 5000, 4095, 4097, 15),
-        (4096, 5000, 5000, 4096, 1, 14),
-        (4097, 5000, 5000, 0, 1, 9),
-        (4096, 4096, 4095, 0, 1, 12),
-        (4096, 4096, 4096, 4095, 1, 0),
-        (1, 1, 1, 0, 1, 0),
-        (1, 1, 1, 0, 2, 16),
-        (1, 2, 1, 0, 2, 16),
-        (1, 1, 2, 0, 2, 16),
-        (1, 2, 2, 0, 2, 0),
-        (1, 4096, 4096, 0, 4096, 0),
-        (2, 4097, 4097, 0, 4096, 16),
-        (1, 4096, 4095, 0, 4096, 16),
-        (10, 12, 12, 3, 6, 0),
-        (10, 12, 12, 3, 7, 16),
-        (10, 12, 11, 3, 6, 16),
-        (10, 11, 12, 3, 6, 16),
-    ];
-    for (old, tree_length, sets_length, node, nodes, number) in cases {
-        let mut tree = chain(old);
-        tree.resize(tree_length, 5);
-        for word in [0, 1, u32::MAX] {
-            let sets = vec![word; sets_length];
-            let call = Call::exchange(&own, &table, tree.clone(), old, sets, node, &chain(nodes));
-            expect(comparison, wrong, &call, number);
-        }
-    }
-    let call = Call::exchange(&own, &table, chain(6), 7, vec![0; 9], 0, &chain(1));
-    expect(comparison, wrong, &call, 9);
-    let call = Call::exchange(&own, &table, chain(6), 5, vec![0; 5], 4, &chain(2));
-    expect(comparison, wrong, &call, 0);
 }

@@ -5,6 +5,7 @@ pub mod examples;
 pub mod faults;
 pub mod histories;
 pub mod largest;
+pub mod lengths;
 pub mod limits;
 pub mod program;
 pub mod random;

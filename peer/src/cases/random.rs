@@ -1,19 +1,18 @@
 //! Random valid inputs: a rule is compiled, a tree marked and listed, and the hits are compared with the language of
-//! the rule as substitution gives it. Case n of a seed depends on the seed and n alone.
+//! the rule as substitution gives it.
 
 use crate::automaton;
-use crate::call::{Call, Hex};
+use crate::call::Call;
+use crate::chance::Random;
 use crate::compare::Comparison;
-use crate::generate::{self, Random};
-use crate::language::{self, Expression, Membership, Tree};
+use crate::generate;
+use crate::guard::Hex;
+use crate::language::literal;
+use crate::language::membership::Membership;
+use crate::language::{Expression, Tree};
 use crate::marks::Table;
 use crate::model;
 use crate::words;
-
-/// The numbers of one case of a seed.
-pub fn random_for(seed: u64, case: u64) -> Random {
-    Random::new(Random::new(seed).word() ^ case.wrapping_mul(0xd129_42f0_5ca3_1d35))
-}
 
 /// An alphabet with an expression that has at most 1,024 states over it.
 pub struct Pattern {
@@ -46,16 +45,15 @@ pub fn length_near(random: &mut Random, needed: usize) -> usize {
 }
 
 pub fn compare(comparison: &mut Comparison, seed: u64, cases: u64) {
-    for case in 0..cases {
-        let mut random = random_for(seed, case);
-        pattern_case(comparison, &mut random);
+    comparison.random_cases("rules and chapters", seed, cases, |comparison, case, random| {
+        pattern_case(comparison, random);
         if case % 4 == 0 {
-            table_case(comparison, &mut random);
+            table_case(comparison, random);
         }
         if case % 16 == 0 {
-            literal_case(comparison, &mut random);
+            literal_case(comparison, random);
         }
-    }
+    });
 }
 
 /// A rule and a tree: table, marks, list, and the language.
@@ -139,15 +137,15 @@ fn literal_case(comparison: &mut Comparison, random: &mut Random) {
     let Pattern { alphabet, expression } = pattern(random);
     let arities = model::arities(&alphabet);
     let read = Expression::read(&alphabet, &expression).expect("an expression");
-    let limit = language::size_with_at_most(&arities, 250);
+    let limit = literal::size_with_at_most(&arities, 250);
     if limit == 0 {
         return;
     }
-    let members = language::members(&read, &arities, limit);
+    let members = literal::members(&read, &arities, limit);
     let membership = Membership::new(&read, alphabet.len());
     let words = automaton::table(&alphabet, &expression).expect("an expression");
     let table = Table::read(&alphabet, &words).expect("a table");
-    for tree in language::trees(&arities, limit) {
+    for tree in literal::trees(&arities, limit) {
         let is_member = members.contains(&tree);
         let decided = membership.subtrees(&tree, &arities).last() == Some(&true);
         let root = table.reached_by_all(&tree, &arities).pop().expect("a root");
