@@ -1,2 +1,5 @@
 pub mod FaultLaws
 pub mod TailLaws
+pub mod ClimbLaws
+pub mod RiseLaws
+pub mod UpwardLaws

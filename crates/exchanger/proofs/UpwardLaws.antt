@@ -1,0 +1,173 @@
+-- The loop behind a replaced subtree works in the marks and tells ancestors by a counter. It does what the loop over the list of
+-- state sets does, which asks who is an ancestor. Assumes nothing.
+use mathlib.Core.Path.{_≡_, refl, ap, ap₂, _∙_, sym, subst}
+use mathlib.Core.Bool.{Bool, true, false}
+use mathlib.Core.List.{List}
+use Prim.Native.Nat.{ℕ, zero, suc, _+_, _-_, _<_, _≤_}
+use native.Mathlib.Omega.{arith}
+use native.Mathlib.Decide.{decLe}
+use native.Mathlib.Nat.{add-zero, add-suc, suc-add}
+use lib.ListN.{length, getD, set, length-set}
+use Rattle.words.specs.Postfix.{arity, isAncestor}
+use Rattle.words.proofs.TestLaws.{Tested, holds, fails, tested}
+use Rattle.words.proofs.HoldingLaws.{HoldingTree, takes-others, holding-others, takes-holding, holding-ancestor}
+use Rattle.automaton.specs.StateSet.{StateSet}
+use Rattle.operations.specs.Marks.{sizeOf, storedSet, sameWords}
+use Rattle.operations.proofs.LoopLaws.{setAt, upwards, upwards-beside, upwards-last, upwards-onward}
+use Rattle.operations.proofs.LoopLaws as loops
+use Rattle.matcher.specs.Nodes.{setFrom, markedAt}
+use Rattle.matcher.proofs.NodeLaws.{newSet}
+use Rattle.matcher.proofs.MarkLaws.{Holding, holding-set, holding-write, length-setFrom, setFrom-rows}
+use Rattle.exchanger.specs.declared.climb.Rise.{Rise}
+use Rattle.exchanger.specs.Climbing.{climbFrom}
+use Rattle.exchanger.proofs.ClimbLaws.{recomputed-same, recomputed-changed, step-beside, step-ancestor, climb-goes, climb-stops}
+
+-- two functions that agree from i and from j on
+module _ {A : Type 0} (f g : ℕ → A) (i j : ℕ) (h : (t : ℕ) → f (i + t) ≡ g (j + t)) where
+  here : f i ≡ g j
+  here = ap f (sym (add-zero i)) ∙ h 0 ∙ ap g (add-zero j)
+
+  later : (t : ℕ) → f (suc i + t) ≡ g (suc j + t)
+  later t = ap f (suc-add i t ∙ sym (add-suc i t)) ∙ h (suc t) ∙ ap g (add-suc j t ∙ sym (suc-add j t))
+
+-- node i's state set from the marks is the one from the list of state sets
+pub set-over : (a table ch marks : List ℕ) (rows : List StateSet) (rest : List ℕ) (i : ℕ) → Holding (sizeOf table) marks rows rest → i ≤ length rows
+    → i ≤ length ch → setFrom a table ch marks i ≡ loops.setFrom a table ch i rows
+unfolding newSet loops.setFrom
+set-over a table ch marks rows rest i g l h = setFrom-rows a table ch marks rows rest i g l h
+
+-- node i, worked out and written
+pub marked-over : (a table ch marks : List ℕ) (rows : List StateSet) (rest : List ℕ) (i : ℕ) → Holding (sizeOf table) marks rows rest → i < length rows
+    → i ≤ length ch → Holding (sizeOf table) (markedAt a table ch i marks) (set rows i (loops.setFrom a table ch i rows)) rest
+unfolding markedAt
+marked-over a table ch marks rows rest i g l h =
+    rw (← set-over a table ch marks rows rest i g (omega arith) h)
+    (holding-write (sizeOf table) marks rows rest i (setFrom a table ch marks i) g (length-setFrom a table ch marks i) l)
+
+module _ (a table ch used : List ℕ) (e : ℕ) (rest : List ℕ) (above : ℕ → Bool) where
+  abbrev size : ℕ
+  size = sizeOf table
+
+  -- the loop is at node i of the new tree, which was node j of the old one; n nodes are left
+  pub record Upward (i j d n : ℕ) (marks : List ℕ) (rows : List StateSet) : Type 0 where
+    pub words : (t : ℕ) → getD ch (i + t) 0 ≡ getD used (j + t) 0
+    pub ancestors : (t : ℕ) → above (i + t) ≡ isAncestor a used e (j + t)
+    pub holding : HoldingTree a used e j d
+    pub inside : i + n ≤ length ch
+    pub rows-inside : i + n ≤ length rows
+    pub sets : Holding (sizeOf table) marks rows rest
+
+  -- the marks hold the state sets, and the counts are the same
+  pub record Same (c : List ℕ × ℕ) (u : List StateSet × ℕ) : Type 0 where
+    pub sets : Holding (sizeOf table) (c .0) (u .0) rest
+    pub count : c .1 ≡ u .1
+
+  abbrev climbs : ℕ → ℕ → List ℕ → Rise → List ℕ × ℕ
+  climbs = climbFrom a table ch
+
+  abbrev ups : ℕ → ℕ → List StateSet → ℕ → List StateSet × ℕ
+  ups = upwards a table ch above
+
+  abbrev Goal : ℕ → Type 0
+  Goal n =
+      (i j : ℕ) (marks : List ℕ) (rows : List StateSet) (t : Rise) → Upward i j (t .others) n marks rows
+      → Same (climbs i n marks t) (ups i n rows (t .recomputed))
+
+  module _ (n : ℕ) (ih : Goal n) (i j : ℕ) (marks : List ℕ) (rows : List StateSet) (t : Rise) (g : Upward i j (t .others) (suc n) marks rows) where
+    abbrev d : ℕ
+    d = t .others
+
+    abbrev r : ℕ
+    r = arity a (getD ch i 0)
+
+    word : arity a (getD used j 0) ≡ r
+    word = ap (arity a) (sym (here (λ k. getD ch k 0) (λ k. getD used k 0) i j (g .words)))
+
+    above-here : above i ≡ isAncestor a used e j
+    above-here = here above (isAncestor a used e) i j (g .ancestors)
+
+    -- the loop at the next node
+    next : (d′ : ℕ) (marks′ : List ℕ) (rows′ : List StateSet) → HoldingTree a used e (suc j) d′ → length rows′ ≡ length rows
+        → Holding size marks′ rows′ rest → Upward (suc i) (suc j) d′ n marks′ rows′
+    next d′ marks′ rows′ y l s =
+        let inside = g .inside in
+        let rows-inside = g .rows-inside in
+        record {
+          words = later (λ k. getD ch k 0) (λ k. getD used k 0) i j (g .words);
+          ancestors = later above (isAncestor a used e) i j (g .ancestors);
+          holding = y;
+          inside = omega arith;
+          rows-inside = omega arith;
+          sets = s;
+        }
+
+    beside : r ≤ d → Same (climbs i (suc n) marks t) (ups i (suc n) rows (t .recomputed))
+    beside l =
+        let l′ : arity a (getD used j 0) ≤ d = rw word l in
+        let y : HoldingTree a used e (suc j) (d - r + 1) =
+        subst (λ (k : ℕ). HoldingTree a used e (suc j) (d - k + 1)) word (holding-others a used e j d (g .holding) l′) in
+        let t′ : Rise = record { others = d - r + 1; recomputed = t .recomputed; goes = true } in
+        let p : climbs i (suc n) marks t ≡ climbs (suc i) n marks t′ =
+        climb-goes a table ch i marks t n marks t′ (step-beside a table ch i marks t r refl l) refl in
+        let q : ups i (suc n) rows (t .recomputed) ≡ ups (suc i) n rows (t .recomputed) =
+        upwards-beside a table ch above i n rows (t .recomputed) (above-here ∙ takes-others a used e j d (g .holding) l′) in
+        rw (p, q) (ih (suc i) (suc j) marks rows t′ (next (d - r + 1) marks rows y refl (g .sets)))
+
+    ancestor : d < r → Same (climbs i (suc n) marks t) (ups i (suc n) rows (t .recomputed))
+    ancestor l = go (tested (sameWords new old))
+      where
+        new : StateSet
+        new = setFrom a table ch marks i
+
+        old : StateSet
+        old = storedSet size marks i
+
+        l′ : d < arity a (getD used j 0)
+        l′ = rw word l
+
+        up : above i ≡ true
+        up = above-here ∙ takes-holding a used e j d (g .holding) l′
+
+        inside : i ≤ length ch
+        inside = let h = g .inside in omega arith
+
+        inside-rows : i < length rows
+        inside-rows = let h = g .rows-inside in omega arith
+
+        tests : sameWords (loops.setFrom a table ch i rows) (setAt rows i) ≡ sameWords new old
+        tests =
+            ap₂ sameWords
+            (sym (set-over a table ch marks rows rest i (g .sets) (omega (arith, inside-rows)) inside))
+            (sym (holding-set size marks rows rest i (g .sets) inside-rows))
+
+        go : Tested (sameWords new old) → Same (climbs i (suc n) marks t) (ups i (suc n) rows (t .recomputed))
+        go (holds b) =
+            let t′ : Rise = record { others = 0; recomputed = t .recomputed + 1; goes = false } in
+            let p : climbs i (suc n) marks t ≡ (marks, t .recomputed + 1) =
+            climb-stops a table ch i marks t n marks t′
+            (step-ancestor a table ch i marks t r refl l (marks, false) (recomputed-same a table ch i marks b)) refl in
+            let q : ups i (suc n) rows (t .recomputed) ≡ (rows, t .recomputed + 1) =
+            upwards-last a table ch above i n rows (t .recomputed) up (tests ∙ b) in
+            rw (p, q) (record { sets = g .sets; count = refl })
+        go (fails b) =
+            let t′ : Rise = record { others = 0; recomputed = t .recomputed + 1; goes = true } in
+            let marks′ = markedAt a table ch i marks in
+            let rows′ = set rows i (loops.setFrom a table ch i rows) in
+            let p : climbs i (suc n) marks t ≡ climbs (suc i) n marks′ t′ =
+            climb-goes a table ch i marks t n marks′ t′
+            (step-ancestor a table ch i marks t r refl l (marks′, true) (recomputed-changed a table ch i marks b)) refl in
+            let q : ups i (suc n) rows (t .recomputed) ≡ ups (suc i) n rows′ (t .recomputed + 1) =
+            upwards-onward a table ch above i n rows (t .recomputed) up (tests ∙ b) in
+            rw (p, q)
+            (ih (suc i) (suc j) marks′ rows′ t′
+            (next 0 marks′ rows′ (holding-ancestor a used e j d (g .holding) l′) (length-set rows i _)
+            (marked-over a table ch marks rows rest i (g .sets) inside-rows inside)))
+
+  pub climb-upwards : (n : ℕ) → Goal n
+  unfolding climbFrom upwards
+  climb-upwards zero i j marks rows t g = record { sets = g .sets; count = refl }
+  climb-upwards (suc n) i j marks rows t g = choose (decLe (arity a (getD ch i 0)) (t .others)) (climb-upwards n)
+    where
+      choose : Dec (arity a (getD ch i 0) ≤ t .others) → Goal n → Same (climbs i (suc n) marks t) (ups i (suc n) rows (t .recomputed))
+      choose (yes l) ih = beside n ih i j marks rows t g l
+      choose (no l) ih = ancestor n ih i j marks rows t g (omega arith)
