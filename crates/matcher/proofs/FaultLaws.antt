@@ -3,12 +3,25 @@
 use mathlib.Core.Path.{_≡_, refl, _∙_, sym}
 use mathlib.Core.Bool.{Bool, true, false}
 use mathlib.Core.List.{List, [], _∷_, _++_}
-use Prim.Native.Nat.{ℕ, _<_}
+use Prim.Native.Nat.{ℕ, _+_, _*_, _/_, _<_, _≤_}
 use native.Mathlib.Omega.{arith}
+use native.Mathlib.Nat.{le-trans, mul-le-mul-left, mul-le-mul-right}
 use borrow.Author.Tests.{ne-eqb}
 use Rattle.words.specs.Refusal.{Refusals, refusal}
 use Rattle.words.proofs.RefusalLaws.{positive, refusal-here, refusal-next, refusal-before, refusal-rest}
+use Rattle.automaton.specs.Transition.{automatonOf}
+use Rattle.automaton.specs.StateSet.{sizeFor}
+use Rattle.operations.specs.Marks.{sizeOf}
 use Rattle.operations.specs.Answer.{Answer, refused, accepted, answerOf, exitOf}
+
+-- ---- sizes
+
+-- a state set of any words has at most 64 words, so that the words of all fit
+pub words-fit : (table : List ℕ) (count size : ℕ) → count ≤ 4096 → size ≡ sizeOf table → count * size ≤ 262144
+unfolding sizeOf sizeFor automatonOf
+words-fit table count size h e =
+    let few : size ≤ 64 = omega arith in
+    le-trans (mul-le-mul-right size h) (mul-le-mul-left 4096 few)
 
 -- ---- a part of the list
 

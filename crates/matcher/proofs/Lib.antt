@@ -8,3 +8,5 @@ pub mod FaultLaws
 pub mod ListingLaws
 pub mod UpwardLaws
 pub mod ExchangeLaws
+pub mod CallLaws
+pub mod RunLaws

@@ -11,8 +11,10 @@ use lib.Seq.{sets, sets-eq, take-at, drop-append-add, drop-drop}
 use Rattle.words.specs.Lists.{listFrom}
 use Rattle.words.proofs.ListLaws.{listFrom-add, length-listFrom}
 use Rattle.automaton.specs.StateSet.{StateSet, contains}
+use Rattle.operations.specs.Answer.{refused, accepted}
 use Rattle.operations.specs.Marks.{sizeOf, finalOf, storedSet}
-use Rattle.operations.specs.Listing.{matchesIn, matchesOf}
+use Rattle.operations.specs.Listing.{matchesIn, matchesOf, listFault, listAnswer, listExit}
+use Rattle.matcher.proofs.FaultLaws.{answer-refused, answer-accepted, exit-refused, exit-accepted}
 
 module _ (final : ℕ) where
   pub matches-append : (l k : List StateSet) (i : ℕ) → matchesIn final i (l ++ k) ≡ matchesIn final i l ++ matchesIn final (i + length l) k
@@ -46,6 +48,14 @@ module _ (final : ℕ) where
   pub match-none : (r : StateSet) (i : ℕ) → contains r final ≡ false → matchesIn final i (r ∷ []) ≡ []
   unfolding matchesIn
   match-none r i h = rw h
+
+-- the part of the marks that is node i's
+pub part-set : (size : ℕ) (table marks : List ℕ) (i : ℕ) → size ≡ sizeOf table
+    → take (i * size + size - i * size) (drop (i * size) marks) ≡ storedSet (sizeOf table) marks i
+unfolding storedSet
+part-set size table marks i e =
+    let q : i * size + size - i * size ≡ size = omega arith in
+    ap (λ (n : ℕ). take n (drop (i * size) marks)) q ∙ ap (λ (n : ℕ). take n (drop (i * n) marks)) e
 
 -- the matches among the first i nodes stand at the front of the list
 pub record Found (table marks list₀ list : List ℕ) (found i : ℕ) : Type 0 where
@@ -106,3 +116,22 @@ module _ (table marks : List ℕ) where
     found-end list found i n g h l =
         let q : i ≡ n = omega arith in
         rw (← q) g
+
+-- ---- the answer and the list at exit
+
+module _ (a table : List ℕ) (n : ℕ) (marks list : List ℕ) (f : ℕ) (e : f ≡ listFault a table n (length marks) (length list)) where
+  pub list-refused : (f ≡ 0 → ⊥) → (refused f ≡ listAnswer a table n marks list) × (list ≡ listExit a table n marks list)
+  unfolding listAnswer listExit
+  list-refused h = (
+    answer-refused f (listFault a table n (length marks) (length list)) e _ h,
+    exit-refused f (listFault a table n (length marks) (length list)) e _ list h,
+  )
+
+  pub list-accepts : f ≡ 0 → (count : ℕ) (list′ : List ℕ) → count ≡ length (matchesOf table n marks)
+      → list′ ≡ matchesOf table n marks ++ drop (length (matchesOf table n marks)) list
+      → (accepted (count ∷ []) ≡ listAnswer a table n marks list) × (list′ ≡ listExit a table n marks list)
+  unfolding listAnswer listExit
+  list-accepts h count list′ c m = (
+    ap (λ (k : ℕ). accepted (k ∷ [])) c ∙ answer-accepted f (listFault a table n (length marks) (length list)) e _ h,
+    m ∙ exit-accepted f (listFault a table n (length marks) (length list)) e _ list h,
+  )

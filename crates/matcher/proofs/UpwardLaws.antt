@@ -92,7 +92,7 @@ module _ (a table ch : List ℕ) where
       above-here = ap above (sym (add-zero i)) ∙ same 0 ∙ ap above′ (add-zero j)
 
       above-later : (t : ℕ) → above (suc i + t) ≡ above′ (suc j + t)
-      above-later t = rw (suc-add, ← add-suc, suc-add j t, ← add-suc j t) (same (suc t))
+      above-later t = rw (suc-add i t, ← add-suc i t, suc-add j t, ← add-suc j t) (same (suc t))
 
       Ih : List StateSet → List StateSet → Type 0
       Ih rows′ stack′ =

@@ -1,2 +1,23 @@
-// Run, List and Exchange.
+// Run, List and Exchange (document 01): state sets for the nodes of a tree, the matches, and the replacement of a subtree.
+pub mod faults;
+pub mod listing;
 pub mod nodes;
+pub mod run;
+
+// What Run answers: the element count and the cells, or the number of the refusal.
+pub enum Ran {
+    Marked(usize, usize),
+    Refused(u32),
+}
+
+// What List answers: how many matches it wrote, or the number of the refusal.
+pub enum Listed {
+    Matches(usize),
+    Refused(u32),
+}
+
+// What Exchange answers: the new element count and how many nodes were recomputed, or the number of the refusal.
+pub enum Exchanged {
+    Replaced(usize, usize),
+    Refused(u32),
+}

@@ -1,0 +1,106 @@
+-- `listing::list_accepted` meets its contract: the loop keeps that the matches among the first i nodes are written.
+-- Assumes nothing.
+use Prim.Native.Nat.{_-_, _*_, _≤_}
+use native.Mathlib.Omega.{arith}
+use lib.ListN.{length}
+use Rattle.matcher.proofs.CallLaws.{list-accepted}
+use Rattle.matcher.proofs.ReadyLaws.{row-inside}
+use Rattle.matcher.proofs.ListingLaws.{Found, found-none, found-more, found-end, part-set, matchesOf-few}
+use borrow.Author.Needs.{needs}
+use Rattle.matcher.proofs.listing.list_accepted.Statement.{statement}
+use Rattle.matcher.proofs.listing.list_accepted.Tie as tie
+
+abbrev Inv-loop : tie.InvT-loop
+Inv-loop alphabet table count marks list₀ size last found₀ i₀ list found i = (i ≤ count) × Found table marks list₀ list found i
+
+abbrev μ-loop : tie.MeasureT-loop
+μ-loop alphabet table count marks list₀ size last found₀ i₀ list found i = count - i
+
+set-size-requires : tie.Need-set-size-requires Inv-loop μ-loop
+set-size-requires c κs = search needs
+
+final-state-requires : tie.Need-final-state-requires Inv-loop μ-loop
+final-state-requires c κs = search needs
+
+loop-holds : tie.Need-loop-holds Inv-loop μ-loop
+loop-holds c = (search needs, found-none _ _ _)
+
+-- the state sets of all nodes lie inside the marks
+row : (c : tie.In-loop Inv-loop μ-loop) → c .before .before .before .before .before .before .before .before .args .count * c .before .before .before .set-size .result ≤ length (c .before .before .before .before .before .before .before .before .args .marks .now)
+row c = rw (c .before .before .before .set-size .ensures) (list-accepted _ _ _ _ _ (c .before .before .before .before .before .before .before .before .pre) .marks)
+
+mul-at : tie.Need-mul-at Inv-loop μ-loop
+mul-at c = let h = row-inside _ _ _ _ (c .loop-test .taken) (row c) in omega arith
+
+add-list-node : tie.Need-add-list-node Inv-loop μ-loop
+add-list-node c = let h = row-inside _ _ _ _ (c .loop-test .taken) (row c) in omega arith
+
+mul-list-node : tie.Need-mul-list-node Inv-loop μ-loop
+mul-list-node c = let h = row-inside _ _ _ _ (c .loop-test .taken) (row c) in omega arith
+
+sub-list-node : tie.Need-sub-list-node Inv-loop μ-loop
+sub-list-node c = search needs
+
+part-list-node-start : tie.Need-part-list-node-start Inv-loop μ-loop
+part-list-node-start c = search needs
+
+part-list-node-end : tie.Need-part-list-node-end Inv-loop μ-loop
+part-list-node-end c = let h = row-inside _ _ _ _ (c .loop-test .taken) (row c) in omega arith
+
+list-node-requires : tie.Need-list-node-requires Inv-loop μ-loop
+list-node-requires c κs =
+    let loop = c .before .before .before in
+    let taken = c .before .before .loop-test .taken in
+    let call = list-accepted _ _ _ _ _ (loop .before .before .before .before .before .before .before .pre) in
+    let few = matchesOf-few (loop .before .before .before .before .before .before .before .args .table .now) (loop .before .before .before .before .before .before .before .args .marks .now) (loop .loop .i) in
+    let found = loop .loop .inv .1 in
+    (omega (arith, call .list, found .count, found .long), omega (arith, call .counted .few))
+
+add-i : tie.Need-add-i Inv-loop μ-loop
+add-i c = search needs
+
+loop-less : tie.Need-loop-less Inv-loop μ-loop
+loop-less c = search needs
+
+loop-again : tie.Need-loop-again Inv-loop μ-loop
+loop-again c =
+    let test = c .before .before .before .before .before in
+    let loop = test .before in
+    let start = loop .before .before .before .before .before .before .before in
+    let node = c .before .before .list-node in (
+      search needs,
+      found-more _ _ _ _ _ _ _ _ _ _ (loop .loop .inv .1) (part-set _ _ _ (loop .loop .i) (loop .before .before .set-size .ensures))
+          (loop .before .final-state .ensures) (omega (arith, test .loop-test .taken, list-accepted _ _ _ _ _ (start .pre) .list))
+          (node .ensures .0) (node .ensures .1) (search needs),
+    )
+
+same-length : tie.Need-same-length Inv-loop μ-loop
+same-length c = search needs
+
+returns : tie.Need-returns Inv-loop μ-loop
+returns c =
+    let inv = c .before .loop .inv in
+    let end = found-end _ _ _ _ _ _ _ (inv .1) (inv .0) (c .loop-test .left) in
+    (end .count, end .words)
+
+pub list-accepted-spec : {M : Type 1} → statement M
+list-accepted-spec =
+    tie.close
+    (tie.spec
+    Inv-loop
+    μ-loop
+    set-size-requires
+    final-state-requires
+    loop-holds
+    mul-at
+    add-list-node
+    mul-list-node
+    sub-list-node
+    part-list-node-start
+    part-list-node-end
+    list-node-requires
+    add-i
+    loop-less
+    loop-again
+    same-length
+    returns)

@@ -1,0 +1,67 @@
+// Run: the state sets of all nodes of a tree, in order.
+ghost use mathlib.Core.Path.{_≡_};
+ghost use mathlib.Core.List.{flatten};
+ghost use lib.ListN.{length};
+ghost use Rattle.operations.specs.Marks.{nodeSets};
+ghost use Rattle.operations.specs.Run.{runFault, runMarks, cellsIn, runAnswer, runExit};
+ghost use Rattle.matcher.specs.Answers.{answerInRan};
+use super::Ran;
+use super::faults::few_marks;
+use super::faults::table_fault;
+use super::faults::wrong_count;
+use super::nodes::mark_nodes;
+use slices::sets::count_cells;
+use tables::head::set_size;
+use words::chapter::tree_fault;
+
+// Document 01's number of the refusal, the first that applies, or 0; `room` is the length of the marks slice.
+fn run_fault(alphabet: &[u32], table: &[u32], chapter: &[u32], room: usize) -> u32
+    ensures { λ r. ⌜ r ≡ runFault (now (alphabet .entry)) (now (table .entry)) (now (chapter .entry)) room ⌝ }
+{
+    let first = table_fault(alphabet, table);
+    if first != 0 {
+        return first;
+    }
+    if wrong_count(chapter.len()) {
+        return 9;
+    }
+    let second = tree_fault(alphabet, chapter);
+    if second != 0 {
+        return second;
+    }
+    if few_marks(table, chapter.len(), room) {
+        return 12;
+    }
+    0
+}
+
+// Marks the chapter of a call that is not refused, and answers the number of ones.
+fn run_accepted(alphabet: &[u32], table: &[u32], chapter: &[u32], marks: &mut [u32]) -> usize
+    requires { ⌜ runFault (now alphabet) (now table) (now chapter) (length (now marks)) ≡ 0 ⌝ }
+    ensures answer { λ r. ⌜ r ≡ cellsIn (flatten (nodeSets (now (alphabet .entry)) (now (table .entry)) (now (chapter .entry)))) ⌝ }
+    ensures marks { λ _. ⌜
+        now (marks .exit) ≡ runMarks (now (alphabet .entry)) (now (table .entry)) (now (chapter .entry)) (now (marks .entry))
+        ⌝ }
+{
+    let count = chapter.len();
+    let mut stack = [0u32; 4096];
+    mark_nodes(alphabet, table, chapter, 0, count, marks, &mut stack, 0);
+    count_cells(&marks[..count * set_size(table)])
+}
+
+// Document 01's Run: marks the chapter, or refuses.
+pub fn run(alphabet: &[u32], table: &[u32], chapter: &[u32], marks: &mut [u32]) -> Ran
+    ensures answer { λ r. ⌜
+        answerInRan r ≡ runAnswer (now (alphabet .entry)) (now (table .entry)) (now (chapter .entry)) (now (marks .entry))
+        ⌝ }
+    ensures marks { λ _. ⌜
+        now (marks .exit) ≡ runExit (now (alphabet .entry)) (now (table .entry)) (now (chapter .entry)) (now (marks .entry))
+        ⌝ }
+{
+    let fault = run_fault(alphabet, table, chapter, marks.len());
+    if fault != 0 {
+        return Ran::Refused(fault);
+    }
+    let cells = run_accepted(alphabet, table, chapter, marks);
+    Ran::Marked(chapter.len(), cells)
+}
