@@ -42,8 +42,9 @@ isTable a (h ∷ ws) = leb (length (h ∷ ws)) 2048 && isHead h && areTransition
 unfoldable pub noTable : List ℕ → List ℕ → Bool
 noTable a table = not (isTable a table)
 
--- The same of automata, whose tables are exactly the words that 8 does not refuse (law `isTable-tables`): each symbol is
--- known, stands over rank-many part states, and each state is below the state count.
+-- The same of automata: each symbol is known and stands over rank-many part states, and each state is below the state
+-- count. The words that 8 does not refuse are exactly the tables of such automata, of at most 2,048 words (law
+-- `isTable-tables`).
 abbrev pub AllBelow : ℕ → List ℕ → Type 0
 AllBelow n [] = Unit {0}
 AllBelow n (p ∷ ps) = (p < n) × AllBelow n ps

@@ -37,7 +37,7 @@ abbrev pub Refuse : List (ℕ × Called) → Type 0
 Refuse [] = Unit {0}
 Refuse (r ∷ rs) = (answerTo (r .1) ≡ refused (r .0)) × Refuse rs
 
--- a constant 0 and a symbol 1 of rank 2; no constant; 16 constants
+-- a constant 0 and a symbol 1 of rank 2; 16 constants
 abbrev two : List ℕ
 two = 0x1000_0000 ∷ 0x1000_0002 ∷ []
 
