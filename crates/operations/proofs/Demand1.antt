@@ -52,7 +52,7 @@ first-positive {rs = (m, b) ∷ rs} {n = n} p (here e) = ltb-true 0 n (and-true 
 first-positive {rs = (m, b) ∷ rs} p (later e f) = first-positive (and-true (ltb 0 m) (positive rs) p .1) f
 
 module _ (vs : List ℕ) where
-  refused-by : (f n : ℕ) → answerOf f vs ≡ refused n → (0 < n) × (f ≡ n)
+  pub refused-by : (f n : ℕ) → answerOf f vs ≡ refused n → (0 < n) × (f ≡ n)
   refused-by zero n h = absurd (let z : _≡_ {A = ℕ} 0 1 = cc in omega arith)
   refused-by (suc f) n h =
       let e : refused (suc f) ≡ refused n = rw (eqb·suc-zero f) at h in

@@ -13,13 +13,17 @@ use Rattle.words.specs.Alphabet.{noAlphabet, wrongConstants}
 use Rattle.words.specs.Expression.{wrongLength, noExpressionWords}
 use Rattle.words.specs.Postfix.{notOneTree}
 use Rattle.operations.specs.Compile.{tooManyStates}
-use Rattle.report.specs.Output.{refusedLine, wrongChapter, marklistFault, marklistOutput}
+use Rattle.report.specs.Output.{refusedLine, wrongChapter, marklistFault, reportLines, marklistOutput}
 
--- ---- a refused call prints its number
+-- ---- a refused call prints its number, any other the lines
 
 pub refused-output : (a e ch : List ℕ) (n : ℕ) → marklistFault a e ch ≡ n → 0 < n → marklistOutput a e ch ≡ refusedLine n
 unfolding marklistOutput
 refused-output a e ch n f h = rw (f, ne-eqb n 0 (λ z. omega arith))
+
+pub accepted-output : (a e ch : List ℕ) → marklistFault a e ch ≡ 0 → marklistOutput a e ch ≡ reportLines a e ch
+unfolding marklistOutput
+accepted-output a e ch f = rw f
 
 some-number : (b : Bool) (n m : ℕ) → 0 < n → 0 < m → 0 < cond b n m
 some-number true n m h k = h

@@ -6,3 +6,4 @@ pub mod KeptLaws
 pub mod OutputLength
 pub mod ProgramLaws
 pub mod SourceExample
+pub mod AnswerLaws

@@ -1,0 +1,209 @@
+-- What Compile, Run and List answer on slices of 2,048, 8,192 and 256 words is what the output is made of: 7, 8, 12 and 13
+-- cannot arise. Assumes nothing.
+use mathlib.Core.Path.{_≡_, refl, ap, _∙_, sym}
+use mathlib.Core.Bool.{Bool, true, false, not, cond, _||_}
+use mathlib.Core.List.{List, [], _∷_, _++_, head-eq-of-cons-eq}
+use Prim.Native.Nat.{ℕ, zero, suc, _+_, _*_, _/_, _<_, _≤_}
+use native.Mathlib.Omega.{arith}
+use native.Mathlib.Decide.{decLe}
+use native.Mathlib.Nat.{mul-le-mul}
+use lib.ListN.{length, take, drop}
+use lib.Seq.{take-at}
+use lib.Dec.{eqb, ltb}
+use borrow.Author.Tests.{lt-ltb, le-ltb, ltb-false, ne-eqb, eqb-true}
+use Rattle.words.specs.Refusal.{Refusals, refusal}
+use Rattle.words.specs.Alphabet.{alphabetRefusals, alphabetFault}
+use Rattle.words.specs.Expression.{expressionRefusals, expressionFault}
+use Rattle.words.specs.Chapter.{treeRefusals}
+use Rattle.words.proofs.RefusalLaws.{NoneHolds, refusal-none, none-refusal, refusal-behind, refusal-before, refusal-rest}
+use Rattle.automaton.specs.Transition.{Automaton, automatonOf}
+use Rattle.automaton.specs.StateSet.{sizeFor}
+use Rattle.automaton.specs.Numbering.{compiled}
+use Rattle.automaton.specs.Table.{isTable, noTable}
+use Rattle.automaton.proofs.CompiledTable.{table-most, compiled-isTable}
+use Rattle.operations.specs.Answer.{Answer, refused, accepted}
+use Rattle.operations.specs.Compile.{compiledTable, tooManyStates, tableTooLong, compileRefusals, compileFault, compileAnswer, compileExit}
+use Rattle.operations.specs.Marks.{sizeOf, finalOf, nodeSets}
+use Rattle.operations.specs.Run.{wrongCount, fewMarks, runFault, runMarks, runAnswer, runExit}
+use Rattle.operations.specs.Listing.{listTooShort, listFault, matchesIn, matchesOf, listAnswer, listExit}
+use Rattle.operations.proofs.AcceptedLaws.{accepted-values, right-count, run-accepted}
+use Rattle.operations.proofs.RunLaws.{run-exit, run-writes, run-length, matches-nodeSets}
+use Rattle.operations.proofs.CompileLaws.{CompileAccepted, compile-accepted}
+use Rattle.operations.proofs.Demand1.{refused-by}
+use Rattle.report.specs.Output.{refusedLine, headLine, hitLines, wrongChapter, marklistFault, hitsOf, marklistOutput}
+use Rattle.report.proofs.KeptLaws.{refused-output, accepted-output}
+
+-- ---- Compile, with a table slice of 2,048 words
+
+module _ (a e : List ℕ) where
+  -- the refusals of Compile but 7
+  abbrev six : Refusals
+  six = alphabetRefusals a ++ (expressionRefusals a e ++ ((6, tooManyStates a e) ∷ []))
+
+  -- an alphabet and a rule that they let pass
+  record Fine : Type 0 where
+    alphabet : alphabetFault a ≡ 0
+    rule : expressionFault a e ≡ 0
+    states : compiled a e .states ≤ 1024
+
+  fine : refusal six ≡ 0 → Fine
+  unfolding tooManyStates
+  fine h =
+      let p = refusal-none six refl h in
+      record {
+        alphabet = none-refusal (alphabetRefusals a) (p .0, (p .1 .0, tt));
+        rule = none-refusal (expressionRefusals a e) (p .1 .1 .0, (p .1 .1 .1 .0, (p .1 .1 .1 .1 .0, tt)));
+        states = ltb-false 1024 (compiled a e .states) (p .1 .1 .1 .1 .1 .0);
+      }
+
+  -- 7 cannot arise
+  compile-six : compileFault a e 2048 ≡ refusal six
+  unfolding tableTooLong
+  compile-six = go (refusal six) refl
+    where
+      last : Refusals
+      last = (7, tableTooLong a e 2048) ∷ []
+
+      go : (n : ℕ) → refusal six ≡ n → refusal (six ++ last) ≡ refusal six
+      go (suc n) h = refusal-before six last (omega arith)
+      go zero h =
+          let f = fine h in
+          let l = table-most a e (f .alphabet) (f .rule) (f .states) in
+          refusal-rest six last refl h ∙ rw (le-ltb 2048 (length (compiledTable a e)) (omega arith)) (sym h)
+
+  -- a refused Compile: its number is printed
+  pub compile-refused : (ch slice : List ℕ) (n : ℕ) → length slice ≡ 2048 → refused n ≡ compileAnswer a e slice → marklistOutput a e ch ≡ refusedLine n
+  unfolding compileAnswer
+  compile-refused ch slice n l h =
+      let q = refused-by (length (compiledTable a e) ∷ []) (compileFault a e (length slice)) n (sym h) in
+      let f : refusal six ≡ n = sym compile-six ∙ ap (compileFault a e) (sym l) ∙ q .1 in
+      let z : 0 < refusal six = let p = q .0 in omega arith in
+      refused-output a e ch n (refusal-before six ((9, wrongChapter ch) ∷ treeRefusals a ch) z ∙ f) (q .0)
+
+  -- ---- an accepted Compile, and Run with marks of 8,192 words
+
+  module _ (ch slice : List ℕ) (k : ℕ) (l : length slice ≡ 2048) (h : accepted (k ∷ []) ≡ compileAnswer a e slice) where
+    fits : compileFault a e (length slice) ≡ 0
+    unfolding compileAnswer
+    fits = accepted-values (compileFault a e (length slice)) (length (compiledTable a e) ∷ []) (k ∷ []) (sym h) .0
+
+    six-none : refusal six ≡ 0
+    six-none = sym compile-six ∙ ap (compileFault a e) (sym l) ∙ fits
+
+    known : CompileAccepted a e slice k
+    known = compile-accepted a e slice k (sym h)
+
+    pub compiled-count : k ≡ length (compiledTable a e)
+    compiled-count = known .count
+
+    pub compiled-table : take k (compileExit a e slice) ≡ compiledTable a e
+    compiled-table = known .table
+
+    -- the refusals that are left
+    pub left-fault : marklistFault a e ch ≡ refusal ((9, wrongChapter ch) ∷ treeRefusals a ch)
+    left-fault = refusal-rest six ((9, wrongChapter ch) ∷ treeRefusals a ch) refl six-none
+
+    -- "Over 256 elements it says 9"
+    pub chapter-over : 256 < length ch → marklistOutput a e ch ≡ refusedLine 9
+    unfolding wrongChapter
+    chapter-over g =
+        refused-output a e ch 9 (left-fault ∙ rw (ne-eqb (length ch) 0 (λ z. omega arith), lt-ltb 256 (length ch) g)) (omega arith)
+
+    -- the state count of the head
+    pub compiled-states : automatonOf (compiledTable a e) .states ≡ compiled a e .states
+    compiled-states = ap (λ A. A .states) (known .automaton)
+
+    size-few : sizeOf (compiledTable a e) ≤ 32
+    unfolding sizeOf sizeFor
+    size-few = let s = fine six-none .states in rw compiled-states (omega arith)
+
+    table-right : noTable a (compiledTable a e) ≡ false
+    unfolding noTable
+    table-right = let f = fine six-none in rw (compiled-isTable a e (f .alphabet) (f .rule) (f .states))
+
+    module _ (few : length ch ≤ 256) where
+      marks-enough : fewMarks (compiledTable a e) (length ch) 8192 ≡ false
+      unfolding fewMarks
+      marks-enough =
+          let p : length ch * sizeOf (compiledTable a e) ≤ 256 * 32 = mul-le-mul few size-few in
+          le-ltb 8192 (length ch * sizeOf (compiledTable a e)) p
+
+      -- 9 is judged alike
+      same-count : wrongCount (length ch) ≡ wrongChapter ch
+      unfolding wrongCount wrongChapter
+      same-count = rw (le-ltb 4096 (length ch) (omega arith), le-ltb 256 (length ch) few)
+
+      -- 8 and 12 cannot arise
+      run-fault : runFault a (compiledTable a e) ch 8192 ≡ marklistFault a e ch
+      run-fault =
+          let p = refusal-none six refl six-none in
+          let q : runFault a (compiledTable a e) ch 8192 ≡ refusal ((9, wrongChapter ch) ∷ treeRefusals a ch) =
+          rw (p .0, p .1 .0, table-right, same-count, marks-enough) in
+          q ∙ sym left-fault
+
+      -- a refused Run: its number is printed
+      pub run-refused : (marks : List ℕ) (n : ℕ) → length marks ≡ 8192 → refused n ≡ runAnswer a (compiledTable a e) ch marks
+          → marklistOutput a e ch ≡ refusedLine n
+      unfolding runAnswer
+      run-refused marks n m g =
+          let q = refused-by _ (runFault a (compiledTable a e) ch (length marks)) n (sym g) in
+          refused-output a e ch n (sym run-fault ∙ ap (runFault a (compiledTable a e) ch) (sym m) ∙ q .1) (q .0)
+
+      -- ---- an accepted Run, and List with a slice of 256 words
+
+      module _ (marks list : List ℕ) (m : length marks ≡ 8192) (r : length list ≡ 256) (n cells : ℕ)
+          (runs : accepted (n ∷ cells ∷ []) ≡ runAnswer a (compiledTable a e) ch marks) where
+        abbrev left : List ℕ
+        left = runExit a (compiledTable a e) ch marks
+
+        run-none : runFault a (compiledTable a e) ch (length marks) ≡ 0
+        unfolding runAnswer
+        run-none = accepted-values (runFault a (compiledTable a e) ch (length marks)) _ (n ∷ cells ∷ []) (sym runs) .0
+
+        none-left : marklistFault a e ch ≡ 0
+        none-left = sym run-fault ∙ ap (runFault a (compiledTable a e) ch) (sym m) ∙ run-none
+
+        left-long : length left ≡ 8192
+        left-long =
+            ap length (run-exit a (compiledTable a e) ch marks run-none)
+            ∙ run-length a (compiledTable a e) ch marks (run-accepted a (compiledTable a e) ch (length marks) run-none .marks) ∙ m
+
+        -- 13 cannot arise either
+        list-none : listFault a (compiledTable a e) (length ch) (length left) (length list) ≡ 0
+        unfolding listTooShort
+        list-none =
+            let p = refusal-none six refl six-none in
+            let c = right-count (length ch) (run-accepted a (compiledTable a e) ch (length marks) run-none .counted) in
+            rw (left-long, r, p .0, p .1 .0, table-right, c, marks-enough) (rw (le-ltb 256 (length ch) few))
+
+        pub list-accepted : (f : ℕ) → refused f ≡ listAnswer a (compiledTable a e) (length ch) left list → ⊥
+        unfolding listAnswer
+        list-accepted f g = let z : _≡_ {A = ℕ} 0 1 = let k : refused f ≡ accepted _ = rw list-none at g in cc in omega arith
+
+        module _ (hits : ℕ) (lists : accepted (hits ∷ []) ≡ listAnswer a (compiledTable a e) (length ch) left list) where
+          matches-are : matchesOf (compiledTable a e) (length ch) left ≡ hitsOf a e ch
+          unfolding hitsOf finalOf
+          matches-are =
+              ap (matchesOf (compiledTable a e) (length ch)) (run-exit a (compiledTable a e) ch marks run-none)
+              ∙ matches-nodeSets a (compiledTable a e) ch (runMarks a (compiledTable a e) ch marks) (run-writes a (compiledTable a e) ch marks)
+              ∙ ap (λ (A : Automaton). matchesIn (A .final) 0 (nodeSets a (compiledTable a e) ch)) (known .automaton)
+
+          hit-count : length (matchesOf (compiledTable a e) (length ch) left) ≡ hits
+          unfolding listAnswer
+          hit-count =
+              let v = accepted-values (listFault a (compiledTable a e) (length ch) (length left) (length list)) _ (hits ∷ []) (sym lists) in
+              head-eq-of-cons-eq (v .1)
+
+          listed : take hits (listExit a (compiledTable a e) (length ch) left list) ≡ matchesOf (compiledTable a e) (length ch) left
+          unfolding listExit
+          listed =
+              let ms = matchesOf (compiledTable a e) (length ch) left in
+              rw list-none (take-at ms (drop (length ms) list) hits hit-count)
+
+          -- the head line and the hit lines of what List wrote
+          pub listed-output : marklistOutput a e ch
+              ≡ headLine (length ch) (automatonOf (compiledTable a e) .states) hits
+              ++ hitLines a ch (take hits (listExit a (compiledTable a e) (length ch) left list))
+          listed-output =
+              accepted-output a e ch none-left
+              ∙ rw (listed, ← matches-are, hit-count, compiled-states)
