@@ -200,6 +200,9 @@ module _ (a e : List ℕ) where
               let ms = matchesOf (compiledTable a e) (length ch) left in
               rw list-none (take-at ms (drop (length ms) list) hits hit-count)
 
+          pub listed-long : hits ≡ length (take hits (listExit a (compiledTable a e) (length ch) left list))
+          listed-long = sym (ap length listed ∙ hit-count)
+
           -- the head line and the hit lines of what List wrote
           pub listed-output : marklistOutput a e ch
               ≡ headLine (length ch) (automatonOf (compiledTable a e) .states) hits

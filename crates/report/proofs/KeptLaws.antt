@@ -13,7 +13,7 @@ use Rattle.words.specs.Alphabet.{noAlphabet, wrongConstants}
 use Rattle.words.specs.Expression.{wrongLength, noExpressionWords}
 use Rattle.words.specs.Postfix.{notOneTree}
 use Rattle.operations.specs.Compile.{tooManyStates}
-use Rattle.report.specs.Output.{refusedLine, wrongChapter, marklistFault, reportLines, marklistOutput}
+use Rattle.report.specs.Output.{refusedLine, wrongChapter, marklistFault, reportLines, marklistOutput, outputOf}
 
 -- ---- a refused call prints its number, any other the lines
 
@@ -24,6 +24,14 @@ refused-output a e ch n f h = rw (f, ne-eqb n 0 (λ z. omega arith))
 pub accepted-output : (a e ch : List ℕ) → marklistFault a e ch ≡ 0 → marklistOutput a e ch ≡ reportLines a e ch
 unfolding marklistOutput
 accepted-output a e ch f = rw f
+
+pub complete-output : (complete : Bool) (a e ch : List ℕ) → complete ≡ true → outputOf complete a e ch ≡ marklistOutput a e ch
+unfolding outputOf
+complete-output complete a e ch t = rw t
+
+pub early-output : (complete : Bool) (a e ch : List ℕ) → complete ≡ false → outputOf complete a e ch ≡ refusedLine 0
+unfolding outputOf
+early-output complete a e ch t = rw t
 
 some-number : (b : Bool) (n m : ℕ) → 0 < n → 0 < m → 0 < cond b n m
 some-number true n m h k = h

@@ -7,3 +7,4 @@ pub mod OutputLength
 pub mod ProgramLaws
 pub mod SourceExample
 pub mod AnswerLaws
+pub mod ReportLaws

@@ -1,4 +1,77 @@
 // What `marklist` reads and prints, as bytes (document 01).
+ghost use mathlib.Core.Path.{_≡_};
+ghost use mathlib.Core.List.{_++_};
+ghost use Prim.Native.Nat.{_≤_};
+ghost use lib.ListN.{length, drop};
+ghost use Rattle.report.specs.Output.{marklistOutput, outputOf};
+ghost use Rattle.report.specs.Writing.{Written};
+use compiler::Compiled;
+use compiler::compile;
+use lines::write_lines;
+use lines::write_refused;
+use matcher::Listed;
+use matcher::Ran;
+use matcher::listing::list;
+use matcher::run::run;
+use tables::head::state_count;
+
 pub mod input;
 mod lines;
 mod writer;
+
+// The most elements of a chapter here.
+pub const CHAPTER_MOST: usize = 256;
+
+// The output for an alphabet, a rule and a chapter. Its own slices are so large that 7, 8, 12 and 13 cannot arise.
+fn report_words(alphabet: &[u32], rule: &[u32], chapter: &[u32], out: &mut [u8]) -> usize
+    ensures { λ r. ⌜
+        Written 0 (marklistOutput (now (alphabet .entry)) (now (rule .entry)) (now (chapter .entry))) (now (out .entry)) (now (out .exit)) r
+        ⌝ }
+{
+    let mut table = [0u32; 2048];
+    let size = match compile(alphabet, rule, &mut table) {
+        Compiled::Table(size) => size,
+        Compiled::Refused(number) => return write_refused(out, number),
+    };
+    if chapter.len() > CHAPTER_MOST {
+        return write_refused(out, 9);
+    }
+    let mut marks = [0u32; 8192];
+    match run(alphabet, &table[..size], chapter, &mut marks) {
+        Ran::Marked(_, _) => (),
+        Ran::Refused(number) => return write_refused(out, number),
+    }
+    ;
+    let mut hits = [0u32; 256];
+    match list(alphabet, &table[..size], chapter.len(), &marks, &mut hits) {
+        Listed::Matches(count) => write_lines(
+            out,
+            alphabet,
+            chapter,
+            state_count(&table[..size]),
+            &hits[..count],
+        ),
+        Listed::Refused(number) => write_refused(out, number),
+    }
+}
+
+// Writes the output of the words that were read: `complete` says whether the input held all that it announced.
+pub fn report(
+    complete: bool,
+    alphabet: &[u32],
+    rule: &[u32],
+    chapter: &[u32],
+    out: &mut [u8],
+) -> usize
+    requires { ⌜ 4096 ≤ length (now out) ⌝ }
+    ensures answer { λ r. ⌜ r ≡ length (outputOf complete (now (alphabet .entry)) (now (rule .entry)) (now (chapter .entry))) ⌝ }
+    ensures out { λ r. ⌜
+        now (out .exit)
+        ≡ outputOf complete (now (alphabet .entry)) (now (rule .entry)) (now (chapter .entry)) ++ drop r (now (out .entry))
+        ⌝ }
+{
+    if complete {
+        return report_words(alphabet, rule, chapter, out);
+    }
+    write_refused(out, 0)
+}

@@ -2,7 +2,8 @@
 ghost use Rattle.report.specs.Output.{refusedLine, headLine, hitLine, hitLines};
 ghost use Rattle.report.specs.Writing.{Written};
 ghost use mathlib.Core.Path.{_≡_};
-ghost use lib.ListN.{getD};
+ghost use mathlib.Core.List.{_++_};
+ghost use lib.ListN.{length, getD};
 ghost use Rattle.words.specs.Chapter.{symbolOf};
 use super::writer::write_byte;
 use super::writer::write_number;
@@ -74,4 +75,23 @@ pub fn write_hits(
         i += 1;
     }
     next
+}
+
+// The head line and the lines of all hits.
+pub fn write_lines(
+    out: &mut [u8],
+    alphabet: &[u32],
+    chapter: &[u32],
+    states: usize,
+    hits: &[u32],
+) -> usize
+    ensures { λ r. ⌜
+        Written 0
+        (headLine (length (now (chapter .entry))) states (length (now (hits .entry)))
+        ++ hitLines (now (alphabet .entry)) (now (chapter .entry)) (now (hits .entry)))
+        (now (out .entry)) (now (out .exit)) r
+        ⌝ }
+{
+    let next = write_head(out, chapter.len(), states, hits.len());
+    write_hits(out, next, alphabet, chapter, hits)
 }
