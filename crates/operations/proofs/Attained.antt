@@ -1,8 +1,8 @@
--- Demand 1: each refusal number of each operation is the answer of some call: one table of rows, one theorem. Assumes
--- nothing.
-use Prim.Native.Nat.{ℕ, zero, suc}
+-- Demand 1: each refusal number of each operation is the answer of some call, also where conditions of later numbers hold:
+-- one table of rows, one theorem. Assumes nothing.
+use Prim.Native.Nat.{ℕ}
 use mathlib.Core.Path.{_≡_, refl}
-use mathlib.Core.List.{List, [], _∷_, _++_}
+use mathlib.Core.List.{List, [], _∷_}
 use lib.ListN.{replicate}
 use Rattle.words.specs.Word.{kindAt, spareBitsClear, isOf}
 use Rattle.words.specs.Alphabet.{isEntry, rankOf, isConstant, constantsFrom, constantsOf, noAlphabet, wrongConstants}
@@ -62,33 +62,33 @@ abbrev pub calls : List (ℕ × Called)
 calls =
     (1, compile [] [] [])
     ∷ (2, compile (0x1000_0002 ∷ []) [] [])
-    ∷ (3, compile two [] [])
-    ∷ (4, compile two (0 ∷ []) [])
+    ∷ (3, compile two (replicate 65 0) [])
+    ∷ (4, compile two (0x7000_0001 ∷ []) [])
     ∷ (5, compile two (0x2000_0001 ∷ []) [])
     ∷ (6, compile sixteen closures [])
     ∷ (7, compile two (0x2000_0000 ∷ []) (0 ∷ []))
     ∷ (1, run (0 ∷ []) [] [] [])
     ∷ (2, run (0x1000_0001 ∷ []) [] [] [])
     ∷ (8, run two [] [] [])
-    ∷ (9, run two one [] [])
-    ∷ (10, run two one (0 ∷ []) [])
+    ∷ (9, run two one (replicate 4097 0x6000_0000) [])
+    ∷ (10, run two one (0x6000_0000 ∷ []) [])
     ∷ (11, run two one (pair ∷ []) [])
     ∷ (12, run two one (leaf ∷ []) [])
     ∷ (1, list (0x1000_0005 ∷ []) [] 0 [] [])
     ∷ (2, list (replicate 17 0x1000_0000) [] 0 [] [])
     ∷ (8, list two (0x8000_0000 ∷ []) 0 [] [])
-    ∷ (9, list two one 0 [] [])
+    ∷ (9, list two one 4097 [] [])
     ∷ (12, list two one 1 [] [])
     ∷ (13, list two one 1 (0 ∷ []) [])
     ∷ (1, exchange [] [] [] [] 0 0 [])
     ∷ (2, exchange (0x1000_0004 ∷ []) [] [] [] 0 0 [])
     ∷ (8, exchange two (0x8000_0401 ∷ []) [] [] 0 0 [])
-    ∷ (9, exchange two one [] [] 1 0 [])
-    ∷ (10, exchange two one (0x6000_0000 ∷ []) [] 1 0 [])
-    ∷ (11, exchange two one (leaf ∷ leaf ∷ []) [] 2 0 [])
+    ∷ (9, exchange two one (0x6000_0000 ∷ []) [] 2 2 [])
+    ∷ (10, exchange two one (0x6000_0000 ∷ []) [] 1 1 [])
+    ∷ (11, exchange two one (leaf ∷ leaf ∷ []) [] 2 2 [])
     ∷ (12, exchange two one (leaf ∷ []) [] 1 1 [])
-    ∷ (14, exchange two one (leaf ∷ []) (0 ∷ []) 1 1 [])
-    ∷ (15, exchange two one (leaf ∷ []) (0 ∷ []) 1 0 [])
+    ∷ (14, exchange two one (leaf ∷ []) (0 ∷ []) 1 1 (leaf ∷ leaf ∷ []))
+    ∷ (15, exchange two one (leaf ∷ []) (0 ∷ []) 1 0 (leaf ∷ leaf ∷ []))
     ∷ (16, exchange two one (leaf ∷ []) (0 ∷ []) 1 0 (leaf ∷ leaf ∷ pair ∷ []))
     ∷ []
 

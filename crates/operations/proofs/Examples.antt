@@ -16,6 +16,7 @@ use Rattle.words.specs.Tree.{Tree}
 use Rattle.language.specs.Expression.{Expression, empty, union, product, closure}
 use Rattle.language.specs.Membership.{constant, Member}
 use Rattle.language.proofs.Examples.{con, fᵉ, f as fᵗ, closure-empty, by-empty, by-empty-none, separately, put-once, not-twice, joined}
+use Rattle.automaton.proofs.CompiledExample.{alphabet, rule}
 use Rattle.automaton.specs.Transition.{transitionsAt, automatonOf, headWord}
 use Rattle.automaton.specs.Numbering.{hasEntries, statesOf, portOf, ownTransitions, portsFrom, statesAfter, transitionsFrom, compiled}
 use Rattle.automaton.specs.Table.{isHead, isTableWord, sourcesLeft, areTransitions, isTable, noTable}
@@ -23,19 +24,10 @@ use Rattle.automaton.specs.StateSet.{sizeFor, contains, insert, allContained, m
 use Rattle.operations.specs.Answer.{Answer, refused, accepted, firstValue}
 use Rattle.operations.specs.Compile.{compiledTable, compileFault, tooManyStates, tableTooLong}
 use Rattle.operations.specs.Marks.{sizeOf, finalOf, nodeSet, nodeSets, storedSet, sameWords, refit}
-use Rattle.operations.specs.Run.{wrongCount, fewMarks, runFault, runMarks, cellsIn, runAnswer}
-use Rattle.operations.specs.Listing.{listTooShort, listFault, matchesIn, matchesOf, listExit}
+use Rattle.operations.specs.Run.{wrongCount, fewMarks, runFault, runMarks, cellsIn, runAnswer, runExit}
+use Rattle.operations.specs.Listing.{matchesIn, matchesOf}
 use Rattle.operations.proofs.Demand2.{Calls, AllAccepted, namesOf, demand2, demand2-of}
 use Rattle.operations.specs.Exchange.{wrongUse, noElement, noReplacement, resultTooLong, recomputedIn, climb, rootSet, outcomesBehind, outcomesAfter, fault, newTree, outcomes, exchangeAnswer, exchangeChapter, exchangeMarks}
-
--- "Alphabet a, b, c, d of rank 0, f of rank 2, g and h of rank 1, numbered 0 to 6."
-abbrev alphabet : List ℕ
-alphabet = 0x1000_0000 ∷ 0x1000_0000 ∷ 0x1000_0000 ∷ 0x1000_0000 ∷ 0x1000_0002 ∷ 0x1000_0001 ∷ 0x1000_0001 ∷ []
-
--- "Rule a b f c g d (product over c) union (closure over d)"
-abbrev rule : List ℕ
-rule =
-    0x2000_0000 ∷ 0x2000_0001 ∷ 0x2000_0004 ∷ 0x2000_0002 ∷ 0x2000_0005 ∷ 0x2000_0003 ∷ 0x5000_0002 ∷ 0x4000_0000 ∷ 0x6000_0003 ∷ []
 
 -- nodes
 abbrev a : ℕ
@@ -43,6 +35,9 @@ a = 0x7000_0000
 
 abbrev b : ℕ
 b = 0x7000_0001
+
+abbrev c : ℕ
+c = 0x7000_0002
 
 abbrev d : ℕ
 d = 0x7000_0003
@@ -77,13 +72,12 @@ pub record Listed (al e ch : List ℕ) (states words head : ℕ) (lines : List (
       (matchesOf (compiledTable al e) (length ch) (runMarks al (compiledTable al e) ch (replicate (length ch) 0)))
       ≡ lines
 
--- what an Exchange of a node of the chapter answers and leaves, where these marks are stored; and what List then names.
--- The chapter slice has three words more, 1, 2 and 3.
-pub record Exchanged (stored : List ℕ) (e : ℕ) (xs : List ℕ) (answer : Answer) (left : List ℕ) (leftMarks : List ℕ) (hits : List ℕ) : Type 0 where
-  pub answers : exchangeAnswer alphabet (compiledTable alphabet rule) (chapter ++ (1 ∷ 2 ∷ 3 ∷ [])) stored 7 e xs ≡ answer
-  pub chapterLeft : exchangeChapter alphabet (compiledTable alphabet rule) (chapter ++ (1 ∷ 2 ∷ 3 ∷ [])) stored 7 e xs ≡ left
-  pub marksLeft : exchangeMarks alphabet (compiledTable alphabet rule) (chapter ++ (1 ∷ 2 ∷ 3 ∷ [])) stored 7 e xs ≡ leftMarks
-  pub lists : matchesOf (compiledTable alphabet rule) (firstValue answer 7) leftMarks ≡ hits
+-- what an Exchange answers and leaves with the table of a rule, where these marks are stored; and what List then names
+pub record Exchanged (rl slice stored : List ℕ) (n e : ℕ) (xs : List ℕ) (answer : Answer) (left : List ℕ) (leftMarks : List ℕ) (hits : List ℕ) : Type 0 where
+  pub answers : exchangeAnswer alphabet (compiledTable alphabet rl) slice stored n e xs ≡ answer
+  pub chapterLeft : exchangeChapter alphabet (compiledTable alphabet rl) slice stored n e xs ≡ left
+  pub marksLeft : exchangeMarks alphabet (compiledTable alphabet rl) slice stored n e xs ≡ leftMarks
+  pub lists : matchesOf (compiledTable alphabet rl) (firstValue answer n) leftMarks ≡ hits
 
 -- every call of Compile, Run and List with the alphabet and this rule, whatever the chapter: List names exactly the nodes
 -- whose subtrees have the property
@@ -101,7 +95,8 @@ pub data Row : Type 0 where
   hitsAt : (e : List ℕ) (c : ℕ) → Row
   running : (al e ch : List ℕ) (answer : Answer) → Row
   listing : (al e ch : List ℕ) (states words head : ℕ) (lines : List (ℕ × ℕ × ℕ)) → Row
-  exchanging : (stored : List ℕ) (e : ℕ) (xs : List ℕ) (answer : Answer) (left leftMarks hits : List ℕ) → Row
+  marking : (al e ch slice left : List ℕ) → Row
+  exchanging : (rl slice stored : List ℕ) (n e : ℕ) (xs : List ℕ) (answer : Answer) (left leftMarks hits : List ℕ) → Row
 
 abbrev pub Holds : Row → Type 0
 Holds (member E t) = Member E t
@@ -111,32 +106,45 @@ Holds (noHits e) = Names e (λ t. ⊥)
 Holds (hitsAt e c) = Names e (λ t. t ≡ constant c)
 Holds (listing al e ch states words head lines) = Listed al e ch states words head lines
 Holds (running al e ch answer) = runAnswer al (compiledTable al e) ch (replicate (length ch) 0) ≡ answer
-Holds (exchanging stored e xs answer left leftMarks hits) = Exchanged stored e xs answer left leftMarks hits
+Holds (marking al e ch slice left) = runExit al (compiledTable al e) ch slice ≡ left
+Holds (exchanging rl slice stored n e xs answer left leftMarks hits) = Exchanged rl slice stored n e xs answer left leftMarks hits
 
 abbrev pub AllHold : List Row → Type 0
 AllHold [] = Unit {0}
 AllHold (r ∷ rs) = Holds r × AllHold rs
 
+-- an exchange in the source's chapter, whose slice has three words more
+abbrev slice : List ℕ
+slice = chapter ++ (1 ∷ 2 ∷ 3 ∷ [])
+
+abbrev inSource : List ℕ → ℕ → List ℕ → Answer → List ℕ → List ℕ → List ℕ → Row
+inSource stored e xs answer left leftMarks hits = exchanging rule slice stored 7 e xs answer left leftMarks hits
+
 abbrev pub rows : List Row
 rows =
     -- the source's own example: "29 states, 36 table words, head 0x80007418" and the program's lines
     listing alphabet rule chapter 29 36 0x8000_7418 ((2, 4, 3) ∷ (3, 3, 1) ∷ (4, 5, 2) ∷ [])
+    -- the marks that Run leaves, which the exchanges below find
+    ∷ marking alphabet rule chapter (0 ∷ 0 ∷ 0 ∷ 0 ∷ 0 ∷ 0 ∷ 0 ∷ 7 ∷ 7 ∷ 7 ∷ []) marks
     -- "Rule d alone, chapter d: one hit, one cell."
     ∷ listing alphabet (0x2000_0003 ∷ []) (d ∷ []) 1 2 0x8000_0400 ((0, 3, 1) ∷ [])
     ∷ running alphabet (0x2000_0003 ∷ []) (d ∷ []) (accepted (1 ∷ 1 ∷ []))
     -- "Exchange element 4 for d: 6 elements, 2 worked out, hits 2 and 3."
-    ∷ exchanging marks 4 (d ∷ []) (accepted (6 ∷ 2 ∷ []))
+    ∷ inSource marks 4 (d ∷ []) (accepted (6 ∷ 2 ∷ []))
     (a ∷ b ∷ f ∷ d ∷ h ∷ f ∷ 0 ∷ 1 ∷ 2 ∷ 3 ∷ [])
     (34636297 ∷ 69272594 ∷ 25966788 ∷ 293877952 ∷ 0 ∷ 0 ∷ 0 ∷ 7 ∷ 7 ∷ 7 ∷ [])
     (2 ∷ 3 ∷ [])
     -- "Instead for a b f g: 9 elements, 4 worked out, hits 2, 5, 6."
-    ∷ exchanging marks 4 (a ∷ b ∷ f ∷ g ∷ []) (accepted (9 ∷ 4 ∷ []))
+    ∷ inSource marks 4 (a ∷ b ∷ f ∷ g ∷ []) (accepted (9 ∷ 4 ∷ []))
     (a ∷ b ∷ f ∷ a ∷ b ∷ f ∷ g ∷ h ∷ f ∷ 3 ∷ [])
     (34636297 ∷ 69272594 ∷ 25966788 ∷ 34636297 ∷ 69272594 ∷ 25966788 ∷ 25983424 ∷ 0 ∷ 0 ∷ 7 ∷ [])
     (2 ∷ 5 ∷ 6 ∷ [])
     -- "Empty rule: no hit anywhere. Its closure over c: hits at c only."
     ∷ noHits (0x3000_0000 ∷ [])
+    ∷ listing alphabet (0x3000_0000 ∷ []) (d ∷ []) 1 1 0x8000_0400 []
     ∷ hitsAt (0x3000_0000 ∷ 0x6000_0002 ∷ []) 2
+    ∷ listing alphabet (0x3000_0000 ∷ 0x6000_0002 ∷ []) (c ∷ []) 6 7 0x8000_1801 ((0, 2, 1) ∷ [])
+    ∷ running alphabet (0x3000_0000 ∷ 0x6000_0002 ∷ []) (c ∷ []) (accepted (1 ∷ 2 ∷ []))
     -- "f(a,b) by the empty rule over c keeps f(a,b); f(a,c) by it has no member."
     ∷ member (product 2 (fᵉ (con 0) (con 1)) empty) (fᵗ (constant 0) (constant 1))
     ∷ noMembers (product 2 (fᵉ (con 0) (con 2)) empty)
@@ -148,24 +156,30 @@ rows =
     -- "Closure over c of f(c,c) + a has f(c, f(c,c))."
     ∷ member (closure 2 (union (fᵉ (con 2) (con 2)) (con 0))) (fᵗ (constant 2) (fᵗ (constant 2) (constant 2)))
     -- the same for the same: the root's marks are unchanged, no ancestor is worked out
-    ∷ exchanging marks 3 (d ∷ []) (accepted (7 ∷ 1 ∷ [])) (chapter ++ (1 ∷ 2 ∷ 3 ∷ [])) marks (2 ∷ 3 ∷ 4 ∷ [])
+    ∷ inSource marks 3 (d ∷ []) (accepted (7 ∷ 1 ∷ [])) slice marks (2 ∷ 3 ∷ 4 ∷ [])
     -- a false mark at the element itself: one ancestor is worked out, and comes out unchanged
-    ∷ exchanging (set marks 3 0) 3 (d ∷ []) (accepted (7 ∷ 2 ∷ [])) (chapter ++ (1 ∷ 2 ∷ 3 ∷ [])) marks (2 ∷ 3 ∷ 4 ∷ [])
+    ∷ inSource (set marks 3 0) 3 (d ∷ []) (accepted (7 ∷ 2 ∷ [])) slice marks (2 ∷ 3 ∷ 4 ∷ [])
+    -- true marks, rule d g h and chapter d g h: at g the hit is the same and the marks are others, so work goes on to h
+    ∷ exchanging (0x2000_0003 ∷ 0x2000_0005 ∷ 0x2000_0006 ∷ []) (d ∷ g ∷ h ∷ []) (1057 ∷ 2 ∷ 64 ∷ []) 3 0 (a ∷ []) (accepted (3 ∷ 3 ∷ []))
+    (a ∷ g ∷ h ∷ [])
+    (132 ∷ 0 ∷ 0 ∷ [])
+    []
+    ∷ marking alphabet (0x2000_0003 ∷ 0x2000_0005 ∷ 0x2000_0006 ∷ []) (d ∷ g ∷ h ∷ []) (0 ∷ 0 ∷ 0 ∷ []) (1057 ∷ 2 ∷ 64 ∷ [])
     -- an ancestor with the same hit and other marks, a bit beyond the last state: work goes on to the next
-    ∷ exchanging (set (set marks 3 0) 4 2173467072) 3 (d ∷ []) (accepted (7 ∷ 3 ∷ [])) (chapter ++ (1 ∷ 2 ∷ 3 ∷ [])) marks (2 ∷ 3 ∷ 4 ∷ [])
+    ∷ inSource (set (set marks 3 0) 4 2173467072) 3 (d ∷ []) (accepted (7 ∷ 3 ∷ [])) slice marks (2 ∷ 3 ∷ 4 ∷ [])
     -- false marks beside the way count as they stand, and stay
-    ∷ exchanging (set marks 2 0) 3 (a ∷ []) (accepted (7 ∷ 3 ∷ []))
+    ∷ inSource (set marks 2 0) 3 (a ∷ []) (accepted (7 ∷ 3 ∷ []))
     (a ∷ b ∷ f ∷ a ∷ g ∷ h ∷ f ∷ 1 ∷ 2 ∷ 3 ∷ [])
     (34636297 ∷ 69272594 ∷ 0 ∷ 34636297 ∷ 0 ∷ 0 ∷ 0 ∷ 7 ∷ 7 ∷ 7 ∷ [])
     []
     -- false marks above the ancestor that comes out unchanged stay
-    ∷ exchanging (set marks 6 5) 4 (d ∷ []) (accepted (6 ∷ 2 ∷ []))
+    ∷ inSource (set marks 6 5) 4 (d ∷ []) (accepted (6 ∷ 2 ∷ []))
     (a ∷ b ∷ f ∷ d ∷ h ∷ f ∷ 0 ∷ 1 ∷ 2 ∷ 3 ∷ [])
     (34636297 ∷ 69272594 ∷ 25966788 ∷ 293877952 ∷ 0 ∷ 5 ∷ 0 ∷ 7 ∷ 7 ∷ 7 ∷ [])
     (2 ∷ 3 ∷ [])
     -- 15 comes before 16
-    ∷ exchanging marks 3 (d ∷ d ∷ d ∷ d ∷ d ∷ []) (refused 15) (chapter ++ (1 ∷ 2 ∷ 3 ∷ [])) marks (2 ∷ 3 ∷ 4 ∷ [])
-    ∷ exchanging marks 3 (d ∷ g ∷ g ∷ g ∷ g ∷ []) (refused 16) (chapter ++ (1 ∷ 2 ∷ 3 ∷ [])) marks (2 ∷ 3 ∷ 4 ∷ [])
+    ∷ inSource marks 3 (d ∷ d ∷ d ∷ d ∷ d ∷ []) (refused 15) slice marks (2 ∷ 3 ∷ 4 ∷ [])
+    ∷ inSource marks 3 (d ∷ g ∷ g ∷ g ∷ g ∷ []) (refused 16) slice marks (2 ∷ 3 ∷ 4 ∷ [])
     ∷ []
 
 -- the empty rule, and its closure over c, are the words of these expressions
@@ -187,12 +201,93 @@ one-cell : accepted (1 ∷ (ones 1 + 0) ∷ []) ≡ accepted (1 ∷ 1 ∷ [])
 unfolding ones onesIn
 one-cell = refl
 
+two-cells : accepted (1 ∷ (ones 18 + 0) ∷ []) ≡ accepted (1 ∷ 2 ∷ [])
+unfolding ones onesIn
+two-cells = refl
+
 pub examples : AllHold rows
 unfolding kindAt spareBitsClear isOf isEntry rankOf isConstant constantsFrom constantsOf noAlphabet wrongConstants arity trees
     notOneTree isExpressionWord wrongLength noExpressionWords hasEntries statesOf portOf ownTransitions portsFrom statesAfter transitionsFrom compiled
     tooManyStates tableTooLong flatMap flatten isNode noNodes isHead isTableWord sourcesLeft areTransitions isTable noTable wrongCount fewMarks transitionsAt
-    automatonOf sizeFor contains insert allContained move sweep sweeps stateSet sizeOf finalOf nodeSet nodeSets values valueOn runMarks cellsIn runAnswer storedSet startFrom
+    automatonOf sizeFor contains insert allContained move sweep sweeps stateSet sizeOf finalOf nodeSet nodeSets values valueOn runMarks cellsIn runAnswer runExit storedSet startFrom
     matchesIn matchesOf splice isAncestor stackAfter stackGiven sameWords refit wrongUse noElement noReplacement resultTooLong recomputedIn climb rootSet
     outcomesBehind outcomesAfter fault newTree outcomes exchangeAnswer exchangeChapter exchangeMarks
-examples =
-    (record { compiles = refl; stateCount = refl; wordCount = refl; headIs = refl; runs = refl; hits = refl }, (record { compiles = refl; stateCount = refl; wordCount = refl; headIs = refl; runs = refl; hits = refl }, (one-cell, (record { answers = refl; chapterLeft = refl; marksLeft = refl; lists = refl }, (record { answers = refl; chapterLeft = refl; marksLeft = refl; lists = refl }, (names-empty, (names-closure, (by-empty, (by-empty-none, (separately, (put-once, (not-twice, (joined, (record { answers = refl; chapterLeft = refl; marksLeft = refl; lists = refl }, (record { answers = refl; chapterLeft = refl; marksLeft = refl; lists = refl }, (record { answers = refl; chapterLeft = refl; marksLeft = refl; lists = refl }, (record { answers = refl; chapterLeft = refl; marksLeft = refl; lists = refl }, (record { answers = refl; chapterLeft = refl; marksLeft = refl; lists = refl }, (record { answers = refl; chapterLeft = refl; marksLeft = refl; lists = refl }, (record { answers = refl; chapterLeft = refl; marksLeft = refl; lists = refl }, tt))))))))))))))))))))
+examples = (
+  record { compiles = refl; stateCount = refl; wordCount = refl; headIs = refl; runs = refl; hits = refl },
+  (
+    refl,
+    (
+      record { compiles = refl; stateCount = refl; wordCount = refl; headIs = refl; runs = refl; hits = refl },
+      (
+        one-cell,
+        (
+          record { answers = refl; chapterLeft = refl; marksLeft = refl; lists = refl },
+          (
+            record { answers = refl; chapterLeft = refl; marksLeft = refl; lists = refl },
+            (
+              names-empty,
+              (
+                record { compiles = refl; stateCount = refl; wordCount = refl; headIs = refl; runs = refl; hits = refl },
+                (
+                  names-closure,
+                  (
+                    record { compiles = refl; stateCount = refl; wordCount = refl; headIs = refl; runs = refl; hits = refl },
+                    (
+                      two-cells,
+                      (
+                        by-empty,
+                        (
+                          by-empty-none,
+                          (
+                            separately,
+                            (
+                              put-once,
+                              (
+                                not-twice,
+                                (
+                                  joined,
+                                  (
+                                    record { answers = refl; chapterLeft = refl; marksLeft = refl; lists = refl },
+                                    (
+                                      record { answers = refl; chapterLeft = refl; marksLeft = refl; lists = refl },
+                                      (
+                                        record { answers = refl; chapterLeft = refl; marksLeft = refl; lists = refl },
+                                        (
+                                          refl,
+                                          (
+                                            record { answers = refl; chapterLeft = refl; marksLeft = refl; lists = refl },
+                                            (
+                                              record { answers = refl; chapterLeft = refl; marksLeft = refl; lists = refl },
+                                              (
+                                                record { answers = refl; chapterLeft = refl; marksLeft = refl; lists = refl },
+                                                (
+                                                  record { answers = refl; chapterLeft = refl; marksLeft = refl; lists = refl },
+                                                  (
+                                                    record { answers = refl; chapterLeft = refl; marksLeft = refl; lists = refl },
+                                                    tt,
+                                                  ),
+                                                ),
+                                              ),
+                                            ),
+                                          ),
+                                        ),
+                                      ),
+                                    ),
+                                  ),
+                                ),
+                              ),
+                            ),
+                          ),
+                        ),
+                      ),
+                    ),
+                  ),
+                ),
+              ),
+            ),
+          ),
+        ),
+      ),
+    ),
+  ),
+)
