@@ -3,3 +3,9 @@ pub mod TailLaws
 pub mod ClimbLaws
 pub mod RiseLaws
 pub mod UpwardLaws
+pub mod CallLaws
+pub mod MovedLaws
+pub mod ExchangeLaws
+pub mod NodesLaws
+pub mod ReplaceLaws
+pub mod AnswerLaws

@@ -1,3 +1,5 @@
 pub mod Faults
 pub mod Tail
 pub mod Climbing
+pub mod Exchanging
+pub mod Answers

@@ -66,13 +66,13 @@ module _ (a table : List ℕ) (stored : ℕ → StateSet) (ch : List ℕ) (e : �
     length-tree : length tree ≡ s + (length x + length behind)
     length-tree = length-splice a ch e x he
 
-    length-movedSets : length movedSets ≡ s + (length x + length behind)
+    pub length-movedSets : length movedSets ≡ s + (length x + length behind)
     length-movedSets =
         length-append (listFrom stored 0 s) (gap ++ listFrom stored (e + 1) (length behind))
         ∙ ap₂ (λ (i j : ℕ). i + j) (length-listFrom stored s 0)
         (length-append gap (listFrom stored (e + 1) (length behind)) ∙ ap₂ (λ (i j : ℕ). i + j) hg (length-listFrom stored (length behind) (e + 1)))
 
-    length-replacedSets : (k : ℕ) → length (replacedSets k) ≡ length movedSets
+    pub length-replacedSets : (k : ℕ) → length (replacedSets k) ≡ length movedSets
     unfolding replacedSets
     length-replacedSets zero = refl
     length-replacedSets (suc k) = length-set (replacedSets k) (s + k) _ ∙ length-replacedSets k
@@ -90,7 +90,7 @@ module _ (a table : List ℕ) (stored : ℕ → StateSet) (ch : List ℕ) (e : �
         ∙ ap (λ (t : List ℕ). take s ch ++ t) (take-at x behind (length x) refl))
         ∙ drop-at (take s ch) x s length-front
 
-    words-behind : drop (s + length x) tree ≡ behind
+    pub words-behind : drop (s + length x) tree ≡ behind
     unfolding splice
     words-behind =
         ap (λ (i : ℕ). drop (i + length x) tree) (sym length-front) ∙ drop-append-add (take s ch) (x ++ behind) (length x)

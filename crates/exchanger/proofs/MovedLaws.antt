@@ -1,0 +1,116 @@
+-- The marks whose tail has moved hold the state sets that the loops of Exchange begin with: those before the place, whatever
+-- stands in the gap, and those behind. Assumes nothing.
+use mathlib.Core.Path.{_≡_, refl, ap, ap₂, _∙_, sym}
+use mathlib.Core.List.{List, [], _∷_, _++_, flatten, append-assoc}
+use Prim.Native.Nat.{ℕ, _+_, _-_, _*_, max}
+use native.Mathlib.Omega.{arith}
+use native.Mathlib.Nat.{zero-add, zero-mul, add-mul, one-mul}
+use lib.ListN.{length, take, drop, replicate, length-drop}
+use lib.Seq.{slice}
+use Rattle.words.specs.Lists.{listFrom}
+use Rattle.words.specs.Postfix.{startOf}
+use Rattle.words.proofs.ListLaws.{listFrom-add}
+use Rattle.automaton.specs.StateSet.{StateSet}
+use Rattle.operations.specs.Marks.{sizeOf, storedSet, refit}
+use Rattle.operations.specs.Exchange.{fault}
+use Rattle.operations.proofs.MarksLaws.{Sized}
+use Rattle.operations.proofs.ExchangeLoops.{movedSets}
+use Rattle.slices.proofs.RefitLaws.{take-drop}
+use Rattle.slices.proofs.RowLaws.{sized-stored, flatten-stored}
+use Rattle.matcher.proofs.MarkLaws.{Holding}
+use Rattle.exchanger.proofs.TailLaws.{length-kept}
+use Rattle.exchanger.proofs.CallLaws.{Numbers, numbers, marks-fits, length-used}
+
+pub flatten-append : (l k : List StateSet) → flatten (l ++ k) ≡ flatten l ++ flatten k
+unfolding flatten
+flatten-append [] k = refl
+flatten-append (r ∷ l) k = ap (λ (t : List ℕ). r ++ t) (flatten-append l k) ∙ sym (append-assoc r (flatten l) (flatten k))
+
+pub sized-append : (size : ℕ) (l k : List StateSet) → Sized size l → Sized size k → Sized size (l ++ k)
+sized-append size [] k h g = g
+sized-append size (r ∷ l) k h g = (h .0, sized-append size l k (h .1) g)
+
+-- what stands behind the words in use
+abbrev pub behindUse : ℕ → ℕ → List ℕ → List ℕ
+behindUse old new slice = replicate (old - new) 0 ++ drop (max old new) slice
+
+module _ (a table chapter marks : List ℕ) (n e : ℕ) (xs : List ℕ) (ok : fault a table chapter marks n e xs ≡ 0) where
+  abbrev size : ℕ
+  size = sizeOf table
+
+  abbrev stored : ℕ → StateSet
+  stored = storedSet size marks
+
+  abbrev used : List ℕ
+  used = take n chapter
+
+  abbrev s : ℕ
+  s = startOf a used e
+
+  abbrev k : ℕ
+  k = n - e - 1
+
+  -- whatever stood where the replacement's sets come
+  abbrev pub gapSets : List StateSet
+  gapSets = listFrom stored s (length xs)
+
+  facts : Numbers a table chapter marks n e xs s size
+  facts = numbers a table chapter marks n e xs ok s refl size refl
+
+  behind-count : length (drop (e + 1) used) ≡ k
+  behind-count = length-drop (e + 1) used ∙ ap (λ (i : ℕ). i - (e + 1)) (length-used a table chapter marks n e xs ok) ∙ omega arith
+
+  front-words : flatten (listFrom stored 0 (s + length xs)) ≡ take ((s + length xs) * size) marks
+  front-words = flatten-stored size marks (s + length xs) 0 ∙ ap (λ (i : ℕ). take ((s + length xs) * size) (drop i marks)) (zero-mul size)
+
+  end-words : (e + 1) * size ≡ e * size + size
+  end-words = add-mul e 1 size ∙ ap (λ (i : ℕ). e * size + i) (one-mul size)
+
+  tail-words : flatten (listFrom stored (e + 1) k) ≡ slice (e * size + size) (n * size) marks
+  tail-words =
+      let old = facts .old-words in
+      let c : k * size ≡ n * size - (e * size + size) = omega arith in
+      flatten-stored size marks k (e + 1)
+      ∙ ap₂ (λ (i j : ℕ). take i (drop j marks)) c end-words
+      ∙ take-drop (e * size + size) (n * size) marks (omega arith)
+
+  sets-words : flatten (movedSets a table stored used e xs gapSets) ≡ take ((s + length xs) * size) marks ++ slice (e * size + size) (n * size) marks
+  sets-words =
+      let tail = listFrom stored (e + 1) k in
+      ap (λ (i : ℕ). flatten (listFrom stored 0 s ++ (gapSets ++ listFrom stored (e + 1) i))) behind-count
+      ∙ ap flatten
+      (sym (append-assoc (listFrom stored 0 s) gapSets tail)
+      ∙ ap (λ (i : ℕ). (listFrom stored 0 s ++ listFrom stored i (length xs)) ++ tail) (sym (zero-add s))
+      ∙ ap (λ (l : List StateSet). l ++ tail) (sym (listFrom-add stored s (length xs) 0)))
+      ∙ flatten-append (listFrom stored 0 (s + length xs)) tail ∙ ap₂ (λ (l r : List ℕ). l ++ r) front-words tail-words
+
+  sets-sized : Sized size (movedSets a table stored used e xs gapSets)
+  sets-sized =
+      let old = facts .old-room in
+      let new = facts .new-room in
+      let w = facts .new-words in
+      let m = add-mul s (length xs) size in
+      let o = facts .old-words in
+      let all : e + 1 + length (drop (e + 1) used) ≡ n = let i = facts .inside in omega (arith, behind-count) in
+      sized-append size (listFrom stored 0 s) (gapSets ++ listFrom stored (e + 1) (length (drop (e + 1) used)))
+      (sized-stored size marks s 0 (rw (zero-add s) (omega arith)))
+      (sized-append size gapSets (listFrom stored (e + 1) (length (drop (e + 1) used)))
+      (sized-stored size marks (length xs) s (omega arith))
+      (sized-stored size marks (length (drop (e + 1) used)) (e + 1) (rw all old)))
+
+  -- the marks behind the move
+  pub moved-holds : (moved : List ℕ)
+      → moved ≡ refit (n * size) (take ((s + length xs) * size) marks ++ slice (e * size + size) (n * size) marks) marks
+      → Holding (sizeOf table) moved (movedSets a table stored used e xs gapSets)
+      (behindUse (n * size) ((s + length xs + k) * size) marks)
+  unfolding refit
+  moved-holds moved q =
+      let words = take ((s + length xs) * size) marks ++ slice (e * size + size) (n * size) marks in
+      let old = facts .old-words in
+      let new = facts .new-words in
+      let l : length words ≡ (s + length xs + k) * size =
+      length-kept marks (n * size) (e * size + size) ((s + length xs) * size) (marks-fits a table chapter marks n e xs ok s refl size refl) ∙ omega arith in
+      record {
+        words = q ∙ ap₂ (λ (t : List ℕ) (i : ℕ). t ++ behindUse (n * size) i marks) (sym sets-words) l;
+        sized = sets-sized;
+      }
