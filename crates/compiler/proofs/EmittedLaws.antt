@@ -1,12 +1,12 @@
 -- Laws of the loop that writes the own transitions of a rule's words: a stack of ports in an array, one word more, and the
 -- whole rule. Assumes nothing.
 use mathlib.Core.Path.{_≡_, refl, ap, ap₂, _∙_, sym, subst}
-use mathlib.Core.Bool.{Bool, true, false}
-use mathlib.Core.List.{List, [], _∷_, _++_, map, reverse, reverseAux, reverseAux-append, append-assoc, append-nil}
-use Prim.Native.Nat.{ℕ, zero, suc, _+_, _*_, _-_, _<_, _≤_}
+use mathlib.Core.Bool.{true}
+use mathlib.Core.List.{List, [], _∷_, _++_, reverse, reverseAux, reverseAux-append, append-assoc, append-nil}
+use Prim.Native.Nat.{ℕ, _+_, _*_, _-_, _<_, _≤_}
 use native.Mathlib.Omega.{arith}
 use native.Mathlib.Numerals.{add-one}
-use lib.ListN.{length, getD, take, drop, set, length-take, length-drop, length-set, length-map}
+use lib.ListN.{length, getD, take, drop, set, length-drop, length-set, length-map}
 use lib.Seq.{take-add, take-suc-set, length-take-le}
 use lib.Dec.{leb}
 use borrow.Author.Tests.{leb-true}
@@ -120,7 +120,8 @@ module _ {a cs e : List ℕ} {at : ℕ} {out out′ stack : List ℕ} {height st
   unfolding trees
   step h =
       let r = arity a (getD e i 0) in
-      picked (leb r height) (trees a (height - r + 1) (drop (i + 1) e) 1) (subst (λ (l : List ℕ). trees a height l 1 ≡ true) (drop-step e i h) (m .shape))
+      picked (leb r height) (trees a (height - r + 1) (drop (i + 1) e) 1) (subst (λ (l : List ℕ). trees a height l 1 ≡ true)
+      (drop-step e i h) (m .shape))
 
   pub emitted-children : (r : ℕ) → i < length e → r ≡ arity a (getD e i 0) → r ≤ height
   emitted-children r h q = rw q (leb-true (arity a (getD e i 0)) height (step h .0))
@@ -157,7 +158,8 @@ module _ {a cs e : List ℕ} {at : ℕ} {out out′ stack : List ℕ} {height st
       (length-part stack base height (omega arith) (omega arith) ∙ t ∙ q)
 
   pub emitted-more : (r base p s n : ℕ) (out″ : List ℕ) → cs ≡ constantsOf a → i < length e → length e ≤ 64 → r ≡ arity a (getD e i 0) → base ≡ height - r
-      → Wrote 85 next (transitionsWords (ownTransitions (getD e i 0) (fullPort cs state) (portsIn cs (take (height - base) (drop base stack))))) out′ out″ n
+      → Wrote 85 next (transitionsWords (ownTransitions (getD e i 0) (fullPort cs state) (portsIn cs (take (height - base)
+      (drop base stack))))) out′ out″ n
       → length out″ ≡ length out′ → portIn cs p ≡ portOf a state (getD e i 0) → s ≡ statesOf a (getD e i 0) → s ≤ 17
       → Emitted a cs e at out out″ (set stack base p) (base + 1) (state + s) n (i + 1)
   emitted-more r base p s n out″ known h le q b w l ep es s≤ =
@@ -169,8 +171,10 @@ module _ {a cs e : List ℕ} {at : ℕ} {out out′ stack : List ℕ} {height st
       let b≤ : base ≤ height = omega arith in
       let part = take (height - base) (drop base stack) in
       let own = ownTransitions word (fullPort cs state) (portsIn cs part) in
-      let len : length part ≡ arity a word = length-part stack base height b≤ (omega arith) ∙ (let t : height - base ≡ r = omega arith in t ∙ q) in
-      let new : take (base + 1) (set stack base p) ≡ take base stack ++ p ∷ [] = ap (λ (k : ℕ). take k (set stack base p)) (add-one base) ∙ take-suc-set stack base p (omega arith) in
+      let len : length part ≡ arity a word = length-part stack base height b≤ (omega arith) ∙ (let t : height - base ≡ r = omega arith in
+      t ∙ q) in
+      let new : take (base + 1) (set stack base p) ≡ take base stack ++ p ∷ [] = ap (λ (k : ℕ). take k (set stack base p))
+      (add-one base) ∙ take-suc-set stack base p (omega arith) in
       record {
         within = omega arith;
         words = and-true (isExpressionWord a word) (all (isExpressionWord a) (drop (i + 1) e))
@@ -182,14 +186,19 @@ module _ {a cs e : List ℕ} {at : ℕ} {out out′ stack : List ℕ} {height st
         long = l ∙ m .long;
         done = m .done ++ own;
         wrote =
-            wrote-same (85 * i + 85) (85 * (i + 1)) at n _ _ out out″ (wrote-more (85 * i) 85 at next n _ _ out out′ out″ (m .wrote) w) (omega arith)
+            wrote-same (85 * i + 85) (85 * (i + 1)) at n _ _ out out″ (wrote-more (85 * i) 85 at next n _ _ out out′ out″ (m .wrote) w)
+            (omega arith)
             (sym (transitionsWords-append (m .done) own));
         left =
             m .left
-            ∙ ap₂ (λ (x y : List ℕ). m .done ++ transitionsFrom a state x (stackIn cs y)) (drop-step e i h) (first-parts stack base height b≤)
-            ∙ ap (λ (x : List Transition). m .done ++ x) (transitions-more a cs known state word (drop (i + 1) e) (take base stack) part p len ep)
-            ∙ sym (append-assoc (m .done) own (transitionsFrom a (state + statesOf a word) (drop (i + 1) e) (stackIn cs (take base stack ++ p ∷ []))))
-            ∙ ap₂ (λ (k : ℕ) (x : List ℕ). (m .done ++ own) ++ transitionsFrom a (state + k) (drop (i + 1) e) (stackIn cs x)) (sym es) (sym new);
+            ∙ ap₂ (λ (x y : List ℕ). m .done ++ transitionsFrom a state x (stackIn cs y)) (drop-step e i h)
+            (first-parts stack base height b≤)
+            ∙ ap (λ (x : List Transition). m .done ++ x) (transitions-more a cs known state word (drop (i + 1) e)
+            (take base stack) part p len ep)
+            ∙ sym (append-assoc (m .done) own (transitionsFrom a (state + statesOf a word) (drop (i + 1) e) (stackIn cs
+            (take base stack ++ p ∷ []))))
+            ∙ ap₂ (λ (k : ℕ) (x : List ℕ). (m .done ++ own) ++ transitionsFrom a (state + k) (drop (i + 1) e) (stackIn cs x)) (sym es)
+            (sym new);
       }
 
   pub emitted-end : length e ≤ i → length e ≤ 64 → Wrote 5440 at (transitionsWords (transitionsFrom a 0 e [])) out out′ next
@@ -198,4 +207,5 @@ module _ {a cs e : List ℕ} {at : ℕ} {out out′ stack : List ℕ} {height st
       let k = m .within in
       wrote-same (85 * i) 5440 at next _ _ out out′ (m .wrote) (omega arith)
       (ap transitionsWords
-      (sym (m .left ∙ ap (λ (l : List ℕ). m .done ++ transitionsFrom a state l (stackIn cs (take height stack))) (drop-end e i h) ∙ append-nil (m .done))))
+      (sym (m .left ∙ ap (λ (l : List ℕ). m .done ++ transitionsFrom a state l (stackIn cs (take height stack)))
+      (drop-end e i h) ∙ append-nil (m .done))))

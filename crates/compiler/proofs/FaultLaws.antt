@@ -1,21 +1,19 @@
 -- Laws of Compile's refusals in their order, and of the answer and the table slice that follow from them. Assumes nothing.
-use mathlib.Core.Path.{_≡_, refl, ap, _∙_, sym}
-use mathlib.Core.Bool.{Bool, true, false, cond}
+use mathlib.Core.Path.{_≡_, refl, _∙_, sym}
+use mathlib.Core.Bool.{false}
 use mathlib.Core.List.{List, [], _∷_, _++_}
 use Prim.Native.Nat.{ℕ, _+_, _<_, _≤_}
 use native.Mathlib.Omega.{arith}
-use lib.ListN.{length, drop}
+use lib.ListN.{length}
 use lib.Seq.{sets}
-use lib.Dec.{ltb, eqb}
 use borrow.Author.Tests.{lt-ltb, le-ltb, ltb-false, eq-eqb, ne-eqb}
 use Rattle.words.specs.Refusal.{Refusals, refusal}
 use Rattle.words.specs.Alphabet.{alphabetRefusals, alphabetFault}
 use Rattle.words.specs.Expression.{expressionRefusals, expressionFault}
 use Rattle.words.proofs.RefusalLaws.{NoneHolds, none-refusal, refusal-before, refusal-rest, refusal-none}
 use Rattle.automaton.specs.Numbering.{statesAfter, compiled}
-use Rattle.operations.specs.Answer.{Answer, refused, accepted}
+use Rattle.operations.specs.Answer.{refused, accepted}
 use Rattle.operations.specs.Compile.{compiledTable, tooManyStates, tableTooLong, compileRefusals, compileFault, compileAnswer, compileExit}
-use Rattle.emitter.specs.Writing.{Wrote}
 use Rattle.emitter.proofs.WritingLaws.{sets-whole}
 use Rattle.compiler.specs.Compiling.{Accepted}
 

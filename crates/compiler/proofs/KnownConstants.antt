@@ -3,13 +3,12 @@
 use mathlib.Core.Path.{_≡_, refl, ap, _∙_, sym}
 use mathlib.Core.Bool.{true}
 use mathlib.Core.List.{List, [], _∷_, List·Memᴰ, List·Memᴰ·head, List·Memᴰ·tail}
-use Prim.Native.Nat.{ℕ, zero, suc, _+_, _<_, _≤_}
+use Prim.Native.Nat.{ℕ, zero, suc, _<_, _≤_}
 use native.Mathlib.Omega.{arith}
 use native.Mathlib.Nat.{add-zero, add-suc, suc-add, le-refl}
 use lib.ListN.{length, getD}
-use lib.Dec.{eqb}
 use borrow.Author.Tests.{eq-eqb, ne-eqb}
-use Rattle.words.specs.Word.{unionKind, productKind, closureKind, Kind, kindAt, kindOf, numberOf, lowByte}
+use Rattle.words.specs.Word.{unionKind, productKind, closureKind, kindAt, kindOf, lowByte}
 use Rattle.words.specs.Alphabet.{isConstant, constantsOf}
 use Rattle.words.specs.Postfix.{arity}
 use Rattle.words.specs.Expression.{isExpressionWord}

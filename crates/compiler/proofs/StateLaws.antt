@@ -1,9 +1,9 @@
 -- Laws of the states of rule words: how many each has, the loop that adds them, and a word's port as a number.
 -- Assumes nothing.
 use mathlib.Core.Path.{_≡_, refl, ap, ap₂, _∙_, sym}
-use mathlib.Core.Bool.{Bool, true, false, not, cond}
-use mathlib.Core.List.{List, [], _∷_, _++_}
-use Prim.Native.Nat.{ℕ, suc, _+_, _*_, _/_, _%_, _<_, _≤_}
+use mathlib.Core.Bool.{Bool, true, false, cond}
+use mathlib.Core.List.{List, [], _∷_}
+use Prim.Native.Nat.{ℕ, _+_, _*_, _%_, _<_, _≤_}
 use native.Mathlib.Omega.{arith}
 use native.Mathlib.Numerals.{add-one}
 use lib.ListN.{length, getD, drop}
@@ -16,7 +16,7 @@ use Rattle.words.specs.Expression.{isExpressionWord}
 use Rattle.words.proofs.KindLaws.{kindAt-number}
 use Rattle.words.proofs.ScanLaws.{drop-step, drop-end}
 use Rattle.words.proofs.ExpressionWordLaws.{ExpressionWord, symbolWord, emptyWord, unionWord, productWord, closureWord, expressionWord}
-use Rattle.automaton.specs.Numbering.{Port, numbered, hasEntries, statesOf, ownEntry, portOf, statesAfter}
+use Rattle.automaton.specs.Numbering.{Port, hasEntries, statesOf, portOf, statesAfter}
 use Rattle.emitter.specs.Ports.{entriesIn, exitIn, portIn, fullPort}
 use Rattle.emitter.proofs.PortLaws.{entries-every, entries-none, entries-own}
 

@@ -1,18 +1,17 @@
 -- Laws of a rule's table: the last word's states, and the table's words in three parts. Assumes nothing.
 use mathlib.Core.Path.{_≡_, refl, ap, ap₂, _∙_, sym, subst}
-use mathlib.Core.Bool.{Bool, true, false}
-use mathlib.Core.List.{List, [], _∷_, _++_, append-assoc}
-use Prim.Native.Nat.{ℕ, suc, _+_, _*_, _-_, _<_, _≤_}
+use mathlib.Core.Bool.{true}
+use mathlib.Core.List.{List, [], _∷_, _++_}
+use Prim.Native.Nat.{ℕ, suc, _+_, _*_, _-_, _<_}
 use native.Mathlib.Omega.{arith}
-use native.Mathlib.Numerals.{add-one}
-use lib.ListN.{length, getD, take, drop, length-take}
+use lib.ListN.{length, getD, take}
 use lib.Seq.{take-suc, take-all, length-take-le}
 use Rattle.words.specs.Lists.{all}
 use Rattle.words.specs.Word.{headKind, wordOf}
 use Rattle.words.specs.Alphabet.{constantsOf}
-use Rattle.words.specs.Expression.{isExpressionWord, expressionFault}
+use Rattle.words.specs.Expression.{isExpressionWord}
 use Rattle.words.proofs.TestLaws.{and-true, all-right}
-use Rattle.automaton.specs.Transition.{Transition, Automaton, transitionsWords, headWord, tableWords}
+use Rattle.automaton.specs.Transition.{transitionsWords}
 use Rattle.automaton.specs.Numbering.{Port, statesOf, portOf, childPort, portsFrom, statesAfter, transitionsFrom, lastPort, compiled}
 use Rattle.automaton.proofs.TransitionLaws.{transitionsWords-append}
 use Rattle.operations.specs.Compile.{compiledTable}
@@ -59,7 +58,8 @@ module _ (a : List ℕ) where
     pub word-last : all (isExpressionWord a) e ≡ true → isExpressionWord a last ≡ true
     word-last h =
         and-true (isExpressionWord a last) true
-        (all-right (isExpressionWord a) front (last ∷ []) (subst (λ (l : List ℕ). all (isExpressionWord a) l ≡ true) (before-last e some) h)) .0
+        (all-right (isExpressionWord a) front (last ∷ []) (subst (λ (l : List ℕ). all (isExpressionWord a) l ≡ true)
+        (before-last e some) h)) .0
 
 -- ---- the table in three parts
 
@@ -87,7 +87,8 @@ wrote-table a cs e some x s p out o₁ o₂ o₃ n₁ n₂ r known ex es ep h c 
     let w₀ = getD e (length e - 1) 0 in
     let port : portIn cs p ≡ lastPort a e =
     ap (λ (ds : List ℕ). portIn ds p) known ∙ ep ∙ ap (λ (n : ℕ). portOf a n w₀) ex ∙ sym (lastPort-last a e some) in
-    let exit : x ≡ lastPort a e .exit = sym (portOf-exit a x w₀) ∙ ap (λ (P : Port). P .exit) (sym ep ∙ ap (λ (ds : List ℕ). portIn ds p) (sym known) ∙ port) in
+    let exit : x ≡ lastPort a e .exit = sym (portOf-exit a x w₀) ∙ ap (λ (P : Port). P .exit) (sym ep ∙ ap (λ (ds : List ℕ). portIn ds p)
+    (sym known) ∙ port) in
     let states : x + s ≡ statesAfter a 0 e = ap₂ (λ (m n : ℕ). m + n) ex es ∙ sym (states-last a e some) in
     wrote-same 5457 5457 0 r _ _ out o₃
     (wrote-more 1 5456 0 n₁ r _ _ out o₁ o₃ h (wrote-more 16 5440 n₁ n₂ r _ _ o₁ o₂ o₃ c w)) (omega arith)

@@ -27,7 +27,11 @@ fn write_words(
     at: usize,
 ) -> usize
     requires { ⌜ Compiles (now alphabet) (now constants) (now expression) at ⌝ }
-    ensures { λ r. ⌜ Wrote 5440 at (transitionsWords (transitionsFrom (now (alphabet .entry)) 0 (now (expression .entry)) [])) (now (out .entry)) (now (out .exit)) r ⌝ }
+    ensures { λ r. ⌜
+        Wrote 5440 at
+        (transitionsWords (transitionsFrom (now (alphabet .entry)) 0 (now (expression .entry)) []))
+        (now (out .entry)) (now (out .exit)) r
+        ⌝ }
 {
     let mut stack = [0u32; 64];
     let mut height: usize = 0;
@@ -49,7 +53,10 @@ fn write_words(
 // The head, with the last word's exit as final state, the moves of the constants into its entries, and the own transitions.
 fn write_parts(alphabet: &[u32], constants: &[u32], expression: &[u32], out: &mut [u32]) -> usize
     requires { ⌜ Compiles (now alphabet) (now constants) (now expression) 0 ⌝ }
-    ensures { λ r. ⌜ Wrote 5457 0 (compiledTable (now (alphabet .entry)) (now (expression .entry))) (now (out .entry)) (now (out .exit)) r ⌝ }
+    ensures { λ r. ⌜
+        Wrote 5457 0 (compiledTable (now (alphabet .entry)) (now (expression .entry)))
+        (now (out .entry)) (now (out .exit)) r
+        ⌝ }
 {
     let last = expression.len() - 1;
     let w = expression[last];
@@ -64,7 +71,10 @@ fn write_parts(alphabet: &[u32], constants: &[u32], expression: &[u32], out: &mu
 // Writes the table of a rule, as far as the slice reaches, and answers its word count in both cases.
 pub fn write_table(alphabet: &[u32], expression: &[u32], out: &mut [u32]) -> usize
     requires { ⌜ Accepted (now alphabet) (now expression) ⌝ }
-    ensures { λ r. ⌜ Wrote 5457 0 (compiledTable (now (alphabet .entry)) (now (expression .entry))) (now (out .entry)) (now (out .exit)) r ⌝ }
+    ensures { λ r. ⌜
+        Wrote 5457 0 (compiledTable (now (alphabet .entry)) (now (expression .entry)))
+        (now (out .entry)) (now (out .exit)) r
+        ⌝ }
 {
     let mut list = [0u32; 16];
     let count = write_constants(alphabet, &mut list);

@@ -7,7 +7,7 @@ use native.Mathlib.Numerals.{add-one}
 use lib.ListN.{length, getD, take}
 use lib.Seq.{take-suc, take-all, length-take-le}
 use Rattle.words.proofs.ListLaws.{map-append}
-use Rattle.automaton.specs.Transition.{Transition, onSymbol, transitionWords, transitionsWords}
+use Rattle.automaton.specs.Transition.{onSymbol, transitionWords, transitionsWords}
 use Rattle.automaton.specs.Numbering.{numbered}
 use Rattle.automaton.proofs.TransitionLaws.{transitionsWords-append, numbered-append}
 use Rattle.emitter.specs.Writing.{Wrote}
@@ -28,7 +28,8 @@ everyWords-more x cs k h =
     let es = numbered (suc x) (take k cs) in
     let n : suc x + length (take k cs) ≡ x + 1 + k = rw (length-take-le k cs (omega arith)) (omega arith) in
     ap (everyWords x) (ap (λ (i : ℕ). take i cs) (add-one k) ∙ take-suc cs k 0 h)
-    ∙ ap (λ (l : List (ℕ × ℕ)). transitionsWords (constantTransitions l)) (numbered-append (suc x) (take k cs) (c ∷ []) ∙ ap (λ (i : ℕ). es ++ (c, i) ∷ []) n)
+    ∙ ap (λ (l : List (ℕ × ℕ)). transitionsWords (constantTransitions l)) (numbered-append (suc x) (take k cs) (c ∷ []) ∙ ap (λ
+    (i : ℕ). es ++ (c, i) ∷ []) n)
     ∙ ap transitionsWords (map-append (λ e. onSymbol (e .0) [] (e .1)) es ((c, x + 1 + k) ∷ []))
     ∙ transitionsWords-append (constantTransitions es) (onSymbol c [] (x + 1 + k) ∷ [])
 
@@ -71,4 +72,5 @@ module _ (cs : List ℕ) (p x at : ℕ) (out out′ : List ℕ) (r : ℕ) (e : x
 
 pub port-none : (cs : List ℕ) (p at : ℕ) (out : List ℕ) → p % 128 ≡ 65
     → Wrote 16 at (transitionsWords (constantTransitions (portIn cs p .entries))) out out at
-port-none cs p at out t = rw (entries-none cs (exitIn p) (p % 128) t) (wrote-same 0 16 at at [] [] out out (wrote-none at out) (omega arith) refl)
+port-none cs p at out t =
+    rw (entries-none cs (exitIn p) (p % 128) t) (wrote-same 0 16 at at [] [] out out (wrote-none at out) (omega arith) refl)

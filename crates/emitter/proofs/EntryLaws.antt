@@ -1,17 +1,16 @@
 -- Laws of epsilon transitions to the entries of a word's children: one entry more, and the loop over the children.
 -- Assumes nothing.
-use mathlib.Core.Path.{_≡_, refl, ap, _∙_, sym, subst}
+use mathlib.Core.Path.{_≡_, refl, ap, _∙_, sym}
 use mathlib.Core.List.{List, [], _∷_, _++_, map, flatMap, append-assoc, append-nil}
-use Prim.Native.Nat.{ℕ, zero, suc, _+_, _-_, _<_, _≤_}
+use Prim.Native.Nat.{ℕ, suc, _+_, _-_, _<_, _≤_}
 use native.Mathlib.Omega.{arith}
 use native.Mathlib.Numerals.{add-one}
 use lib.ListN.{length, getD, take, drop, length-drop}
 use lib.Seq.{take-suc, take-all}
-use lib.Dec.{eqb}
 use borrow.Author.Tests.{eq-eqb, ne-eqb}
 use Rattle.words.proofs.ListLaws.{map-append}
-use Rattle.automaton.specs.Transition.{Transition, epsilon, transitionWords, transitionsWords}
-use Rattle.automaton.specs.Numbering.{Port, entryFor, epsilons}
+use Rattle.automaton.specs.Transition.{epsilon, transitionWords, transitionsWords}
+use Rattle.automaton.specs.Numbering.{entryFor, epsilons}
 use Rattle.automaton.proofs.TransitionLaws.{transitionsWords-append}
 use Rattle.emitter.specs.Writing.{Wrote}
 use Rattle.emitter.specs.declared.port.Entry.{Entry}
@@ -82,7 +81,8 @@ module _ {cs ps : List ℕ} {from b at : ℕ} {out out′ : List ℕ} {next i : 
         long = l ∙ w .long;
         wrote = wrote-same (i + 1) (i + 1) at r _ _ out out″ (wrote-more i 1 at next r _ _ out out′ out″ (w .wrote) q) (omega arith)
             (sym
-            (rw (add-one i, childEntries-more cs ps b i h, ← e .states) (epsilonWords-append from (childEntries cs (take i ps) b) (statesIn to))));
+            (rw (add-one i, childEntries-more cs ps b i h, ← e .states) (epsilonWords-append from (childEntries cs (take i ps) b)
+            (statesIn to))));
       }
 
   pub children-end : length ps ≤ i → length ps ≤ 4 → Wrote 4 at (epsilonWords from (childEntries cs ps b)) out out′ next
@@ -128,4 +128,5 @@ module _ (cs ps : List ℕ) (from b c at : ℕ) (out out′ : List ℕ) (r : ℕ
   pub closure-other : (x : ℕ) → (b ≡ c → ⊥) → Wrote 4 at (epsilonWords from (childEntries cs ps b)) out out′ r
       → Wrote 5 at (epsilonWords from (closureEntries cs ps c x b)) out out′ r
   closure-other x n w =
-      wrote-same 4 5 at r _ _ out out′ w (omega arith) (rw (ne-eqb b c n) (ap (epsilonWords from) (sym (append-nil (childEntries cs ps b)))))
+      wrote-same 4 5 at r _ _ out out′ w (omega arith) (rw (ne-eqb b c n) (ap (epsilonWords from) (sym (append-nil
+      (childEntries cs ps b)))))

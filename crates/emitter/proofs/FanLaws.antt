@@ -1,7 +1,7 @@
 -- Laws of the loop over the constants that writes the epsilon transitions from a word's entries. Assumes nothing.
 use mathlib.Core.Path.{_≡_, refl, ap, _∙_, sym}
 use mathlib.Core.List.{List, [], _∷_, _++_, append-nil}
-use Prim.Native.Nat.{ℕ, zero, suc, _+_, _*_, _<_, _≤_}
+use Prim.Native.Nat.{ℕ, suc, _+_, _*_, _<_, _≤_}
 use native.Mathlib.Omega.{arith}
 use native.Mathlib.Numerals.{add-one}
 use lib.ListN.{length, getD, take}
@@ -25,7 +25,8 @@ fanWords-more x cs targets k h =
     let es = numbered (suc x) (take k cs) in
     let n : suc x + length (take k cs) ≡ x + 1 + k = rw (length-take-le k cs (omega arith)) (omega arith) in
     ap (λ (l : List ℕ). fanWords x l targets) (ap (λ (i : ℕ). take i cs) (add-one k) ∙ take-suc cs k 0 h)
-    ∙ ap (λ (l : List (ℕ × ℕ)). transitionsWords (fan l targets)) (numbered-append (suc x) (take k cs) (c ∷ []) ∙ ap (λ (i : ℕ). es ++ (c, i) ∷ []) n)
+    ∙ ap (λ (l : List (ℕ × ℕ)). transitionsWords (fan l targets)) (numbered-append (suc x) (take k cs) (c ∷ []) ∙ ap (λ (i : ℕ). es ++
+    (c, i) ∷ []) n)
     ∙ ap transitionsWords
     (fan-append targets es ((c, x + 1 + k) ∷ [])
     ∙ ap (λ (l : List Transition). fan es targets ++ l) (append-nil (epsilons (x + 1 + k) (targets c))))
@@ -46,13 +47,15 @@ module _ {cs : List ℕ} {targets : ℕ → List ℕ} {x at : ℕ} {out out′ :
   fanned-room h few room = let n = wrote-next _ _ _ _ _ _ (w .wrote) in omega arith
 
   pub fanned-more : (m : ℕ) (out″ : List ℕ) (r : ℕ) → k < length cs → m ≤ 5 → length out″ ≡ length out′
-      → Wrote m next (transitionsWords (epsilons (x + 1 + k) (targets (getD cs k 0)))) out′ out″ r → Fanned cs targets x at out out″ r (k + 1)
+      → Wrote m next (transitionsWords (epsilons (x + 1 + k) (targets (getD cs k 0)))) out′ out″ r → Fanned cs targets x at out out″ r
+      (k + 1)
   fanned-more m out″ r h le l q =
       record {
         within = omega arith;
         long = l ∙ w .long;
         wrote =
-            wrote-same (5 * k + m) (5 * (k + 1)) at r _ _ out out″ (wrote-more (5 * k) m at next r _ _ out out′ out″ (w .wrote) q) (omega arith)
+            wrote-same (5 * k + m) (5 * (k + 1)) at r _ _ out out″ (wrote-more (5 * k) m at next r _ _ out out′ out″ (w .wrote) q)
+            (omega arith)
             (sym (fanWords-more x cs targets k h));
       }
 

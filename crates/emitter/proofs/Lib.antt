@@ -5,3 +5,4 @@ pub mod FanLaws
 pub mod OwnLaws
 pub mod SourceLaws
 pub mod ConstantLaws
+pub mod KindLaws

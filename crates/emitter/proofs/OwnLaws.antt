@@ -6,15 +6,13 @@ use Prim.Native.Nat.{ℕ, suc, _+_, _≤_}
 use native.Mathlib.Omega.{arith}
 use lib.ListN.{length, getD}
 use lib.Dec.{eqb}
-use borrow.Author.Tests.{eq-eqb, ne-eqb}
-use Rattle.words.specs.Word.{numberOf, lowByte}
 use Rattle.automaton.specs.Transition.{Transition, onSymbol, epsilon, transitionWords, transitionsWords}
-use Rattle.automaton.specs.Numbering.{Port, numbered, entryFor, epsilons, symbolTransitions, unionTransitions, productTransitions, closureTransitions, ownTransitions}
+use Rattle.automaton.specs.Numbering.{Port, numbered, entryFor, epsilons, symbolTransitions, unionTransitions, productTransitions, closureTransitions}
 use Rattle.automaton.proofs.TransitionLaws.{transitionsWords-append, fan-same}
 use Rattle.emitter.specs.Writing.{Wrote}
 use Rattle.emitter.specs.Ports.{exitIn, portIn, portsIn, fullPort}
 use Rattle.emitter.specs.Emission.{Emits, childEntries, productEntries, closureEntries, sourceWords}
-use Rattle.emitter.proofs.WritingLaws.{wrote-none, wrote-more, wrote-same}
+use Rattle.emitter.proofs.WritingLaws.{wrote-more, wrote-same}
 use Rattle.emitter.proofs.EntryLaws.{epsilonWords, epsilonWords-append}
 use Rattle.emitter.proofs.FanLaws.{fanWords}
 use Rattle.emitter.proofs.SourceLaws.{sources-exits}
@@ -45,10 +43,10 @@ single (p ∷ []) h = refl
 single (p ∷ x ∷ ps) h = absurd (omega arith)
 
 module _ (cs ps : List ℕ) where
-  abbrev F : Port
+  abbrev pub F : Port
   F = portIn cs (getD ps 0 0)
 
-  abbrev G : Port
+  abbrev pub G : Port
   G = portIn cs (getD ps 1 0)
 
   unionEntries-both : length ps ≡ 2 → (b : ℕ) → childEntries cs ps b ≡ entryFor F b ++ entryFor G b
@@ -72,6 +70,15 @@ module _ (cs ps : List ℕ) where
 
 -- ---- what the writers leave, kind by kind
 
+pub union-own : (cs ps : List ℕ) (x at : ℕ) (out o₁ o₂ : List ℕ) (n r y z : ℕ) → length ps ≡ 2 → y ≡ exitIn (getD ps 0 0) → z ≡ exitIn (getD ps 1 0)
+    → Wrote 2 at (transitionsWords (epsilon y x ∷ epsilon z x ∷ [])) out o₁ n → Wrote 80 n (fanWords x cs (childEntries cs ps)) o₁ o₂ r
+    → Wrote 85 at (transitionsWords (unionTransitions (fullPort cs x) (F cs ps) (G cs ps))) out o₂ r
+union-own cs ps x at out o₁ o₂ n r y z h e d p s =
+    wrote-same 82 85 at r _ _ out o₂ (wrote-more 2 80 at n r _ _ out o₁ o₂ p s) (omega arith)
+    (rw (e, d)
+    (ap (λ (l : List Transition). transitionsWords (epsilon (F cs ps .exit) x ∷ epsilon (G cs ps .exit) x ∷ l))
+    (fan-same (childEntries cs ps) (λ b. entryFor (F cs ps) b ++ entryFor (G cs ps) b) (numbered (suc x) cs) (unionEntries-both cs ps h))))
+
 module _ (cs ps : List ℕ) (x at : ℕ) (out o₁ o₂ o₃ : List ℕ) (n₁ n₂ r : ℕ) where
   abbrev E : Port
   E = fullPort cs x
@@ -85,34 +92,29 @@ module _ (cs ps : List ℕ) (x at : ℕ) (out o₁ o₂ o₃ : List ℕ) (n₁ n
       (append-assoc us vs ws ∙ e)
 
   pub symbol-own : (f : ℕ) → Wrote 1 at (transitionWords (onSymbol f [] x)) out o₁ n₁ → Wrote 4 n₁ (sourceWords ps) o₁ o₂ n₂
-      → Wrote 80 n₂ (fanWords x cs (childEntries cs ps)) o₂ o₃ r → Wrote 85 at (transitionsWords (symbolTransitions f E (portsIn cs ps))) out o₃ r
+      → Wrote 80 n₂ (fanWords x cs (childEntries cs ps)) o₂ o₃ r → Wrote 85 at (transitionsWords (symbolTransitions f E
+      (portsIn cs ps))) out o₃ r
   symbol-own f p q s =
       three 1 4 80 _ _ _ _ p q s (omega arith)
       (ap (λ (l : List ℕ). transitionWords (onSymbol f [] x) ++ (l ++ fanWords x cs (childEntries cs ps))) (sources-exits cs ps))
 
-  pub union-own : (y z : ℕ) → length ps ≡ 2 → y ≡ exitIn (getD ps 0 0) → z ≡ exitIn (getD ps 1 0)
-      → Wrote 1 at (transitionWords (epsilon y x)) out o₁ n₁ → Wrote 1 n₁ (transitionWords (epsilon z x)) o₁ o₂ n₂
-      → Wrote 80 n₂ (fanWords x cs (childEntries cs ps)) o₂ o₃ r → Wrote 85 at (transitionsWords (unionTransitions E (F cs ps) (G cs ps))) out o₃ r
-  union-own y z h e d p q s =
-      three 1 1 80 _ _ _ _ p q s (omega arith)
-      (rw (e, d)
-      (ap (λ (l : List Transition). transitionsWords (epsilon (F cs ps .exit) x ∷ epsilon (G cs ps .exit) x ∷ l))
-      (fan-same (childEntries cs ps) (λ b. entryFor (F cs ps) b ++ entryFor (G cs ps) b) (numbered (suc x) cs) (unionEntries-both cs ps h))))
-
   pub product-own : (y z c : ℕ) → length ps ≡ 2 → y ≡ exitIn (getD ps 0 0) → z ≡ exitIn (getD ps 1 0)
       → Wrote 1 at (transitionWords (epsilon y x)) out o₁ n₁ → Wrote 1 n₁ (epsilonWords z (entryFor (F cs ps) c)) o₁ o₂ n₂
-      → Wrote 80 n₂ (fanWords x cs (productEntries cs ps c)) o₂ o₃ r → Wrote 85 at (transitionsWords (productTransitions c E (F cs ps) (G cs ps))) out o₃ r
+      → Wrote 80 n₂ (fanWords x cs (productEntries cs ps c)) o₂ o₃ r → Wrote 85 at (transitionsWords (productTransitions c E (F cs ps)
+      (G cs ps))) out o₃ r
   product-own y z c h e d p q s =
       three 1 1 80 _ _ _ _ p q s (omega arith)
       (rw (e, d)
       (ap (λ (l : List ℕ). transitionWords (epsilon (F cs ps .exit) x) ++ l)
       (ap (λ (l : List Transition). epsilonWords (G cs ps .exit) (entryFor (F cs ps) c) ++ transitionsWords l)
-      (fan-same (productEntries cs ps c) (λ b. cond (eqb b c) [] (entryFor (F cs ps) b) ++ entryFor (G cs ps) b) (numbered (suc x) cs) (productEntries-both cs ps h c))
+      (fan-same (productEntries cs ps c) (λ b. cond (eqb b c) [] (entryFor (F cs ps) b) ++ entryFor (G cs ps) b) (numbered (suc x) cs)
+      (productEntries-both cs ps h c))
       ∙ sym (transitionsWords-append (epsilons (G cs ps .exit) (entryFor (F cs ps) c)) _))))
 
   pub closure-own : (y c : ℕ) → length ps ≡ 1 → y ≡ exitIn (getD ps 0 0)
       → Wrote 1 at (epsilonWords y (entryFor (F cs ps) c)) out o₁ n₁ → Wrote 1 n₁ (transitionWords (epsilon y x)) o₁ o₂ n₂
-      → Wrote 80 n₂ (fanWords x cs (closureEntries cs ps c x)) o₂ o₃ r → Wrote 85 at (transitionsWords (closureTransitions c E (F cs ps))) out o₃ r
+      → Wrote 80 n₂ (fanWords x cs (closureEntries cs ps c x)) o₂ o₃ r → Wrote 85 at (transitionsWords (closureTransitions c E
+      (F cs ps))) out o₃ r
   closure-own y c h e p q s =
       let y′ = F cs ps .exit in
       let qs = entryFor (F cs ps) c in
@@ -121,54 +123,6 @@ module _ (cs ps : List ℕ) (x at : ℕ) (out o₁ o₂ o₃ : List ℕ) (n₁ n
       (sym (append-assoc (epsilonWords y′ qs) (epsilonWords y′ (x ∷ [])) (fanWords x cs (closureEntries cs ps c x)))
       ∙ ap (λ (l : List ℕ). l ++ fanWords x cs (closureEntries cs ps c x)) (sym (epsilonWords-append y′ qs (x ∷ [])))
       ∙ ap (λ (l : List Transition). epsilonWords y′ (qs ++ (x ∷ [])) ++ transitionsWords l)
-      (fan-same (closureEntries cs ps c x) (λ b. entryFor (F cs ps) b ++ cond (eqb b c) (x ∷ []) []) (numbered (suc x) cs) (closureEntries-single cs ps h c x))
+      (fan-same (closureEntries cs ps c x) (λ b. entryFor (F cs ps) b ++ cond (eqb b c) (x ∷ []) []) (numbered (suc x) cs)
+      (closureEntries-single cs ps h c x))
       ∙ sym (transitionsWords-append (epsilons y′ (qs ++ (x ∷ []))) _)))
-
--- ---- which of them a word has
-
-module _ (w : ℕ) (E : Port) (cs : List ℕ) where
-  abbrev own : List ℕ → List Transition
-  own ps = ownTransitions w E (portsIn cs ps)
-
-  -- a word with no children has none
-  pub own-none : (ps : List ℕ) → length ps ≡ 0 → own ps ≡ []
-  unfolding ownTransitions
-  own-none [] h = refl
-  own-none (p ∷ ps) h = absurd (omega arith)
-
-  pub own-symbol : (ps : List ℕ) → (length ps ≡ 0 → ⊥) → numberOf w ≡ 2 → own ps ≡ symbolTransitions (lowByte w) E (portsIn cs ps)
-  unfolding ownTransitions
-  own-symbol [] n e = absurd (n refl)
-  own-symbol (p ∷ ps) n e = rw (eq-eqb (numberOf w) 2 e)
-
-  pub own-union : (ps : List ℕ) → length ps ≡ 2 → numberOf w ≡ 4 → own ps ≡ unionTransitions E (F cs ps) (G cs ps)
-  unfolding ownTransitions
-  own-union ps h e =
-      ap own (both ps h) ∙ rw (ne-eqb (numberOf w) 2 (λ z. omega arith), eq-eqb (numberOf w) 4 e)
-
-  pub own-product : (ps : List ℕ) → length ps ≡ 2 → numberOf w ≡ 5 → own ps ≡ productTransitions (lowByte w) E (F cs ps) (G cs ps)
-  unfolding ownTransitions
-  own-product ps h e =
-      ap own (both ps h)
-      ∙ rw (ne-eqb (numberOf w) 2 (λ z. omega arith), ne-eqb (numberOf w) 4 (λ z. omega arith), eq-eqb (numberOf w) 5 e)
-
-  pub own-closure : (ps : List ℕ) → length ps ≡ 1 → numberOf w ≡ 6 → own ps ≡ closureTransitions (lowByte w) E (F cs ps)
-  unfolding ownTransitions
-  own-closure ps h e =
-      ap own (single ps h)
-      ∙ rw (ne-eqb (numberOf w) 2 (λ z. omega arith), ne-eqb (numberOf w) 4 (λ z. omega arith), ne-eqb (numberOf w) 5 (λ z. omega arith), eq-eqb (numberOf w) 6 e)
-
-  -- a word of any other kind has none
-  pub own-other : (ps : List ℕ) → (numberOf w ≡ 2 → ⊥) → (numberOf w ≡ 4 → ⊥) → (numberOf w ≡ 5 → ⊥) → (numberOf w ≡ 6 → ⊥) → own ps ≡ []
-  unfolding ownTransitions
-  own-other [] n₂ n₄ n₅ n₆ = refl
-  own-other (p ∷ ps) n₂ n₄ n₅ n₆ =
-      rw (ne-eqb (numberOf w) 2 n₂, ne-eqb (numberOf w) 4 n₄, ne-eqb (numberOf w) 5 n₅, ne-eqb (numberOf w) 6 n₆)
-
--- the words of transitions that are written, said otherwise
-pub wrote-transitions : (m at r : ℕ) (ts us : List Transition) (out out′ : List ℕ) → us ≡ ts → Wrote m at (transitionsWords ts) out out′ r → Wrote m at (transitionsWords us) out out′ r
-wrote-transitions m at r ts us out out′ e w = rw e w
-
--- no transitions
-pub wrote-no-transitions : (m at : ℕ) (us : List Transition) (out : List ℕ) → us ≡ [] → Wrote m at (transitionsWords us) out out at
-wrote-no-transitions m at us out e = rw e (wrote-same 0 m at at [] [] out out (wrote-none at out) (omega arith) refl)

@@ -1,16 +1,13 @@
 -- Laws of ports as numbers: which entries they have. Assumes nothing.
-use mathlib.Core.Path.{_≡_, refl, ap, _∙_, sym}
-use mathlib.Core.Bool.{true, false, cond}
+use mathlib.Core.Path.{_≡_}
 use mathlib.Core.List.{List, [], _∷_}
-use Prim.Native.Nat.{ℕ, suc, _+_, _*_, _/_, _%_, _<_, _≤_}
+use Prim.Native.Nat.{ℕ, suc, _+_, _%_, _<_, _≤_}
 use native.Mathlib.Omega.{arith}
 use lib.ListN.{length, getD}
-use lib.Dec.{eqb}
 use borrow.Author.Tests.{eq-eqb, ne-eqb}
-use Rattle.automaton.specs.Numbering.{Port, numbered, lookup, entryFor}
-use Rattle.emitter.specs.declared.port.Entry.{Entry}
+use Rattle.automaton.specs.Numbering.{numbered}
 use Rattle.emitter.specs.declared.port.Entry.the-variants.{Missing, State}
-use Rattle.emitter.specs.Ports.{entriesIn, exitIn, portIn, EachOnce, EntryOf}
+use Rattle.emitter.specs.Ports.{entriesIn, exitIn, EachOnce, EntryOf}
 
 -- ---- the entries that a number says
 
@@ -39,7 +36,11 @@ module _ (cs : List ℕ) (p k x : ℕ) (e : x ≡ exitIn p) (low : x < 2048) whe
       }
 
   pub entry-own : (p % 128 ≡ 64 → ⊥) → (p % 128 ≡ 65 → ⊥) → p % 128 ≡ getD cs k 0 → EntryOf cs p (getD cs k 0) (State x)
-  entry-own n m t = record { states = rw (entries-own cs (exitIn p) (p % 128) n m, ← e, eq-eqb (p % 128) (getD cs k 0) t); low = omega arith }
+  entry-own n m t =
+      record {
+        states = rw (entries-own cs (exitIn p) (p % 128) n m, ← e, eq-eqb (p % 128) (getD cs k 0) t);
+        low = omega arith;
+      }
 
 pub entry-none : (cs : List ℕ) (p c : ℕ) → p % 128 ≡ 65 → EntryOf cs p c Missing
 entry-none cs p c t = record { states = rw (entries-none cs (exitIn p) (p % 128) t); low = tt }

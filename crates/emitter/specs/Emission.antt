@@ -8,7 +8,7 @@ use lib.ListN.{length, getD, drop}
 use lib.Dec.{eqb}
 use Rattle.words.specs.Word.{sourceKind, numberOf, wordOf, lowByte}
 use Rattle.automaton.specs.Transition.{Transition, onSymbol}
-use Rattle.automaton.specs.Numbering.{Port, entryFor}
+use Rattle.automaton.specs.Numbering.{entryFor}
 use Rattle.emitter.specs.Writing.{lastIndex}
 use Rattle.emitter.specs.Ports.{EachOnce, exitIn, portsIn}
 

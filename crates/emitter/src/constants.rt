@@ -1,9 +1,8 @@
 // "the symbol moves of the constants into the last word's entries, in symbol order".
-ghost use Prim.Native.Nat.{ℕ, suc, _+_, _≤_, _<_};
-ghost use lib.ListN.{length, getD};
+ghost use Prim.Native.Nat.{suc, _+_, _<_};
 ghost use Rattle.automaton.specs.Transition.{transitionsWords};
 ghost use Rattle.automaton.specs.Numbering.{numbered};
-ghost use Rattle.emitter.specs.Writing.{Wrote, lastIndex};
+ghost use Rattle.emitter.specs.Writing.{Wrote};
 ghost use Rattle.emitter.specs.Ports.{portIn};
 ghost use Rattle.emitter.specs.Emission.{Symbols, constantTransitions};
 use super::port::EVERY;
@@ -16,7 +15,11 @@ use super::writer::push_transition;
 fn push_every(constants: &[u32], out: &mut [u32], at: usize, exit: u32) -> usize
     requires { ⌜ Symbols (now constants) at ⌝ }
     requires { ⌜ exit < 2048 ⌝ }
-    ensures { λ r. ⌜ Wrote 16 at (transitionsWords (constantTransitions (numbered (suc exit) (now (constants .entry))))) (now (out .entry)) (now (out .exit)) r ⌝ }
+    ensures { λ r. ⌜
+        Wrote 16 at
+        (transitionsWords (constantTransitions (numbered (suc exit) (now (constants .entry)))))
+        (now (out .entry)) (now (out .exit)) r
+        ⌝ }
 {
     let mut next = at;
     let mut k = 0;
@@ -30,7 +33,11 @@ fn push_every(constants: &[u32], out: &mut [u32], at: usize, exit: u32) -> usize
 // Into the entries of a port.
 pub fn push_constants(constants: &[u32], port: u32, out: &mut [u32], at: usize) -> usize
     requires { ⌜ Symbols (now constants) at ⌝ }
-    ensures { λ r. ⌜ Wrote 16 at (transitionsWords (constantTransitions (portIn (now (constants .entry)) port .entries))) (now (out .entry)) (now (out .exit)) r ⌝ }
+    ensures { λ r. ⌜
+        Wrote 16 at
+        (transitionsWords (constantTransitions (portIn (now (constants .entry)) port .entries)))
+        (now (out .entry)) (now (out .exit)) r
+        ⌝ }
 {
     let exit = exit_of(port);
     let entries = port % EXIT_UNIT;

@@ -1,6 +1,4 @@
 // Epsilon transitions from a word's entries, in the order of the constants.
-ghost use mathlib.Core.Path.{_≡_};
-ghost use mathlib.Core.List.{[], _∷_};
 ghost use Prim.Native.Nat.{suc, _+_, _≤_, _<_};
 ghost use lib.ListN.{length, getD};
 ghost use Rattle.automaton.specs.Transition.{transitionsWords};
@@ -34,7 +32,12 @@ pub fn push_to_children(
 ) -> usize
     requires { ⌜ Emits (now constants) (now ports) exit at 5 ⌝ }
     requires { ⌜ k < length (now constants) ⌝ }
-    ensures { λ r. ⌜ Wrote 4 at (transitionsWords (epsilons (exit + 1 + k) (childEntries (now (constants .entry)) (now (ports .entry)) (getD (now (constants .entry)) k 0)))) (now (out .entry)) (now (out .exit)) r ⌝ }
+    ensures { λ r. ⌜
+        Wrote 4 at
+        (transitionsWords (epsilons (exit + 1 + k)
+        (childEntries (now (constants .entry)) (now (ports .entry)) (getD (now (constants .entry)) k 0))))
+        (now (out .entry)) (now (out .exit)) r
+        ⌝ }
 {
     let from = exit + 1 + k as u32;
     let mut next = at;
@@ -59,7 +62,12 @@ fn push_product_entry(
 ) -> usize
     requires { ⌜ Emits (now constants) (now ports) exit at 5 ⌝ }
     requires { ⌜ (k < length (now constants)) × (1 ≤ length (now ports)) ⌝ }
-    ensures { λ r. ⌜ Wrote 5 at (transitionsWords (epsilons (exit + 1 + k) (productEntries (now (constants .entry)) (now (ports .entry)) c (getD (now (constants .entry)) k 0)))) (now (out .entry)) (now (out .exit)) r ⌝ }
+    ensures { λ r. ⌜
+        Wrote 5 at
+        (transitionsWords (epsilons (exit + 1 + k)
+        (productEntries (now (constants .entry)) (now (ports .entry)) c (getD (now (constants .entry)) k 0))))
+        (now (out .entry)) (now (out .exit)) r
+        ⌝ }
 {
     if constants[k] == c {
         return push_to_children(constants, &ports[1..], out, at, exit, k);
@@ -79,7 +87,12 @@ fn push_closure_entry(
 ) -> usize
     requires { ⌜ Emits (now constants) (now ports) exit at 5 ⌝ }
     requires { ⌜ k < length (now constants) ⌝ }
-    ensures { λ r. ⌜ Wrote 5 at (transitionsWords (epsilons (exit + 1 + k) (closureEntries (now (constants .entry)) (now (ports .entry)) c exit (getD (now (constants .entry)) k 0)))) (now (out .entry)) (now (out .exit)) r ⌝ }
+    ensures { λ r. ⌜
+        Wrote 5 at
+        (transitionsWords (epsilons (exit + 1 + k)
+        (closureEntries (now (constants .entry)) (now (ports .entry)) c exit (getD (now (constants .entry)) k 0))))
+        (now (out .entry)) (now (out .exit)) r
+        ⌝ }
 {
     let next = push_to_children(constants, ports, out, at, exit, k);
     if constants[k] == c {
@@ -97,7 +110,12 @@ pub fn push_entries(
     exit: u32,
 ) -> usize
     requires { ⌜ Emits (now constants) (now ports) exit at 80 ⌝ }
-    ensures { λ r. ⌜ Wrote 80 at (transitionsWords (fan (numbered (suc exit) (now (constants .entry))) (childEntries (now (constants .entry)) (now (ports .entry))))) (now (out .entry)) (now (out .exit)) r ⌝ }
+    ensures { λ r. ⌜
+        Wrote 80 at
+        (transitionsWords (fan (numbered (suc exit) (now (constants .entry)))
+        (childEntries (now (constants .entry)) (now (ports .entry)))))
+        (now (out .entry)) (now (out .exit)) r
+        ⌝ }
 {
     let mut next = at;
     let mut k = 0;
@@ -119,7 +137,12 @@ pub fn push_product_entries(
 ) -> usize
     requires { ⌜ Emits (now constants) (now ports) exit at 80 ⌝ }
     requires { ⌜ 1 ≤ length (now ports) ⌝ }
-    ensures { λ r. ⌜ Wrote 80 at (transitionsWords (fan (numbered (suc exit) (now (constants .entry))) (productEntries (now (constants .entry)) (now (ports .entry)) c))) (now (out .entry)) (now (out .exit)) r ⌝ }
+    ensures { λ r. ⌜
+        Wrote 80 at
+        (transitionsWords (fan (numbered (suc exit) (now (constants .entry)))
+        (productEntries (now (constants .entry)) (now (ports .entry)) c)))
+        (now (out .entry)) (now (out .exit)) r
+        ⌝ }
 {
     let mut next = at;
     let mut k = 0;
@@ -140,7 +163,12 @@ pub fn push_closure_entries(
     c: u32,
 ) -> usize
     requires { ⌜ Emits (now constants) (now ports) exit at 80 ⌝ }
-    ensures { λ r. ⌜ Wrote 80 at (transitionsWords (fan (numbered (suc exit) (now (constants .entry))) (closureEntries (now (constants .entry)) (now (ports .entry)) c exit))) (now (out .entry)) (now (out .exit)) r ⌝ }
+    ensures { λ r. ⌜
+        Wrote 80 at
+        (transitionsWords (fan (numbered (suc exit) (now (constants .entry)))
+        (closureEntries (now (constants .entry)) (now (ports .entry)) c exit)))
+        (now (out .entry)) (now (out .exit)) r
+        ⌝ }
 {
     let mut next = at;
     let mut k = 0;

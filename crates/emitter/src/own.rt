@@ -1,8 +1,9 @@
 // The own transitions of a word by its kind: its symbol move, if its rank is above 0, and its empty moves.
 ghost use mathlib.Core.Path.{_≡_};
+ghost use mathlib.Core.List.{[], _∷_};
 ghost use Prim.Native.Nat.{_+_, _≤_, _<_};
 ghost use lib.ListN.{length, getD};
-ghost use Rattle.automaton.specs.Transition.{transitionsWords};
+ghost use Rattle.automaton.specs.Transition.{epsilon, transitionsWords};
 ghost use Rattle.automaton.specs.Numbering.{symbolTransitions, unionTransitions, productTransitions, closureTransitions, ownTransitions};
 ghost use Rattle.emitter.specs.Writing.{Wrote, lastIndex};
 ghost use Rattle.emitter.specs.Ports.{portIn, portsIn, fullPort};
@@ -65,20 +66,44 @@ fn push_symbol(
 ) -> usize
     requires { ⌜ Emits (now constants) (now ports) exit at 85 ⌝ }
     requires { ⌜ symbol < 256 ⌝ }
-    ensures { λ r. ⌜ Wrote 85 at (transitionsWords (symbolTransitions symbol (fullPort (now (constants .entry)) exit) (portsIn (now (constants .entry)) (now (ports .entry))))) (now (out .entry)) (now (out .exit)) r ⌝ }
+    ensures { λ r. ⌜
+        Wrote 85 at
+        (transitionsWords (symbolTransitions symbol (fullPort (now (constants .entry)) exit)
+        (portsIn (now (constants .entry)) (now (ports .entry)))))
+        (now (out .entry)) (now (out .exit)) r
+        ⌝ }
 {
     let sources = push_transition(out, at, symbol, exit);
     let next = push_sources(ports, out, sources);
     push_entries(constants, ports, out, next, exit)
 }
 
+// From two states to one.
+fn push_both(out: &mut [u32], at: usize, first: u32, second: u32, to: u32) -> usize
+    requires { ⌜ (at + 2 ≤ lastIndex) × ((first < 4096) × ((second < 4096) × (to < 4096))) ⌝ }
+    ensures { λ r. ⌜
+        Wrote 2 at
+        (transitionsWords (epsilon first to ∷ epsilon second to ∷ []))
+        (now (out .entry)) (now (out .exit)) r
+        ⌝ }
+{
+    let next = push_epsilon(out, at, first, to);
+    push_epsilon(out, next, second, to)
+}
+
 fn push_union(constants: &[u32], ports: &[u32], out: &mut [u32], at: usize, exit: u32) -> usize
     requires { ⌜ Emits (now constants) (now ports) exit at 85 ⌝ }
     requires { ⌜ length (now ports) ≡ 2 ⌝ }
-    ensures { λ r. ⌜ Wrote 85 at (transitionsWords (unionTransitions (fullPort (now (constants .entry)) exit) (portIn (now (constants .entry)) (getD (now (ports .entry)) 0 0)) (portIn (now (constants .entry)) (getD (now (ports .entry)) 1 0)))) (now (out .entry)) (now (out .exit)) r ⌝ }
+    ensures { λ r. ⌜
+        Wrote 85 at
+        (transitionsWords (unionTransitions (fullPort (now (constants .entry)) exit)
+        (portIn (now (constants .entry)) (getD (now (ports .entry)) 0 0)) (portIn (now (constants .entry)) (getD (now (ports .entry)) 1 0))))
+        (now (out .entry)) (now (out .exit)) r
+        ⌝ }
 {
-    let second = push_epsilon(out, at, exit_of(ports[0]), exit);
-    let next = push_epsilon(out, second, exit_of(ports[1]), exit);
+    let first = exit_of(ports[0]);
+    let second = exit_of(ports[1]);
+    let next = push_both(out, at, first, second, exit);
     push_entries(constants, ports, out, next, exit)
 }
 
@@ -93,7 +118,12 @@ fn push_product(
 ) -> usize
     requires { ⌜ Emits (now constants) (now ports) exit at 85 ⌝ }
     requires { ⌜ (length (now ports) ≡ 2) × Listed (now constants) c ⌝ }
-    ensures { λ r. ⌜ Wrote 85 at (transitionsWords (productTransitions c (fullPort (now (constants .entry)) exit) (portIn (now (constants .entry)) (getD (now (ports .entry)) 0 0)) (portIn (now (constants .entry)) (getD (now (ports .entry)) 1 0)))) (now (out .entry)) (now (out .exit)) r ⌝ }
+    ensures { λ r. ⌜
+        Wrote 85 at
+        (transitionsWords (productTransitions c (fullPort (now (constants .entry)) exit)
+        (portIn (now (constants .entry)) (getD (now (ports .entry)) 0 0)) (portIn (now (constants .entry)) (getD (now (ports .entry)) 1 0))))
+        (now (out .entry)) (now (out .exit)) r
+        ⌝ }
 {
     let entry = entry_at(constants, ports[0], index_of(constants, c));
     let second = push_epsilon(out, at, exit_of(ports[0]), exit);
@@ -112,7 +142,12 @@ fn push_closure(
 ) -> usize
     requires { ⌜ Emits (now constants) (now ports) exit at 85 ⌝ }
     requires { ⌜ (length (now ports) ≡ 1) × Listed (now constants) c ⌝ }
-    ensures { λ r. ⌜ Wrote 85 at (transitionsWords (closureTransitions c (fullPort (now (constants .entry)) exit) (portIn (now (constants .entry)) (getD (now (ports .entry)) 0 0)))) (now (out .entry)) (now (out .exit)) r ⌝ }
+    ensures { λ r. ⌜
+        Wrote 85 at
+        (transitionsWords (closureTransitions c (fullPort (now (constants .entry)) exit)
+        (portIn (now (constants .entry)) (getD (now (ports .entry)) 0 0))))
+        (now (out .entry)) (now (out .exit)) r
+        ⌝ }
 {
     let entry = entry_at(constants, ports[0], index_of(constants, c));
     let second = push_to(out, at, exit_of(ports[0]), entry);
@@ -131,7 +166,12 @@ pub fn push_own(
 ) -> usize
     requires { ⌜ Emits (now constants) (now ports) exit at 85 ⌝ }
     requires { ⌜ Takes (now constants) (now ports) w ⌝ }
-    ensures { λ r. ⌜ Wrote 85 at (transitionsWords (ownTransitions w (fullPort (now (constants .entry)) exit) (portsIn (now (constants .entry)) (now (ports .entry))))) (now (out .entry)) (now (out .exit)) r ⌝ }
+    ensures { λ r. ⌜
+        Wrote 85 at
+        (transitionsWords (ownTransitions w (fullPort (now (constants .entry)) exit)
+        (portsIn (now (constants .entry)) (now (ports .entry)))))
+        (now (out .entry)) (now (out .exit)) r
+        ⌝ }
 {
     if ports.len() == 0 {
         return at;

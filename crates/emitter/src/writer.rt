@@ -2,7 +2,6 @@
 // out, so that a run over an empty slice counts.
 ghost use mathlib.Core.List.{[], _∷_};
 ghost use Prim.Native.Nat.{_+_, _*_, _<_};
-ghost use Rattle.words.specs.Word.{wordOf, transitionKind, epsilonKind};
 ghost use Rattle.automaton.specs.Transition.{transitionWords, onSymbol, epsilon};
 ghost use Rattle.emitter.specs.Writing.{Wrote, lastIndex};
 

@@ -14,7 +14,9 @@ returns c =
     (refused-answer _ _ _ _ f (c .if1 .taken), refused-exit _ _ _ _ f (c .if1 .taken))
 
 write-table-requires : tie.Need-write-table-requires
-write-table-requires c κs = accepted-parts _ _ (c .before .before .before .before .before .before .args .table .now) _ (c .before .before .compile-fault .ensures) (c .before .if1 .left)
+write-table-requires c κs =
+    accepted-parts _ _ (c .before .before .before .before .before .before .args .table .now) _ (c .before .before .compile-fault .ensures)
+    (c .before .if1 .left)
 
 same-length : tie.Need-same-length
 same-length c = search needs

@@ -35,7 +35,8 @@ states-after-requires c κs =
 
 returns-3 : tie.Need-returns-3
 returns-3 c =
-    let h = sym (c .before .before .before .before .before .before .alphabet-fault .ensures) ∙ c .before .before .before .before .before .if1 .left in
+    let h = sym
+    (c .before .before .before .before .before .before .alphabet-fault .ensures) ∙ c .before .before .before .before .before .if1 .left in
     let g = sym (c .before .before .before .before .expression-fault .ensures) ∙ c .before .before .before .if2 .left in
     fault-states _ _ _ h g _ (c .before .states-after .ensures .0) (c .if3 .taken)
 
@@ -44,21 +45,28 @@ slice-aggregate-write-table c = search needs
 
 write-table-requires : tie.Need-write-table-requires
 write-table-requires c κs =
-    let h = sym (c .before .before .before .before .before .before .before .alphabet-fault .ensures) ∙ c .before .before .before .before .before .before .if1 .left in
+    let h = sym
+    (c .before .before .before .before .before .before .before .alphabet-fault .ensures) ∙ c .before .before .before .before .before .before .if1 .left in
     let g = sym (c .before .before .before .before .before .expression-fault .ensures) ∙ c .before .before .before .before .if2 .left in
     record { alphabet = h; expression = g }
 
 returns-4 : tie.Need-returns-4
 returns-4 c =
-    let h = sym (c .before .before .before .before .before .before .before .before .before .before .alphabet-fault .ensures) ∙ c .before .before .before .before .before .before .before .before .before .if1 .left in
-    let g = sym (c .before .before .before .before .before .before .before .before .expression-fault .ensures) ∙ c .before .before .before .before .before .before .before .if2 .left in
-    fault-room _ _ _ h g _ (c .before .before .before .before .before .states-after .ensures .0) (c .before .before .before .before .if3 .left) _ (c .before .before .write-table .ensures .next) (c .if4 .taken)
+    let h = sym
+    (c .before .before .before .before .before .before .before .before .before .before .alphabet-fault .ensures) ∙ c .before .before .before .before .before .before .before .before .before .if1 .left in
+    let g = sym
+    (c .before .before .before .before .before .before .before .before .expression-fault .ensures) ∙ c .before .before .before .before .before .before .before .if2 .left in
+    fault-room _ _ _ h g _ (c .before .before .before .before .before .states-after .ensures .0)
+    (c .before .before .before .before .if3 .left) _ (c .before .before .write-table .ensures .next) (c .if4 .taken)
 
 returns-5 : tie.Need-returns-5
 returns-5 c =
-    let h = sym (c .before .before .before .before .before .before .before .before .before .before .alphabet-fault .ensures) ∙ c .before .before .before .before .before .before .before .before .before .if1 .left in
-    let g = sym (c .before .before .before .before .before .before .before .before .expression-fault .ensures) ∙ c .before .before .before .before .before .before .before .if2 .left in
-    fault-none _ _ _ h g _ (c .before .before .before .before .before .states-after .ensures .0) (c .before .before .before .before .if3 .left) _ (c .before .before .write-table .ensures .next) (c .if4 .left)
+    let h = sym
+    (c .before .before .before .before .before .before .before .before .before .before .alphabet-fault .ensures) ∙ c .before .before .before .before .before .before .before .before .before .if1 .left in
+    let g = sym
+    (c .before .before .before .before .before .before .before .before .expression-fault .ensures) ∙ c .before .before .before .before .before .before .before .if2 .left in
+    fault-none _ _ _ h g _ (c .before .before .before .before .before .states-after .ensures .0)
+    (c .before .before .before .before .if3 .left) _ (c .before .before .write-table .ensures .next) (c .if4 .left)
 
 pub compile-fault-spec : {M : Type 1} → statement M
 compile-fault-spec =

@@ -1,7 +1,6 @@
 -- `compiler::states::states_after` meets its contract. The invariant: the words from i on bring the states to the same number.
 -- Assumes nothing.
 use Prim.Native.Nat.{_-_}
-use native.Mathlib.Omega.{arith}
 use lib.ListN.{length}
 use borrow.Author.Needs.{needs}
 use Rattle.compiler.proofs.StateLaws.{Counting, counting-none, counting-more, counting-end}
@@ -36,7 +35,9 @@ loop-less : tie.Need-loop-less Inv-loop μ-loop
 loop-less c = search needs
 
 loop-again : tie.Need-loop-again Inv-loop μ-loop
-loop-again c = counting-more (c .before .before .before .loop .inv) _ (c .before .before .loop-test .taken) (c .states-of .ensures .0) (c .states-of .ensures .1)
+loop-again c =
+    counting-more (c .before .before .before .loop .inv) _ (c .before .before .loop-test .taken) (c .states-of .ensures .0)
+    (c .states-of .ensures .1)
 
 returns : tie.Need-returns Inv-loop μ-loop
 returns c = counting-end (c .before .loop .inv) (c .loop-test .left)

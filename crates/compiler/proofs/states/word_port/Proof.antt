@@ -12,7 +12,9 @@ port-of-requires : tie.Need-port-of-requires
 port-of-requires c κs = search needs
 
 returns : tie.Need-returns
-returns c = let p = c .before .before .before .before .pre in port-full _ _ _ _ _ (c .before .before .arity .ensures) (p .low) (c .before .if1 .taken) (c .port-of .ensures)
+returns c =
+    let p = c .before .before .before .before .pre in
+    port-full _ _ _ _ _ (c .before .before .arity .ensures) (p .low) (c .before .if1 .taken) (c .port-of .ensures)
 
 port-of-requires-2 : tie.Need-port-of-requires-2
 port-of-requires-2 c κs =
@@ -27,13 +29,15 @@ port-of-requires-3 c κs = search needs
 returns-2 : tie.Need-returns-2
 returns-2 c =
     let p = c .before .before .before .before .before .pre in
-    port-constant _ _ _ _ _ (c .before .before .before .arity .ensures) (p .low) (p .symbols) (symbol-known _ _ (p .word) (c .before .match .keys1)) (c .before .before .if1 .left)
+    port-constant _ _ _ _ _ (c .before .before .before .arity .ensures) (p .low) (p .symbols) (symbol-known _ _ (p .word)
+    (c .before .match .keys1)) (c .before .before .if1 .left)
     (c .before .match .keys1) (c .port-of2 .ensures)
 
 returns-3 : tie.Need-returns-3
 returns-3 c =
     let p = c .before .before .before .before .before .pre in
-    port-empty _ _ _ _ _ (c .before .before .before .arity .ensures) (p .low) (c .before .before .if1 .left) (c .before .match .rest .1) (c .port-of3 .ensures)
+    port-empty _ _ _ _ _ (c .before .before .before .arity .ensures) (p .low) (c .before .before .if1 .left) (c .before .match .rest .1)
+    (c .port-of3 .ensures)
 
 pub word-port-spec : {M : Type 1} → statement M
 word-port-spec =

@@ -27,7 +27,9 @@ shared-slice-read-w c =
     omega arith
 
 slice-aggregate-states-after : tie.Need-slice-aggregate-states-after
-slice-aggregate-states-after c = let l = c .before .before .before .before .before .before .args .expression .now in sym (length-take-le (length l - 1) l (omega arith))
+slice-aggregate-states-after c =
+    let l = c .before .before .before .before .before .before .args .expression .now in
+    sym (length-take-le (length l - 1) l (omega arith))
 
 states-after-requires : tie.Need-states-after-requires
 states-after-requires c κs =
@@ -38,7 +40,9 @@ states-after-requires c κs =
     (constants-counted _ _ (p .accepted .alphabet) (p .constants), omega arith)
 
 states-of-requires : tie.Need-states-of-requires
-states-of-requires c κs = let p = c .before .before .before .before .before .before .before .pre in constants-counted _ _ (p .accepted .alphabet) (p .constants)
+states-of-requires c κs =
+    let p = c .before .before .before .before .before .before .before .pre in
+    constants-counted _ _ (p .accepted .alphabet) (p .constants)
 
 add-states : tie.Need-add-states
 add-states c =
@@ -62,7 +66,8 @@ word-port-requires c κs =
 
 mul-push : tie.Need-mul-push
 mul-push c =
-    let e = expression-accepted _ _ (c .before .before .before .before .before .before .before .before .before .before .pre .accepted .expression) in
+    let e = expression-accepted _ _
+    (c .before .before .before .before .before .before .before .before .before .before .pre .accepted .expression) in
     let l = c .before .before .before .before .before .before .before .before .before .before .args .expression .now in
     let x = states-few l (length l - 1) _ (e .few) (c .before .before .before .states-after .ensures .1) in
     let s = c .before .before .states-of .ensures .1 in
@@ -70,7 +75,8 @@ mul-push c =
 
 add-push : tie.Need-add-push
 add-push c =
-    let e = expression-accepted _ _ (c .before .before .before .before .before .before .before .before .before .before .pre .accepted .expression) in
+    let e = expression-accepted _ _
+    (c .before .before .before .before .before .before .before .before .before .before .pre .accepted .expression) in
     let l = c .before .before .before .before .before .before .before .before .before .before .args .expression .now in
     let x = states-few l (length l - 1) _ (e .few) (c .before .before .before .states-after .ensures .1) in
     let s = c .before .before .states-of .ensures .1 in
@@ -78,7 +84,8 @@ add-push c =
 
 add-push-2 : tie.Need-add-push-2
 add-push-2 c =
-    let e = expression-accepted _ _ (c .before .before .before .before .before .before .before .before .before .before .pre .accepted .expression) in
+    let e = expression-accepted _ _
+    (c .before .before .before .before .before .before .before .before .before .before .pre .accepted .expression) in
     let l = c .before .before .before .before .before .before .before .before .before .before .args .expression .now in
     let x = states-few l (length l - 1) _ (e .few) (c .before .before .before .states-after .ensures .1) in
     let s = c .before .before .states-of .ensures .1 in
@@ -113,8 +120,12 @@ returns c =
     let p = c .before .before .before .before .before .before .before .before .before .before .before .before .before .before .before .before .before .before .before .before .before .pre in
     let a = c .before .before .before .before .before .before .before .before .before .before .before .before .before .before .before .before .before .before .before .before .before .args in
     let e = expression-accepted _ _ (p .accepted .expression) in
-    wrote-table (a .alphabet .now) (a .constants .now) (a .expression .now) (e .some) _ _ _ _ _ _ _ _ _ _ (p .constants) (c .before .before .before .before .before .before .before .before .before .before .before .before .before .before .states-after .ensures .0)
-    (c .before .before .before .before .before .before .before .before .before .before .before .before .before .states-of .ensures .0) (c .before .before .before .before .before .before .before .before .before .before .before .before .word-port .ensures) (c .before .before .before .before .before .before .before .before .before .before .push .ensures) (c .before .before .before .before .before .before .push-constants .ensures)
+    wrote-table (a .alphabet .now) (a .constants .now) (a .expression .now) (e .some) _ _ _ _ _ _ _ _ _ _ (p .constants)
+    (c .before .before .before .before .before .before .before .before .before .before .before .before .before .before .states-after .ensures .0)
+    (c .before .before .before .before .before .before .before .before .before .before .before .before .before .states-of .ensures .0)
+    (c .before .before .before .before .before .before .before .before .before .before .before .before .word-port .ensures)
+    (c .before .before .before .before .before .before .before .before .before .before .push .ensures)
+    (c .before .before .before .before .before .before .push-constants .ensures)
     (c .before .before .write-words .ensures)
 
 pub write-parts-spec : {M : Type 1} → statement M

@@ -1,7 +1,6 @@
 -- `compiler::table::write_table` meets its contract: the first words of the list are the constants. Assumes nothing.
 use native.Mathlib.Omega.{arith}
-use mathlib.Core.Path.{sym, ap, _∙_}
-use lib.ListN.{length}
+use mathlib.Core.Path.{sym}
 use lib.Seq.{length-take-le}
 use borrow.Author.Needs.{needs}
 use Rattle.words.proofs.AcceptedAlphabet.{alphabet-accepted}
@@ -30,7 +29,12 @@ slice-aggregate-write-parts c =
 write-parts-requires : tie.Need-write-parts-requires
 write-parts-requires c κs =
     let k = c .before .before .before .write-constants .ensures in
-    record { accepted = c .before .before .before .before .before .before .before .before .pre; constants = constants-first _ _ _ _ (k .0) (k .1); early = omega arith }
+    record {
+      accepted = c .before .before .before .before .before .before .before .before .pre;
+      constants = constants-first _ _ _ _ (k .0)
+          (k .1);
+      early = omega arith;
+    }
 
 same-length : tie.Need-same-length
 same-length c = search needs

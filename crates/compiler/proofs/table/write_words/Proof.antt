@@ -1,11 +1,10 @@
 -- `compiler::table::write_words` meets its contract. The invariant: the transitions of the first i words are written, and those of
 -- the words from i on follow from the next state and the stack. Assumes nothing.
 use Prim.Native.Nat.{_-_}
-use mathlib.Core.Path.{_≡_, refl, sym, _∙_, ap}
+use mathlib.Core.Path.{refl, ap}
 use native.Mathlib.Omega.{arith}
 use lib.ListN.{length}
 use borrow.Author.Needs.{needs}
-use Rattle.words.specs.Alphabet.{constantsOf}
 use Rattle.words.proofs.AcceptedAlphabet.{alphabet-accepted}
 use Rattle.compiler.proofs.AcceptedLaws.{expression-accepted}
 use Rattle.compiler.proofs.EmittedLaws.{Emitted, emitted-none, emitted-word, emitted-children, emitted-height, emitted-emits, emitted-takes, emitted-more, emitted-end}
@@ -13,7 +12,8 @@ use Rattle.compiler.proofs.table.write_words.Statement.{statement}
 use Rattle.compiler.proofs.table.write_words.Tie as tie
 
 abbrev Inv-loop : tie.InvT-loop
-Inv-loop alphabet constants expression out₀ at stack₀ height₀ state₀ next₀ i₀ out stack height state next i = Emitted alphabet constants expression at out₀ out stack height state next i
+Inv-loop alphabet constants expression out₀ at stack₀ height₀ state₀ next₀ i₀ out stack height state next i =
+    Emitted alphabet constants expression at out₀ out stack height state next i
 
 abbrev μ-loop : tie.MeasureT-loop
 μ-loop alphabet constants expression out₀ at stack₀ height₀ state₀ next₀ i₀ out stack height state next i = length expression - i
@@ -36,7 +36,10 @@ sub-base : tie.Need-sub-base Inv-loop μ-loop
 sub-base c = emitted-children (c .before .before .before .loop .inv) _ (c .before .before .loop-test .taken) (c .arity .ensures)
 
 mul-push-own : tie.Need-mul-push-own Inv-loop μ-loop
-mul-push-own c = let h = emitted-height (c .before .before .before .loop .inv) (c .before .before .loop-test .taken) (c .before .before .before .before .before .before .before .before .pre .accepted .expression) in omega arith
+mul-push-own c =
+    let h = emitted-height (c .before .before .before .loop .inv) (c .before .before .loop-test .taken)
+    (c .before .before .before .before .before .before .before .before .pre .accepted .expression) in
+    omega arith
 
 sub-push-own : tie.Need-sub-push-own Inv-loop μ-loop
 sub-push-own c = omega arith
@@ -45,7 +48,11 @@ part-push-own-start : tie.Need-part-push-own-start Inv-loop μ-loop
 part-push-own-start c = omega arith
 
 part-push-own-end : tie.Need-part-push-own-end Inv-loop μ-loop
-part-push-own-end c = let room = c .before .before .before .before .loop .inv .room in let h = emitted-height (c .before .before .before .before .loop .inv) (c .before .before .before .loop-test .taken) (c .before .before .before .before .before .before .before .before .before .pre .accepted .expression) in omega arith
+part-push-own-end c =
+    let room = c .before .before .before .before .loop .inv .room in
+    let h = emitted-height (c .before .before .before .before .loop .inv) (c .before .before .before .loop-test .taken)
+    (c .before .before .before .before .before .before .before .before .before .pre .accepted .expression) in
+    omega arith
 
 push-own-requires : tie.Need-push-own-requires Inv-loop μ-loop
 push-own-requires c κs =
@@ -69,13 +76,25 @@ word-port-requires c κs =
     record { symbols = alphabet-accepted _ (p .accepted .alphabet) .few; word = emitted-word m h; low = omega arith }
 
 mul-stack : tie.Need-mul-stack Inv-loop μ-loop
-mul-stack c = let h = emitted-height (c .before .before .before .before .before .before .before .before .before .before .loop .inv) (c .before .before .before .before .before .before .before .before .before .loop-test .taken) (c .before .before .before .before .before .before .before .before .before .before .before .before .before .before .before .pre .accepted .expression) in omega arith
+mul-stack c =
+    let h = emitted-height (c .before .before .before .before .before .before .before .before .before .before .loop .inv)
+    (c .before .before .before .before .before .before .before .before .before .loop-test .taken)
+    (c .before .before .before .before .before .before .before .before .before .before .before .before .before .before .before .pre .accepted .expression) in
+    omega arith
 
 array-write-stack : tie.Need-array-write-stack Inv-loop μ-loop
-array-write-stack c = let h = emitted-height (c .before .before .before .before .before .before .before .before .before .before .loop .inv) (c .before .before .before .before .before .before .before .before .before .loop-test .taken) (c .before .before .before .before .before .before .before .before .before .before .before .before .before .before .before .pre .accepted .expression) in omega arith
+array-write-stack c =
+    let h = emitted-height (c .before .before .before .before .before .before .before .before .before .before .loop .inv)
+    (c .before .before .before .before .before .before .before .before .before .loop-test .taken)
+    (c .before .before .before .before .before .before .before .before .before .before .before .before .before .before .before .pre .accepted .expression) in
+    omega arith
 
 add-height : tie.Need-add-height Inv-loop μ-loop
-add-height c = let h = emitted-height (c .before .before .before .before .before .before .before .before .before .before .loop .inv) (c .before .before .before .before .before .before .before .before .before .loop-test .taken) (c .before .before .before .before .before .before .before .before .before .before .before .before .before .before .before .pre .accepted .expression) in omega arith
+add-height c =
+    let h = emitted-height (c .before .before .before .before .before .before .before .before .before .before .loop .inv)
+    (c .before .before .before .before .before .before .before .before .before .loop-test .taken)
+    (c .before .before .before .before .before .before .before .before .before .before .before .before .before .before .before .pre .accepted .expression) in
+    omega arith
 
 states-of-requires : tie.Need-states-of-requires Inv-loop μ-loop
 states-of-requires c κs =
@@ -104,14 +123,19 @@ loop-again c =
     let p = c .before .before .before .before .before .before .before .before .before .before .before .before .before .before .before .before .pre in
     let m = c .before .before .before .before .before .before .before .before .before .before .before .loop .inv in
     let e = expression-accepted _ _ (p .accepted .expression) in
-    emitted-more m _ _ _ _ _ _ (p .constants) (c .before .before .before .before .before .before .before .before .before .before .loop-test .taken) (e .few) (c .before .before .before .before .before .before .before .before .arity .ensures) refl
-    (c .before .before .before .before .push-own .ensures) (c .before .before .before .before .push-own .kept .1 .1 .0) (rw (p .constants) (c .before .word-port .ensures)) (c .states-of .ensures .0) (c .states-of .ensures .1)
+    emitted-more m _ _ _ _ _ _ (p .constants)
+    (c .before .before .before .before .before .before .before .before .before .before .loop-test .taken) (e .few)
+    (c .before .before .before .before .before .before .before .before .arity .ensures) refl
+    (c .before .before .before .before .push-own .ensures) (c .before .before .before .before .push-own .kept .1 .1 .0) (rw (p .constants)
+    (c .before .word-port .ensures)) (c .states-of .ensures .0) (c .states-of .ensures .1)
 
 same-length : tie.Need-same-length Inv-loop μ-loop
 same-length c = c .before .loop .inv .long
 
 returns : tie.Need-returns Inv-loop μ-loop
-returns c = emitted-end (c .before .loop .inv) (c .loop-test .left) (expression-accepted _ _ (c .before .before .before .before .before .before .pre .accepted .expression) .few)
+returns c =
+    emitted-end (c .before .loop .inv) (c .loop-test .left) (expression-accepted _ _
+    (c .before .before .before .before .before .before .pre .accepted .expression) .few)
 
 pub write-words-spec : {M : Type 1} → statement M
 write-words-spec =

@@ -16,7 +16,8 @@ same-length c = search needs
 returns : tie.Need-returns
 returns c =
     let a = c .before .before .before .before .before .before .before .before .args in
-    port-every (a .constants .now) (a .port) _ _ _ _ _ (c .before .before .before .before .before .exit-of .ensures .0) (c .before .before .before .before .if1 .taken) (c .before .before .push-every .ensures)
+    port-every (a .constants .now) (a .port) _ _ _ _ _ (c .before .before .before .before .before .exit-of .ensures .0)
+    (c .before .before .before .before .if1 .taken) (c .before .before .push-every .ensures)
 
 returns-2 : tie.Need-returns-2
 returns-2 c = let a = c .before .before .before .before .before .args in port-none (a .constants .now) (a .port) _ _ (c .if2 .taken)
@@ -30,7 +31,9 @@ same-length-2 c = search needs
 returns-3 : tie.Need-returns-3
 returns-3 c =
     let a = c .before .before .before .before .before .before .before .before .before .args in
-    port-own (a .constants .now) (a .port) _ _ _ _ _ (c .before .before .before .before .before .before .exit-of .ensures .0) (c .before .before .before .before .before .if1 .left) (c .before .before .before .before .if2 .left) (c .before .before .push-transition .ensures)
+    port-own (a .constants .now) (a .port) _ _ _ _ _ (c .before .before .before .before .before .before .exit-of .ensures .0)
+    (c .before .before .before .before .before .if1 .left) (c .before .before .before .before .if2 .left)
+    (c .before .before .push-transition .ensures)
 
 pub push-constants-spec : {M : Type 1} → statement M
 push-constants-spec =

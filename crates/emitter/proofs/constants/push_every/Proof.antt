@@ -54,7 +54,10 @@ loop-less : tie.Need-loop-less Inv-loop μ-loop
 loop-less c = search needs
 
 loop-again : tie.Need-loop-again Inv-loop μ-loop
-loop-again c = moved-more (c .before .before .before .before .before .before .loop .inv) _ _ (c .before .before .before .before .before .loop-test .taken) (c .before .before .push-transition .kept .0) (c .before .before .push-transition .ensures)
+loop-again c =
+    moved-more (c .before .before .before .before .before .before .loop .inv) _ _
+    (c .before .before .before .before .before .loop-test .taken) (c .before .before .push-transition .kept .0)
+    (c .before .before .push-transition .ensures)
 
 same-length : tie.Need-same-length Inv-loop μ-loop
 same-length c = c .before .loop .inv .long

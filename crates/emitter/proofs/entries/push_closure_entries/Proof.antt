@@ -10,7 +10,8 @@ use Rattle.emitter.proofs.entries.push_closure_entries.Statement.{state
 use Rattle.emitter.proofs.entries.push_closure_entries.Tie as tie
 
 abbrev Inv-loop : tie.InvT-loop
-Inv-loop constants ports out₀ at exit c next₀ k₀ out next k = Fanned constants (closureEntries constants ports c exit) exit at out₀ out next k
+Inv-loop constants ports out₀ at exit c next₀ k₀ out next k =
+    Fanned constants (closureEntries constants ports c exit) exit at out₀ out next k
 
 abbrev μ-loop : tie.MeasureT-loop
 μ-loop constants ports out₀ at exit c next₀ k₀ out next k = length constants - k
@@ -40,7 +41,8 @@ loop-less c = search needs
 
 loop-again : tie.Need-loop-again Inv-loop μ-loop
 loop-again c =
-    fanned-more (c .before .before .before .before .before .loop .inv) 5 _ _ (c .before .before .before .before .loop-test .taken) (omega arith)
+    fanned-more (c .before .before .before .before .before .loop .inv) 5 _ _ (c .before .before .before .before .loop-test .taken)
+    (omega arith)
     (c .before .before .push-closure-entry .kept .1 .1 .0) (c .before .before .push-closure-entry .ensures)
 
 same-length : tie.Need-same-length Inv-loop μ-loop

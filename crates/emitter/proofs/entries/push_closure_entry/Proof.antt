@@ -30,13 +30,21 @@ same-length : tie.Need-same-length
 same-length c = search needs
 
 returns : tie.Need-returns
-returns c = let a = c .before .before .before .before .before .before .before .before .before .before .before .before .before .args in closure-here (a .constants .now) (a .ports .now) (a .exit + 1 + a .k) _ _ _ _ _ _ (a .exit) _ _ (c .before .before .before .before .if1 .taken) (c .before .before .before .before .before .before .before .before .push-to-children .ensures) (c .before .before .push-epsilon .ensures)
+returns c =
+    let a = c .before .before .before .before .before .before .before .before .before .before .before .before .before .args in
+    closure-here (a .constants .now) (a .ports .now) (a .exit + 1 + a .k) _ _ _ _ _ _ (a .exit) _ _
+    (c .before .before .before .before .if1 .taken)
+    (c .before .before .before .before .before .before .before .before .push-to-children .ensures)
+    (c .before .before .push-epsilon .ensures)
 
 same-length-2 : tie.Need-same-length-2
 same-length-2 c = search needs
 
 returns-2 : tie.Need-returns-2
-returns-2 c = let a = c .before .before .before .before .before .before .before .before .before .args in closure-other (a .constants .now) (a .ports .now) (a .exit + 1 + a .k) _ _ _ _ _ _ (a .exit) (c .if1 .left) (c .before .before .before .before .push-to-children .ensures)
+returns-2 c =
+    let a = c .before .before .before .before .before .before .before .before .before .args in
+    closure-other (a .constants .now) (a .ports .now) (a .exit + 1 + a .k) _ _ _ _ _ _ (a .exit) (c .if1 .left)
+    (c .before .before .before .before .push-to-children .ensures)
 
 pub push-closure-entry-spec : {M : Type 1} → statement M
 push-closure-entry-spec =

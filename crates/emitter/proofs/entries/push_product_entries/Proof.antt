@@ -40,7 +40,8 @@ loop-less c = search needs
 
 loop-again : tie.Need-loop-again Inv-loop μ-loop
 loop-again c =
-    fanned-more (c .before .before .before .before .before .loop .inv) 5 _ _ (c .before .before .before .before .loop-test .taken) (omega arith)
+    fanned-more (c .before .before .before .before .before .loop .inv) 5 _ _ (c .before .before .before .before .loop-test .taken)
+    (omega arith)
     (c .before .before .push-product-entry .kept .1 .1 .0) (c .before .before .push-product-entry .ensures)
 
 same-length : tie.Need-same-length Inv-loop μ-loop

@@ -22,13 +22,18 @@ part-push-to-children-end : tie.Need-part-push-to-children-end
 part-push-to-children-end c = search needs
 
 push-to-children-requires : tie.Need-push-to-children-requires
-push-to-children-requires c κs = let p = c .before .before .before .before .before .before .before .pre in (emits-behind _ _ _ _ _ (p .0), p .1 .0)
+push-to-children-requires c κs =
+    let p = c .before .before .before .before .before .before .before .pre in
+    (emits-behind _ _ _ _ _ (p .0), p .1 .0)
 
 same-length : tie.Need-same-length
 same-length c = search needs
 
 returns : tie.Need-returns
-returns c = let a = c .before .before .before .before .before .before .before .before .before .before .args in product-here (a .constants .now) (a .ports .now) (a .exit + 1 + a .k) _ _ _ _ _ _ (c .before .before .before .before .before .if1 .taken) (c .before .before .push-to-children .ensures)
+returns c =
+    let a = c .before .before .before .before .before .before .before .before .before .before .args in
+    product-here (a .constants .now) (a .ports .now) (a .exit + 1 + a .k) _ _ _ _ _ _
+    (c .before .before .before .before .before .if1 .taken) (c .before .before .push-to-children .ensures)
 
 push-to-children-requires-2 : tie.Need-push-to-children-requires-2
 push-to-children-requires-2 c κs = search needs
@@ -37,7 +42,10 @@ same-length-2 : tie.Need-same-length-2
 same-length-2 c = search needs
 
 returns-2 : tie.Need-returns-2
-returns-2 c = let a = c .before .before .before .before .before .before .before .before .before .args in product-other (a .constants .now) (a .ports .now) (a .exit + 1 + a .k) _ _ _ _ _ _ (c .before .before .before .before .if1 .left) (c .before .before .push-to-children2 .ensures)
+returns-2 c =
+    let a = c .before .before .before .before .before .before .before .before .before .args in
+    product-other (a .constants .now) (a .ports .now) (a .exit + 1 + a .k) _ _ _ _ _ _ (c .before .before .before .before .if1 .left)
+    (c .before .before .push-to-children2 .ensures)
 
 pub push-product-entry-spec : {M : Type 1} → statement M
 push-product-entry-spec =

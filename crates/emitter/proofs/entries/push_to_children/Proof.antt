@@ -10,7 +10,8 @@ use Rattle.emitter.proofs.entries.push_to_children.Statement.{statement
 use Rattle.emitter.proofs.entries.push_to_children.Tie as tie
 
 abbrev Inv-loop : tie.InvT-loop
-Inv-loop constants ports out₀ at exit k from next₀ i₀ out next i = ToChildren constants ports (exit + 1 + k) (getD constants k 0) at out₀ out next i
+Inv-loop constants ports out₀ at exit k from next₀ i₀ out next i =
+    ToChildren constants ports (exit + 1 + k) (getD constants k 0) at out₀ out next i
 
 abbrev μ-loop : tie.MeasureT-loop
 μ-loop constants ports out₀ at exit k from next₀ i₀ out next i = length ports - i
@@ -58,7 +59,8 @@ loop-less c = search needs
 
 loop-again : tie.Need-loop-again Inv-loop μ-loop
 loop-again c =
-    children-more (c .before .before .before .before .before .before .before .loop .inv) _ _ _ (c .before .before .before .before .before .before .loop-test .taken)
+    children-more (c .before .before .before .before .before .before .before .loop .inv) _ _ _
+    (c .before .before .before .before .before .before .loop-test .taken)
     (c .before .before .before .before .entry-at .ensures) (c .before .before .push-to .kept .0) (c .before .before .push-to .ensures)
 
 same-length : tie.Need-same-length Inv-loop μ-loop

@@ -37,7 +37,11 @@ push-epsilon-requires c κs = search needs
 
 push-closure-entries-requires : tie.Need-push-closure-entries-requires
 push-closure-entries-requires c κs =
-    emits-later _ _ _ _ _ (c .before .before .before .before .before .before .before .before .before .before .before .before .before .before .before .before .before .before .before .pre .0) (let m = wrote-next _ _ _ _ _ _ (c .before .before .before .before .before .before .before .before .before .push-to .ensures) in let n = wrote-next _ _ _ _ _ _ (c .before .before .before .push-epsilon .ensures) in omega arith)
+    emits-later _ _ _ _ _
+    (c .before .before .before .before .before .before .before .before .before .before .before .before .before .before .before .before .before .before .before .pre .0)
+    (let m = wrote-next _ _ _ _ _ _
+    (c .before .before .before .before .before .before .before .before .before .push-to .ensures) in let n = wrote-next _ _ _ _ _ _
+    (c .before .before .before .push-epsilon .ensures) in omega arith)
 
 same-length : tie.Need-same-length
 same-length c = search needs
@@ -49,7 +53,9 @@ returns c =
     let x = c .before .before .before .before .before .before .before .before .before .before .before .before .before .exit-of .ensures .0 in
     let y = c .before .before .before .before .before .before .before .exit-of2 .ensures .0 in
     closure-own (a .constants .now) (a .ports .now) _ _ _ _ _ _ _ _ _ _ _ (p .1 .0) x
-    (to-entry (a .constants .now) (getD (a .ports .now) 0 0) _ (a .c) _ _ _ _ _ _ (c .before .before .before .before .before .before .before .before .before .before .before .before .before .before .before .before .entry-at .ensures) (c .before .before .before .before .before .before .before .before .before .before .before .before .before .before .before .before .before .index-of .ensures .1)
+    (to-entry (a .constants .now) (getD (a .ports .now) 0 0) _ (a .c) _ _ _ _ _ _
+    (c .before .before .before .before .before .before .before .before .before .before .before .before .before .before .before .before .entry-at .ensures)
+    (c .before .before .before .before .before .before .before .before .before .before .before .before .before .before .before .before .before .index-of .ensures .1)
     (c .before .before .before .before .before .before .before .before .before .before .before .before .push-to .ensures))
     (rw (y, ← x) at (c .before .before .before .before .before .before .push-epsilon .ensures))
     (c .before .before .push-closure-entries .ensures)

@@ -44,7 +44,9 @@ push-product-entries-requires : tie.Need-push-product-entries-requires
 push-product-entries-requires c κs =
     let p = c .before .before .before .before .before .before .before .before .before .before .before .before .before .before .before .before .before .before .before .pre in
     let two = p .1 .0 in (
-      emits-later _ _ _ _ _ (p .0) (let m = wrote-next _ _ _ _ _ _ (c .before .before .before .before .before .before .before .before .before .push-epsilon .ensures) in let n = wrote-next _ _ _ _ _ _ (c .before .before .before .push-to .ensures) in omega arith),
+      emits-later _ _ _ _ _ (p .0) (let m = wrote-next _ _ _ _ _ _
+          (c .before .before .before .before .before .before .before .before .before .push-epsilon .ensures) in let n = wrote-next _ _ _ _ _ _
+          (c .before .before .before .push-to .ensures) in omega arith),
       omega arith,
     )
 
@@ -55,9 +57,13 @@ returns : tie.Need-returns
 returns c =
     let a = c .before .before .before .before .before .before .before .before .before .before .before .before .before .before .before .before .before .before .before .before .before .before .args in
     let p = c .before .before .before .before .before .before .before .before .before .before .before .before .before .before .before .before .before .before .before .before .before .before .pre in
-    product-own (a .constants .now) (a .ports .now) _ _ _ _ _ _ _ _ _ _ _ _ (p .1 .0) (c .before .before .before .before .before .before .before .before .before .before .before .before .before .exit-of .ensures .0) (c .before .before .before .before .before .before .before .exit-of2 .ensures .0)
+    product-own (a .constants .now) (a .ports .now) _ _ _ _ _ _ _ _ _ _ _ _ (p .1 .0)
+    (c .before .before .before .before .before .before .before .before .before .before .before .before .before .exit-of .ensures .0)
+    (c .before .before .before .before .before .before .before .exit-of2 .ensures .0)
     (c .before .before .before .before .before .before .before .before .before .before .before .before .push-epsilon .ensures)
-    (to-entry (a .constants .now) (getD (a .ports .now) 0 0) _ (a .c) _ _ _ _ _ _ (c .before .before .before .before .before .before .before .before .before .before .before .before .before .before .before .before .entry-at .ensures) (c .before .before .before .before .before .before .before .before .before .before .before .before .before .before .before .before .before .index-of .ensures .1)
+    (to-entry (a .constants .now) (getD (a .ports .now) 0 0) _ (a .c) _ _ _ _ _ _
+    (c .before .before .before .before .before .before .before .before .before .before .before .before .before .before .before .before .entry-at .ensures)
+    (c .before .before .before .before .before .before .before .before .before .before .before .before .before .before .before .before .before .index-of .ensures .1)
     (c .before .before .before .before .before .before .push-to .ensures))
     (c .before .before .push-product-entries .ensures)
 

@@ -47,7 +47,9 @@ loop-less c = search needs
 
 loop-again : tie.Need-loop-again Inv-loop μ-loop
 loop-again c =
-    sourced-more (c .before .before .before .before .before .before .before .loop .inv) _ _ _ (c .before .before .before .before .before .before .loop-test .taken) (c .before .before .before .exit-of .ensures .0) (c .before .before .push .kept .0) (c .before .before .push .ensures)
+    sourced-more (c .before .before .before .before .before .before .before .loop .inv) _ _ _
+    (c .before .before .before .before .before .before .loop-test .taken) (c .before .before .before .exit-of .ensures .0)
+    (c .before .before .push .kept .0) (c .before .before .push .ensures)
 
 same-length : tie.Need-same-length Inv-loop μ-loop
 same-length c = c .before .loop .inv .long

@@ -19,7 +19,9 @@ same-length c = search needs
 returns : tie.Need-returns
 returns c =
     let a = c .before .before .before .before .before .before .before .before .before .before .before .before .before .before .before .args in
-    symbol-own (a .constants .now) (a .ports .now) _ _ _ _ _ _ _ _ _ _ (c .before .before .before .before .before .before .before .before .before .before .push-transition .ensures) (c .before .before .before .before .before .before .push-sources .ensures)
+    symbol-own (a .constants .now) (a .ports .now) _ _ _ _ _ _ _ _ _ _
+    (c .before .before .before .before .before .before .before .before .before .before .push-transition .ensures)
+    (c .before .before .before .before .before .before .push-sources .ensures)
     (c .before .before .push-entries .ensures)
 
 pub push-symbol-spec : {M : Type 1} → statement M

@@ -1,4 +1,4 @@
--- `emitter::own::push_union` meets its contract: its three writers leave the transitions of a union. Assumes nothing.
+-- `emitter::own::push_union` meets its contract: its two writers leave the transitions of a union. Assumes nothing.
 use borrow.Author.Needs.{needs}
 use Rattle.emitter.proofs.OwnLaws.{union-own}
 use Rattle.emitter.proofs.own.push_union.Statement.{statement}
@@ -10,17 +10,14 @@ shared-slice-read-exit-of c = search needs
 exit-of-requires : tie.Need-exit-of-requires
 exit-of-requires c κs = search needs
 
-push-epsilon-requires : tie.Need-push-epsilon-requires
-push-epsilon-requires c κs = search needs
-
 shared-slice-read-exit-of-2 : tie.Need-shared-slice-read-exit-of-2
 shared-slice-read-exit-of-2 c = search needs
 
 exit-of-requires-2 : tie.Need-exit-of-requires-2
 exit-of-requires-2 c κs = search needs
 
-push-epsilon-requires-2 : tie.Need-push-epsilon-requires-2
-push-epsilon-requires-2 c κs = search needs
+push-both-requires : tie.Need-push-both-requires
+push-both-requires c κs = search needs
 
 push-entries-requires : tie.Need-push-entries-requires
 push-entries-requires c κs = search needs
@@ -30,9 +27,12 @@ same-length c = search needs
 
 returns : tie.Need-returns
 returns c =
-    let a = c .before .before .before .before .before .before .before .before .before .before .before .before .before .before .before .before .before .before .before .args in
-    union-own (a .constants .now) (a .ports .now) _ _ _ _ _ _ _ _ _ _ _ (c .before .before .before .before .before .before .before .before .before .before .before .before .before .before .before .before .before .before .before .pre .1) (c .before .before .before .before .before .before .before .before .before .before .before .before .before .exit-of .ensures .0) (c .before .before .before .before .before .before .before .exit-of2 .ensures .0)
-    (c .before .before .before .before .before .before .before .before .before .before .before .before .push-epsilon .ensures) (c .before .before .before .before .before .before .push-epsilon2 .ensures) (c .before .before .push-entries .ensures)
+    let a = c .before .before .before .before .before .before .before .before .before .before .before .before .before .before .before .args in
+    union-own (a .constants .now) (a .ports .now) _ _ _ _ _ _ _ _ _
+    (c .before .before .before .before .before .before .before .before .before .before .before .before .before .before .before .pre .1)
+    (c .before .before .before .before .before .before .before .before .before .before .exit-of .ensures .0)
+    (c .before .before .before .before .before .before .before .before .exit-of2 .ensures .0)
+    (c .before .before .before .before .before .before .push-both .ensures) (c .before .before .push-entries .ensures)
 
 pub push-union-spec : {M : Type 1} → statement M
 push-union-spec =
@@ -40,10 +40,9 @@ push-union-spec =
     (tie.spec
     shared-slice-read-exit-of
     exit-of-requires
-    push-epsilon-requires
     shared-slice-read-exit-of-2
     exit-of-requires-2
-    push-epsilon-requires-2
+    push-both-requires
     push-entries-requires
     same-length
     returns)

@@ -1,0 +1,67 @@
+-- Which own transitions a word has, told by its kind number. Assumes nothing.
+use mathlib.Core.Path.{_≡_, refl, ap, _∙_}
+use mathlib.Core.List.{List, [], _∷_}
+use Prim.Native.Nat.{ℕ}
+use native.Mathlib.Omega.{arith}
+use lib.ListN.{length}
+use borrow.Author.Tests.{eq-eqb, ne-eqb}
+use Rattle.words.specs.Word.{numberOf, lowByte}
+use Rattle.automaton.specs.Transition.{Transition, transitionsWords}
+use Rattle.automaton.specs.Numbering.{Port, symbolTransitions, unionTransitions, productTransitions, closureTransitions, ownTransitions}
+use Rattle.emitter.specs.Writing.{Wrote}
+use Rattle.emitter.specs.Ports.{portsIn}
+use Rattle.emitter.proofs.WritingLaws.{wrote-none, wrote-same}
+use Rattle.emitter.proofs.OwnLaws.{both, single, F, G}
+
+module _ (w : ℕ) (E : Port) (cs : List ℕ) where
+  abbrev own : List ℕ → List Transition
+  own ps = ownTransitions w E (portsIn cs ps)
+
+  -- a word with no children has none
+  pub own-none : (ps : List ℕ) → length ps ≡ 0 → own ps ≡ []
+  unfolding ownTransitions
+  own-none [] h = refl
+  own-none (p ∷ ps) h = absurd (omega arith)
+
+  pub own-symbol : (ps : List ℕ) → (length ps ≡ 0 → ⊥) → numberOf w ≡ 2 → own ps ≡ symbolTransitions (lowByte w) E (portsIn cs ps)
+  unfolding ownTransitions
+  own-symbol [] n e = absurd (n refl)
+  own-symbol (p ∷ ps) n e = rw (eq-eqb (numberOf w) 2 e)
+
+  pub own-union : (ps : List ℕ) → length ps ≡ 2 → numberOf w ≡ 4 → own ps ≡ unionTransitions E (F cs ps) (G cs ps)
+  unfolding ownTransitions
+  own-union ps h e =
+      ap own (both ps h) ∙ rw (ne-eqb (numberOf w) 2 (λ z. omega arith), eq-eqb (numberOf w) 4 e)
+
+  pub own-product : (ps : List ℕ) → length ps ≡ 2 → numberOf w ≡ 5 → own ps ≡ productTransitions (lowByte w) E (F cs ps) (G cs ps)
+  unfolding ownTransitions
+  own-product ps h e =
+      ap own (both ps h)
+      ∙ rw (ne-eqb (numberOf w) 2 (λ z. omega arith), ne-eqb (numberOf w) 4 (λ z. omega arith), eq-eqb (numberOf w) 5 e)
+
+  pub own-closure : (ps : List ℕ) → length ps ≡ 1 → numberOf w ≡ 6 → own ps ≡ closureTransitions (lowByte w) E (F cs ps)
+  unfolding ownTransitions
+  own-closure ps h e =
+      ap own (single ps h)
+      ∙ rw (
+        ne-eqb (numberOf w) 2 (λ z. omega arith),
+        ne-eqb (numberOf w) 4 (λ z. omega arith),
+        ne-eqb (numberOf w) 5
+            (λ z. omega arith),
+        eq-eqb (numberOf w) 6 e,
+      )
+
+  -- a word of any other kind has none
+  pub own-other : (ps : List ℕ) → (numberOf w ≡ 2 → ⊥) → (numberOf w ≡ 4 → ⊥) → (numberOf w ≡ 5 → ⊥) → (numberOf w ≡ 6 → ⊥) → own ps ≡ []
+  unfolding ownTransitions
+  own-other [] n₂ n₄ n₅ n₆ = refl
+  own-other (p ∷ ps) n₂ n₄ n₅ n₆ =
+      rw (ne-eqb (numberOf w) 2 n₂, ne-eqb (numberOf w) 4 n₄, ne-eqb (numberOf w) 5 n₅, ne-eqb (numberOf w) 6 n₆)
+
+-- the words of transitions that are written, said otherwise
+pub wrote-transitions : (m at r : ℕ) (ts us : List Transition) (out out′ : List ℕ) → us ≡ ts → Wrote m at (transitionsWords ts) out out′ r → Wrote m at (transitionsWords us) out out′ r
+wrote-transitions m at r ts us out out′ e w = rw e w
+
+-- no transitions
+pub wrote-no-transitions : (m at : ℕ) (us : List Transition) (out : List ℕ) → us ≡ [] → Wrote m at (transitionsWords us) out out at
+wrote-no-transitions m at us out e = rw e (wrote-same 0 m at at [] [] out out (wrote-none at out) (omega arith) refl)
