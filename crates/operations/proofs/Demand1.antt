@@ -1,14 +1,14 @@
 -- Demand 1 over the definitions: a call is refused with a number exactly if that number is the first of its refusals whose
--- condition holds; otherwise it is accepted with its values; and a refused call leaves every lent slice as it was. That each
--- number is attained is shown in Attained. Assumes nothing.
+-- condition holds; otherwise it is accepted with its values; a refused call leaves every lent slice as it was; and every call
+-- stays inside the memory lent to it. That each number is attained is shown in Attained. Assumes nothing.
 use Prim.Native.Nat.{ℕ, zero, suc, _<_, _*_}
-use mathlib.Core.Path.{_≡_, refl, sym, _∙_, ap}
+use mathlib.Core.Path.{_≡_, refl}
 use mathlib.Core.Logic.{_↔_}
-use mathlib.Core.Bool.{Bool, true, false, cond, _&&_}
+use mathlib.Core.Bool.{Bool, true, false}
 use mathlib.Core.List.{List, [], _∷_, _++_, flatten, map}
 use native.Mathlib.Omega.{arith}
 use lib.ListN.{length, drop}
-use lib.Dec.{ltb, eqb, eqb·suc-zero}
+use lib.Dec.{ltb, eqb·suc-zero}
 use borrow.Author.Tests.{ltb-true, ne-eqb}
 use Rattle.words.specs.Refusal.{Refusals, refusal}
 use Rattle.words.proofs.TestLaws.{and-true}
@@ -19,6 +19,7 @@ use Rattle.operations.specs.Marks.{sizeOf, nodeSets, refit}
 use Rattle.operations.specs.Run.{runRefusals, runAnswer, runExit, runMarks, cellsIn}
 use Rattle.operations.specs.Listing.{listRefusals, listAnswer, listExit, matchesOf}
 use Rattle.operations.specs.Exchange.{setIn, exchangeRefusals, used, fault, newTree, outcomes, recomputedIn, exchangeAnswer, exchangeChapter, exchangeMarks}
+use Rattle.operations.proofs.LengthLaws.{compile-length, run-exit-length, list-length, chapter-length, marks-length}
 
 -- "the first applicable number": n's condition holds, and no condition before it
 pub data First (n : ℕ) : Refusals → Type 0 where
@@ -30,11 +31,17 @@ abbrev pub Unchanged : List (List ℕ × List ℕ) → Type 0
 Unchanged [] = Unit {0}
 Unchanged (s ∷ ss) = (s .1 ≡ s .0) × Unchanged ss
 
+abbrev pub SameLength : List (List ℕ × List ℕ) → Type 0
+SameLength [] = Unit {0}
+SameLength (s ∷ ss) = (length (s .1) ≡ length (s .0)) × SameLength ss
+
 -- what demand 1 says of a call with these refusals, this answer, the values of an accepted call, and these lent slices
 pub record Judged (rs : Refusals) (answer : Answer) (values : List ℕ) (slices : List (List ℕ × List ℕ)) : Type 0 where
   pub refuses : (n : ℕ) → (answer ≡ refused n) ↔ First n rs
   pub accepts : (answer ≡ accepted values) ↔ NoneHolds rs
   pub unchanged : (n : ℕ) → answer ≡ refused n → Unchanged slices
+  -- accepted or refused: "inside the memory lent to it"
+  pub lengths : SameLength slices
 
 -- ---- any call
 
@@ -76,14 +83,16 @@ module _ (vs : List ℕ) where
   kept-by f n after before h = let q = refused-by f n h in rw (ne-eqb f 0 (omega arith))
 
   judged : (rs : Refusals) (slices : List (List ℕ × List ℕ)) → positive rs ≡ true
-      → ((n : ℕ) → answerOf (refusal rs) vs ≡ refused n → Unchanged slices) → Judged rs (answerOf (refusal rs) vs) vs slices
-  judged rs slices p k = record {
+      → ((n : ℕ) → answerOf (refusal rs) vs ≡ refused n → Unchanged slices) → SameLength slices
+      → Judged rs (answerOf (refusal rs) vs) vs slices
+  judged rs slices p k l = record {
     refuses = λ n. (
       (λ h. let q = refused-by (refusal rs) n h in refusal-is-first rs n (q .0) (q .1)),
       (λ h. refuses-by (refusal rs) n (first-positive p h) (first-is-refusal h)),
     );
     accepts = ((λ h. refusal-none rs p (accepted-by (refusal rs) h)), (λ h. accepts-by (refusal rs) (none-refusal rs h)));
     unchanged = k;
+    lengths = l;
   }
 
 -- ---- the four operations
@@ -95,6 +104,7 @@ demand1-compile a e slice =
     let vs = length (compiledTable a e) ∷ [] in
     let rs = compileRefusals a e (length slice) in
     judged vs rs _ refl (λ n h. (kept-by vs (refusal rs) n (compiledTable a e ++ drop (length (compiledTable a e)) slice) slice h, tt))
+    (compile-length a e slice, tt)
 
 pub demand1-run : (a table ch marks : List ℕ)
     → Judged (runRefusals a table ch (length marks)) (runAnswer a table ch marks)
@@ -103,7 +113,7 @@ unfolding runAnswer runExit
 demand1-run a table ch marks =
     let vs = length ch ∷ cellsIn (flatten (nodeSets a table ch)) ∷ [] in
     let rs = runRefusals a table ch (length marks) in
-    judged vs rs _ refl (λ n h. (kept-by vs (refusal rs) n (runMarks a table ch marks) marks h, tt))
+    judged vs rs _ refl (λ n h. (kept-by vs (refusal rs) n (runMarks a table ch marks) marks h, tt)) (run-exit-length a table ch marks, tt)
 
 pub demand1-list : (a table : List ℕ) (n : ℕ) (marks slice : List ℕ)
     → Judged (listRefusals a table n (length marks) (length slice)) (listAnswer a table n marks slice)
@@ -113,6 +123,7 @@ demand1-list a table n marks slice =
     let vs = length (matchesOf table n marks) ∷ [] in
     let rs = listRefusals a table n (length marks) (length slice) in
     judged vs rs _ refl (λ k h. (kept-by vs (refusal rs) k (matchesOf table n marks ++ drop (length (matchesOf table n marks)) slice) slice h, tt))
+    (list-length a table n marks slice, tt)
 
 pub demand1-exchange : (a table chapter marks : List ℕ) (n e : ℕ) (xs : List ℕ)
     → Judged (exchangeRefusals a table n (used a table chapter marks n e xs) (length chapter) (length marks) e xs)
@@ -129,3 +140,4 @@ demand1-exchange a table chapter marks n e xs =
           (refit n (newTree a table chapter marks n e xs) chapter) chapter h,
       (kept-by vs (refusal rs) k (refit (n * sizeOf table) (flatten (map setIn (outcomes a table chapter marks n e xs))) marks) marks h, tt),
     ))
+    (chapter-length a table chapter marks n e xs, (marks-length a table chapter marks n e xs, tt))

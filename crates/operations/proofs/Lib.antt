@@ -13,6 +13,8 @@ pub mod Demand2
 pub mod BehindLaws
 pub mod RuleLaws
 pub mod OutcomeParts
+pub mod OutcomeSizes
+pub mod LengthLaws
 pub mod Recomputed
 pub mod Recomputation
 pub mod SliceLaws

@@ -1,9 +1,9 @@
 -- Laws of state sets in a slice: each has its size, is read back, equal words are told, and what stands behind a change.
 -- Assumes nothing.
 use mathlib.Core.Path.{_≡_, refl, ap, ap₂, _∙_, sym}
-use mathlib.Core.Bool.{true, false, false≢true}
+use mathlib.Core.Bool.{true, false≢true}
 use mathlib.Core.List.{List, [], _∷_, _++_, flatten, append-assoc}
-use Prim.Native.Nat.{ℕ, zero, suc, _+_, _-_, _*_, _≤_, _<_}
+use Prim.Native.Nat.{ℕ, zero, suc, _+_, _*_, _≤_, _<_}
 use native.Mathlib.Omega.{arith}
 use native.Mathlib.Nat.{zero-mul, suc-mul, add-comm}
 use lib.ListN.{length, getD, take, drop, length-append, length-drop, length-replicate, take-append-drop}
@@ -46,9 +46,9 @@ module _ (a table : List ℕ) where
 -- ---- state sets one behind the other
 
 module _ (size : ℕ) where
-  pub sized-getD : (rs : List StateSet) → ((j : ℕ) → j < length rs → length (getD rs j []) ≡ size) → Sized size rs
-  sized-getD [] h = tt
-  sized-getD (r ∷ rs) h = (h 0 (omega arith), sized-getD rs (λ j l. h (suc j) (omega arith)))
+  pub sized-append : (rs qs : List StateSet) → Sized size rs → Sized size qs → Sized size (rs ++ qs)
+  sized-append [] qs h g = g
+  sized-append (r ∷ rs) qs h g = (h .0, sized-append rs qs (h .1) g)
 
   pub length-flatten : (rs : List StateSet) → Sized size rs → length (flatten rs) ≡ length rs * size
   unfolding flatten

@@ -1,21 +1,19 @@
 -- The second half of demand 3 holds of every accepted Exchange: the laws of the outcomes by node number, of the nodes behind
 -- and of the rule, put together. Assumes nothing.
-use mathlib.Core.Path.{_≡_, ap, _∙_, sym, subst}
-use mathlib.Core.Bool.{Bool, true, false, cond}
+use mathlib.Core.Path.{_≡_, ap, _∙_}
+use mathlib.Core.Bool.{cond}
 use mathlib.Core.List.{List, [], _∷_, map, flatten}
 use Prim.Native.Nat.{ℕ, _+_, _-_, _*_, _<_}
 use native.Mathlib.Omega.{arith}
-use native.Mathlib.Decide.{decLt}
-use native.Mathlib.Nat.{mul-le-mul-right}
-use lib.ListN.{length, getD, take, drop, length-drop, length-map, List·getD-map}
+use lib.ListN.{length, getD, take, drop, length-map, List·getD-map}
 use lib.Seq.{length-take-le}
 use Rattle.words.specs.Postfix.{startOf, splice, childrenOf}
-use Rattle.words.proofs.PostfixLaws.{start-le, length-splice}
 use Rattle.automaton.specs.StateSet.{StateSet}
 use Rattle.operations.specs.Answer.{accepted}
 use Rattle.operations.specs.Marks.{sizeOf, nodeSet, nodeSets, storedSet, refit}
 use Rattle.operations.specs.Exchange.{Outcome, kept, recomputed, setIn, recomputedIn, outcomesAfter, fault, newTree, outcomes, exchangeAnswer, exchangeMarks}
-use Rattle.operations.proofs.MarksLaws.{Sized, sized-getD, length-nodeSet, length-storedSet, storedSet-flatten}
+use Rattle.operations.proofs.MarksLaws.{storedSet-flatten}
+use Rattle.operations.proofs.LengthLaws.{sized-outcomes}
 use Rattle.operations.proofs.AcceptedLaws.{ExchangeAccepted, exchange-accepted}
 use Rattle.operations.proofs.Recomputation.{outcomeAt, reached, Exchanged}
 use Rattle.operations.proofs.RuleLaws.{Follows, follows-length, follows-outcomes, from-children}
@@ -42,7 +40,7 @@ exchanged a table chapter marks n e xs h = record {
   nodes = nodes;
   written = λ j l.
       ap (λ (m : List ℕ). storedSet size m j) (exchange-marks a table chapter marks n e xs h)
-      ∙ storedSet-flatten size (map setIn os) _ j sized (rw (length-map os setIn, nodes) l)
+      ∙ storedSet-flatten size (map setIn os) _ j (sized-outcomes a table chapter marks n e xs k) (rw (length-map os setIn, nodes) l)
       ∙ List·getD-map setIn os j (kept []);
   before = before;
   replacement = replacement;
@@ -99,42 +97,3 @@ exchanged a table chapter marks n e xs h = record {
     rule : (j : ℕ) (r : StateSet) → j < length new → outcomeAt os j ≡ recomputed r
         → r ≡ nodeSet table (getD new j 0) (map (λ i. setIn (outcomeAt os i)) (childrenOf a new j))
     rule = from-children a table new os follows
-
-    -- each set has the size of a state set: a recomputed one by the rule, a kept one because it is stored
-    length-recomputed : (j : ℕ) (r : StateSet) → j < length new → outcomeAt os j ≡ recomputed r → length (setIn (outcomeAt os j)) ≡ size
-    length-recomputed j r l q = ap (λ (o : Outcome). length (setIn o)) q ∙ ap length (rule j r l q) ∙ length-nodeSet table _ _
-
-    length-kept : (j i : ℕ) → i < n → outcomeAt os j ≡ kept (st i) → length (setIn (outcomeAt os j)) ≡ size
-    length-kept j i l q =
-        ap (λ (o : Outcome). length (setIn o)) q
-        ∙ length-storedSet size marks i (omega (arith, mul-le-mul-right size l, k .marks))
-
-    length-either : (j i : ℕ) (b : Bool) (r : StateSet) → j < length new → i < n → outcomeAt os j ≡ cond b (recomputed r) (kept (st i))
-        → length (setIn (outcomeAt os j)) ≡ size
-    length-either j i true r l m q = length-recomputed j r l q
-    length-either j i false r l m q = length-kept j i m q
-
-    s : ℕ
-    s = startOf a u e
-
-    parts : length new ≡ s + (length xs + length (drop (e + 1) u))
-    parts = length-splice a u e xs there
-
-    length-rest : (i : ℕ) → i < length (drop (e + 1) u) → length (setIn (outcomeAt os (s + length xs + i))) ≡ size
-    length-rest i l =
-        length-either (s + length xs + i) (e + 1 + i) (reached a table st u e xs i) (setIn (outcomeAt os (s + length xs + i)))
-        (omega (arith, parts)) (omega (arith, length-drop (e + 1) u, many)) (rest i l)
-
-    each : (j : ℕ) → Dec (j < s) → Dec (j < s + length xs) → j < length new → length (setIn (outcomeAt os j)) ≡ size
-    each j (yes p) d l = length-kept j j (omega (arith, start-le a u e, k .element)) (before j p)
-    each j (no p) (yes q) l =
-        let i : s + (j - s) ≡ j = omega arith in
-        length-recomputed j _ l (subst (λ (m : ℕ). outcomeAt os m ≡ recomputed (getD (nodeSets a table xs) (j - s) [])) i (replacement (j - s) (omega arith)))
-    each j (no p) (no q) l =
-        let i : s + length xs + (j - (s + length xs)) ≡ j = omega arith in
-        ap (λ (m : ℕ). length (setIn (outcomeAt os m))) (sym i) ∙ length-rest (j - (s + length xs)) (omega (arith, parts))
-
-    sized : Sized size (map setIn os)
-    sized =
-        sized-getD size (map setIn os)
-        (λ j l. ap length (List·getD-map setIn os j (kept [])) ∙ each j (decLt j s) (decLt j (s + length xs)) (rw (← nodes, ← length-map os setIn) l))

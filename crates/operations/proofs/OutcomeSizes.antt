@@ -1,0 +1,72 @@
+-- The outcomes of an exchange are whole state sets where the stored ones are: a recomputed set has the size of a state set, and
+-- a kept one is a stored one. Assumes nothing.
+use Prim.Native.Nat.{ℕ, zero, suc, _+_, _<_, _≤_}
+use mathlib.Core.Path.{_≡_}
+use mathlib.Core.Bool.{Bool, true, false, cond}
+use mathlib.Core.List.{List, [], _∷_, _++_, map}
+use native.Mathlib.Omega.{arith}
+use lib.ListN.{length, take, drop, length-drop}
+use Rattle.words.specs.Postfix.{arity, startOf, isAncestor, valueOn, stackGiven}
+use Rattle.words.proofs.ListLaws.{map-append}
+use Rattle.words.proofs.PostfixLaws.{start-le}
+use Rattle.automaton.specs.StateSet.{StateSet}
+use Rattle.operations.specs.Marks.{sizeOf, nodeSet, nodeSets, sameWords}
+use Rattle.operations.specs.Exchange.{Outcome, kept, recomputed, setIn, keptFrom, climb, rootSet, outcomesBehind, outcomesAfter}
+use Rattle.operations.proofs.MarksLaws.{Sized, sized-append, sized-nodeSets, length-nodeSet}
+use Rattle.operations.proofs.OutcomeLaws.{sets-recomputed}
+
+module _ (a table : List ℕ) (stored : ℕ → StateSet) (n : ℕ) (whole : (i : ℕ) → i < n → length (stored i) ≡ sizeOf table) where
+  abbrev Whole : List Outcome → Type 0
+  Whole os = Sized (sizeOf table) (map setIn os)
+
+  whole-kept : (m j : ℕ) → j + m ≤ n → Whole (keptFrom stored j m)
+  whole-kept zero j h = tt
+  whole-kept (suc m) j h = (whole j (omega arith), whole-kept m (suc j) (omega arith))
+
+  whole-climb : (above : ℕ → Bool) (ws : List ℕ) (j : ℕ) (s : List StateSet) → j + length ws ≤ n → Whole (climb a table stored above j ws s)
+  unfolding climb valueOn
+  whole-climb above [] j s h = tt
+  whole-climb above (w ∷ ws) j s h =
+      go (above j) (sameWords new (stored j)) (whole-climb above ws (suc j) (stored j ∷ drop (arity a w) s) (omega arith))
+      (whole-climb above ws (suc j) (new ∷ drop (arity a w) s) (omega arith))
+    where
+      new : StateSet
+      new = valueOn a (nodeSet table) w s
+
+      go : (b c : Bool) → Whole (climb a table stored above (suc j) ws (stored j ∷ drop (arity a w) s))
+          → Whole (climb a table stored above (suc j) ws (new ∷ drop (arity a w) s))
+          → Whole (cond b (cond c (recomputed new ∷ keptFrom stored (suc j) (length ws)) (recomputed new ∷ climb a table stored above (suc j) ws (new ∷ drop (arity a w) s)))
+          (kept (stored j) ∷ climb a table stored above (suc j) ws (stored j ∷ drop (arity a w) s)))
+      go false c beside onward = (whole j (omega arith), beside)
+      go true true beside onward = (length-nodeSet table w _, whole-kept (length ws) (suc j) (omega arith))
+      go true false beside onward = (length-nodeSet table w _, onward)
+
+  whole-behind : (used : List ℕ) (e : ℕ) (xs : List ℕ) → e < length used → length used ≤ n → Whole (outcomesBehind a table stored used e xs)
+  unfolding outcomesBehind
+  whole-behind used e xs h l = go (sameWords (rootSet a table xs) (stored e))
+    where
+      rest : List ℕ
+      rest = drop (e + 1) used
+
+      stack : List StateSet
+      stack = rootSet a table xs ∷ stackGiven a stored 0 (take (startOf a used e) used) []
+
+      fits : e + 1 + length rest ≤ n
+      fits = rw (length-drop (e + 1) used) (omega arith)
+
+      go : (b : Bool) → Whole (cond b (keptFrom stored (e + 1) (length rest)) (climb a table stored (isAncestor a used e) (e + 1) rest stack))
+      go true = whole-kept (length rest) (e + 1) fits
+      go false = whole-climb (isAncestor a used e) rest (e + 1) stack fits
+
+  pub whole-outcomes : (used : List ℕ) (e : ℕ) (xs : List ℕ) → e < length used → length used ≤ n → Whole (outcomesAfter a table stored used e xs)
+  unfolding outcomesAfter
+  whole-outcomes used e xs h l =
+      let size = sizeOf table in
+      let start = startOf a used e in
+      let sets : List Outcome = map recomputed (nodeSets a table xs) in
+      let behind = outcomesBehind a table stored used e xs in
+      rw (map-append setIn (keptFrom stored 0 start) (sets ++ behind), map-append setIn sets behind)
+      (sized-append size (map setIn (keptFrom stored 0 start)) (map setIn sets ++ map setIn behind)
+      (whole-kept start 0 (omega (arith, start-le a used e)))
+      (sized-append size (map setIn sets) (map setIn behind)
+      (rw (sets-recomputed (nodeSets a table xs)) (sized-nodeSets a table xs)) (whole-behind used e xs h l)))
