@@ -38,3 +38,17 @@ pub fn keep_words(words: &mut [u32], at: usize, bytes: &[u8])
         }
     }
 }
+
+// How many bytes to read next, where `left` words are still to come: whole words, as many as a buffer of 4,096 bytes holds.
+pub fn part_bytes(left: usize) -> usize
+    ensures { λ r. ⌜ r ≡ 4 * min left 1024 ⌝ }
+{
+    WORD_BYTES * least(left, 1024)
+}
+
+// How many words are kept of `count` in a slice of `room` words.
+pub fn kept(count: u32, room: usize) -> usize
+    ensures { λ r. ⌜ r ≡ min count room ⌝ }
+{
+    least(count as usize, room)
+}

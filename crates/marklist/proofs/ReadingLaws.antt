@@ -1,0 +1,58 @@
+-- Laws of the loop that reads words part after part. Assumes nothing.
+use mathlib.Core.Path.{_≡_, refl, ap, _∙_, sym}
+use mathlib.Core.Bool.{Bool}
+use mathlib.Core.List.{List, [], _∷_, _++_}
+use Prim.Native.Nat.{ℕ, _+_, _*_, _-_, _/_, _<_, _≤_, min}
+use native.Mathlib.Omega.{arith}
+use lib.ListN.{length, take, drop, length-append}
+use lib.Seq.{sets, length-sets, length-front, length-take-le}
+use Rattle.report.specs.Input.{wordsIn}
+use Rattle.report.specs.Output.{outputOf}
+use Rattle.report.proofs.OutputLength.{output-short}
+use Rattle.report.proofs.ProgramLaws.{kept-parts}
+use Rattle.marklist.specs.Reading.{Stored}
+
+-- a part of the buffer that was lent and came back is as long as before
+module _ (buffer back : List ℕ) (n : ℕ) (room : n ≤ length buffer) (long : length back ≡ length (take n buffer)) where
+  pub part-fits : n ≤ length (back ++ drop n buffer)
+  part-fits = rw (length-front buffer back n long) room
+
+  pub part-long : n ≡ length (take n (back ++ drop n buffer))
+  part-long = sym (length-take-le n (back ++ drop n buffer) part-fits)
+
+-- the report fits the buffer
+pub report-short : (complete : Bool) (a e ch : List ℕ) (n : ℕ) → n ≡ length (outputOf complete a e ch) → n ≤ 4096
+report-short complete a e ch n h = let s = output-short complete a e ch in omega arith
+
+-- the loop after `seen` words
+pub record SoFar (count : ℕ) (words₀ words : List ℕ) (seen : ℕ) : Type 0 where
+  pub few : seen ≤ count
+  pub long : length words ≡ length words₀
+  pub stored : Stored seen words₀ words
+
+module _ (count : ℕ) (words₀ : List ℕ) where
+  pub so-far-none : SoFar count words₀ words₀ 0
+  unfolding wordsIn
+  so-far-none = record { few = omega arith; long = refl; stored = record { bytes = []; whole = refl; same = refl } }
+
+  -- the next part, of which there are as many bytes as asked for
+  pub so-far-more : (words : List ℕ) (seen : ℕ) → SoFar count words₀ words seen → seen < count
+      → (part words′ : List ℕ) (n : ℕ) → n ≡ 4 * min (count - seen) 1024 → n ≡ length part → words′ ≡ sets words seen (wordsIn part)
+      → SoFar count words₀ words′ (seen + n / 4)
+  so-far-more words seen s h part words′ n e l q =
+      let t = s .stored in
+      record {
+        few = omega arith;
+        long = ap length q ∙ length-sets words seen (wordsIn part) ∙ s .long;
+        stored = record {
+          bytes = t .bytes ++ part;
+          whole = length-append (t .bytes) part ∙ (let w = t .whole in omega arith);
+          same = q ∙ ap (λ (ws : List ℕ). sets ws seen (wordsIn part)) (t .same) ∙ kept-parts (t .bytes) part seen (t .whole) words₀;
+        };
+      }
+
+  pub so-far-end : (words : List ℕ) (seen : ℕ) → SoFar count words₀ words seen → count ≤ seen → Stored count words₀ words
+  so-far-end words seen s h =
+      let few = s .few in
+      let e : seen ≡ count = omega arith in
+      rw e at (s .stored)

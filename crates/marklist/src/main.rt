@@ -1,0 +1,56 @@
+// Reads three word counts, an alphabet, a rule and a chapter from standard input, and prints the hits or the refusal
+// (document 01, "The source's own example"). What the bytes mean and what is printed stands in the crate `report`.
+ghost use Rattle.marklist.specs.Reading.{ReadAll};
+use libc::STDIN_FILENO;
+use libc::STDOUT_FILENO;
+use report::input::WORD_BYTES;
+use report::input::keep_words;
+use report::input::kept;
+use report::input::part_bytes;
+use report::report;
+
+// Reads the next `count` words, keeps as many as the slice has room for, and answers whether all were there. It asks for
+// no byte behind them, and for none where `complete` says that the input has ended before.
+fn read_words(complete: bool, count: u32, words: &mut [u32]) -> bool
+    ensures { λ r. ⌜ ReadAll count (now (words .entry)) (now (words .exit)) r ⌝ }
+{
+    if !complete {
+        return false;
+    }
+    let all = count as usize;
+    let mut seen: usize = 0;
+    while seen < all {
+        let bytes = part_bytes(all - seen);
+        let mut buffer = io::buffer();
+        if io::read_full(STDIN_FILENO, &mut buffer[..bytes]) < bytes {
+            return false;
+        }
+        keep_words(words, seen, &buffer[..bytes]);
+        seen += bytes / WORD_BYTES;
+    }
+    true
+}
+
+// Each slice has room for one word more than the most that is accepted: what follows makes no difference.
+fn main() {
+    let mut counts = [0u32; 3];
+    let mut alphabet = [0u32; 65];
+    let mut rule = [0u32; 65];
+    let mut chapter = [0u32; 257];
+    let mut complete = read_words(true, 3, &mut counts);
+    complete = read_words(complete, counts[0], &mut alphabet);
+    complete = read_words(complete, counts[1], &mut rule);
+    complete = read_words(complete, counts[2], &mut chapter);
+    let symbols = kept(counts[0], 65);
+    let words = kept(counts[1], 65);
+    let nodes = kept(counts[2], 257);
+    let mut out = io::buffer();
+    let length = report(
+        complete,
+        &alphabet[..symbols],
+        &rule[..words],
+        &chapter[..nodes],
+        &mut out,
+    );
+    io::write_all(STDOUT_FILENO, &out[..length]);
+}
