@@ -6,7 +6,5 @@ pub mod ReadyLaws
 pub mod WriteLaws
 pub mod FaultLaws
 pub mod ListingLaws
-pub mod UpwardLaws
-pub mod ExchangeLaws
 pub mod CallLaws
 pub mod RunLaws
