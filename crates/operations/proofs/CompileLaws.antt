@@ -1,16 +1,15 @@
 -- What is known of an accepted Compile: the table slice begins with the table of the numbered automaton, which is one over
 -- the alphabet, and the decoder reads that automaton back. Assumes nothing.
 use Prim.Native.Nat.{ℕ, _≤_}
-use mathlib.Core.Path.{_≡_, refl, sym, _∙_, ap}
+use mathlib.Core.Path.{_≡_, refl, sym}
 use mathlib.Core.Bool.{false}
-use mathlib.Core.List.{List, [], _∷_, _++_}
+use mathlib.Core.List.{List, [], _∷_}
 use native.Mathlib.Omega.{arith}
 use lib.ListN.{length, take, drop}
 use lib.Seq.{take-at}
 use borrow.Author.Tests.{ltb-false}
-use Rattle.words.specs.Refusal.{refusal}
-use Rattle.words.specs.Alphabet.{noAlphabet}
-use Rattle.words.specs.Expression.{wrongLength, noExpressionWords, expressionRefusals, expressionFault}
+use Rattle.words.specs.Alphabet.{noAlphabet, alphabetRefusals, alphabetFault}
+use Rattle.words.specs.Expression.{noExpressionWords, expressionRefusals, expressionFault}
 use Rattle.words.specs.Postfix.{notOneTree}
 use Rattle.words.proofs.RefusalLaws.{refusal-none, none-refusal}
 use Rattle.words.proofs.AlphabetLaws.{alphabet-most}
@@ -19,9 +18,10 @@ use Rattle.language.proofs.ExpressionLaws.{ExpressionOf}
 use Rattle.language.proofs.AcceptedLaws.{expression-accepted}
 use Rattle.automaton.specs.Transition.{automatonOf}
 use Rattle.automaton.specs.Numbering.{compiled}
-use Rattle.automaton.specs.Table.{AutomatonOver}
+use Rattle.automaton.specs.Table.{noTable, AutomatonOver}
 use Rattle.automaton.proofs.DecodeLaws.{automatonOf-words}
 use Rattle.automaton.proofs.CompiledOver.{compiled-over}
+use Rattle.automaton.proofs.CompiledTable.{compiled-isTable, table-most}
 use Rattle.operations.specs.Answer.{accepted}
 use Rattle.operations.specs.Compile.{compiledTable, tooManyStates, compileRefusals, compileFault, compileAnswer, compileExit}
 use Rattle.operations.proofs.AcceptedLaws.{accepted-values}
@@ -36,34 +36,50 @@ pub record CompileAccepted (a e slice : List ℕ) (k : ℕ) : Type 0 where
   -- "A rule that Compile accepts becomes exactly the numbered Thompson tree automaton of the rules."
   pub table : take k (compileExit a e slice) ≡ compiledTable a e
   pub automaton : automatonOf (compiledTable a e) ≡ compiled a e
+  -- 8 lets it pass
+  pub passes : noTable a (compiledTable a e) ≡ false
+  -- "No compiled table takes more than 1,147 words."
+  pub most : length (compiledTable a e) ≤ 1147
 
-compile-fine : (a e : List ℕ) (room : ℕ) → compileFault a e room ≡ 0
-    → (noAlphabet a ≡ false) × (expressionFault a e ≡ 0) × (noExpressionWords a e ≡ false) × (notOneTree a e ≡ false) × (compiled a e .states ≤ 1024)
+-- the refusals that do not apply, and what they say together
+record Fine (a e : List ℕ) : Type 0 where
+  alphabet : noAlphabet a ≡ false
+  words : noExpressionWords a e ≡ false
+  tree : notOneTree a e ≡ false
+  states : compiled a e .states ≤ 1024
+  alphabetFine : alphabetFault a ≡ 0
+  expressionFine : expressionFault a e ≡ 0
+
+compile-fine : (a e : List ℕ) (room : ℕ) → compileFault a e room ≡ 0 → Fine a e
 unfolding tooManyStates
 compile-fine a e room h =
     let p = refusal-none (compileRefusals a e room) refl h in
-    let q = p .1 .1 in (
-      p .0,
-      none-refusal (expressionRefusals a e) (q .0, (q .1 .0, (q .1 .1 .0, tt))),
-      q .1 .0,
-      q .1 .1 .0,
-      ltb-false 1024 (compiled a e .states) (q .1 .1 .1 .0),
-    )
+    let q = p .1 .1 in
+    record {
+      alphabet = p .0;
+      words = q .1 .0;
+      tree = q .1 .1 .0;
+      states = ltb-false 1024 (compiled a e .states) (q .1 .1 .1 .0);
+      alphabetFine = none-refusal (alphabetRefusals a) (p .0, (p .1 .0, tt));
+      expressionFine = none-refusal (expressionRefusals a e) (q .0, (q .1 .0, (q .1 .1 .0, tt)));
+    }
 
 pub compile-accepted : (a e slice : List ℕ) (k : ℕ) → compileAnswer a e slice ≡ accepted (k ∷ []) → CompileAccepted a e slice k
-unfolding compileAnswer compileExit
+unfolding compileAnswer compileExit noTable
 compile-accepted a e slice k h =
     let v = accepted-values (compileFault a e (length slice)) (length (compiledTable a e) ∷ []) (k ∷ []) h in
     let f = compile-fine a e (length slice) (v .0) in
-    let few = alphabet-most a (f .0) in
-    let over = compiled-over a e (f .1) (f .4) in
+    let few = alphabet-most a (f .alphabet) in
+    let over = compiled-over a e (f .expressionFine) (f .states) in
     let n : k ≡ length (compiledTable a e) = cc in
     record {
-      alphabet = f .0;
+      alphabet = f .alphabet;
       few = few;
-      expression = expression-accepted a (f .0) e .0 (f .2, f .3);
+      expression = expression-accepted a (f .alphabet) e .0 (f .words, f .tree);
       over = over;
       count = n;
       table = rw (v .0) (take-at (compiledTable a e) (drop (length (compiledTable a e)) slice) k (sym n));
       automaton = automatonOf-words a (omega arith) over;
+      passes = rw (compiled-isTable a e (f .alphabetFine) (f .expressionFine) (f .states));
+      most = table-most a e (f .alphabetFine) (f .expressionFine) (f .states);
     }

@@ -1,40 +1,40 @@
 -- Demand 2: after an accepted Compile, an accepted Run with that table and alphabet and an accepted List with the element
 -- count and the marks that Run left, List names an element if and only if the tree of its subtree belongs to the language of
 -- the rule's expression. Assumes nothing.
-use Prim.Native.Nat.{ℕ, zero, suc, _+_, _<_, _≤_}
-use mathlib.Core.Path.{_≡_, refl, sym, _∙_, ap, ap₂, subst}
+use Prim.Native.Nat.{ℕ, _<_, _≤_}
+use mathlib.Core.Path.{_≡_, sym, _∙_, ap, ap₂, subst}
 use mathlib.Core.Logic.{_↔_}
 use mathlib.Core.Bool.{true}
-use mathlib.Core.List.{List, [], _∷_, _++_, flatten, head-eq-of-cons-eq, List·Memᴰ}
+use mathlib.Core.List.{List, [], _∷_, flatten, head-eq-of-cons-eq, List·Memᴰ}
 use native.Mathlib.Omega.{arith}
 use native.Mathlib.Nat.{zero-add}
 use lib.ListN.{length, getD, take, drop}
 use lib.Seq.{take-at}
-use Rattle.words.specs.Tree.{Tree, fold}
-use Rattle.words.specs.Postfix.{subtreeOf, values}
+use Rattle.words.specs.Tree.{Tree}
+use Rattle.words.specs.Postfix.{subtreeOf}
 use Rattle.words.proofs.ExactlyOne.{ExactlyOne}
-use Rattle.language.specs.Expression.{Expression, expressionWords}
+use Rattle.language.specs.Expression.{Expression}
 use Rattle.language.specs.Membership.{Member}
 use Rattle.language.proofs.SubjectLaws.{SubjectOf}
 use Rattle.language.proofs.ExpressionLaws.{ExpressionOf}
-use Rattle.language.proofs.SubtreeLaws.{exactly-one-subtree, value-subject}
-use Rattle.automaton.specs.Transition.{Automaton, automatonOf}
+use Rattle.language.proofs.SubtreeLaws.{exactly-one-subtree}
+use Rattle.automaton.specs.Transition.{automatonOf}
 use Rattle.automaton.specs.Numbering.{compiled}
-use Rattle.automaton.specs.StateSet.{StateSet, contains, stateSet}
+use Rattle.automaton.specs.StateSet.{contains}
 use Rattle.automaton.specs.Reached.{Reaches}
 use Rattle.automaton.proofs.ClosureLaws.{TargetsBelow, targets-below}
 use Rattle.automaton.proofs.TreeSets.{treeSet, treeSet-reaches}
 use Rattle.automaton.proofs.Thompson.{thompson}
 use Rattle.operations.specs.Answer.{accepted}
 use Rattle.operations.specs.Compile.{compiledTable, compileAnswer, compileExit}
-use Rattle.operations.specs.Marks.{sizeOf, finalOf, nodeSet, nodeSets}
+use Rattle.operations.specs.Marks.{finalOf, nodeSets}
 use Rattle.operations.specs.Run.{runFault, runMarks, runAnswer, runExit, cellsIn}
 use Rattle.operations.specs.Listing.{listFault, matchesIn, matchesOf, listAnswer, listExit}
 use Rattle.operations.proofs.AcceptedLaws.{accepted-values, RunAccepted, run-accepted}
 use Rattle.operations.proofs.CompileLaws.{CompileAccepted, compile-accepted}
 use Rattle.operations.proofs.MarksLaws.{length-nodeSets}
 use Rattle.operations.proofs.MatchLaws.{Holding, holding-named, named-holding}
-use Rattle.operations.proofs.RunLaws.{run-writes, run-exit, matches-nodeSets}
+use Rattle.operations.proofs.RunLaws.{run-writes, run-exit, matches-nodeSets, node-tree}
 
 -- the three calls, one after the other: what is lent, and what each accepted call answers
 pub record Calls : Type 0 where
@@ -84,19 +84,13 @@ module _ (a e ch : List ℕ) (few : length a ≤ 64) (auto : automatonOf (compil
   abbrev table : List ℕ
   table = compiledTable a e
 
-  -- the state set of a node is that of its subtree's tree
-  node-tree : (i : ℕ) (t : Tree) → i < length ch → SubjectOf a (subtreeOf a ch i) t
-      → getD (nodeSets a table ch) i [] ≡ treeSet (compiled a e) t
-  unfolding nodeSets nodeSet
-  node-tree i t l k = value-subject a few (λ f rs. stateSet (automatonOf table) f rs) ch i [] t l k ∙ ap (λ A. treeSet A t) auto
-
-  -- it holds the final state exactly if the tree belongs to the language
+  -- a node's state set holds the final state exactly if its subtree's tree belongs to the language
   holds-member : (E : Expression) (i : ℕ) (t : Tree) → ExpressionOf a e E → i < length ch → SubjectOf a (subtreeOf a ch i) t
       → (contains (getD (nodeSets a table ch) i []) (finalOf table) ≡ true) ↔ Member E t
   unfolding finalOf
   holds-member E i t x l k =
       let q : contains (getD (nodeSets a table ch) i []) (automatonOf table .final) ≡ contains (treeSet (compiled a e) t) (compiled a e .final) =
-      ap₂ contains (node-tree i t l k) (ap (λ A. A .final) auto) in
+      ap₂ contains (node-tree a table ch few i t l k ∙ ap (λ A. treeSet A t) auto) (ap (λ A. A .final) auto) in
       let r = treeSet-reaches (compiled a e) below t (compiled a e .final) in
       let m : Reaches (compiled a e .transitions) (compiled a e .final) t ↔ Member E t =
       subst (λ w. Reaches (compiled a w .transitions) (compiled a w .final) t ↔ Member E t) (x .words) (thompson a E few (x .over) t) in

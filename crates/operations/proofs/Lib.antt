@@ -9,6 +9,7 @@ pub mod AcceptedLaws
 pub mod RunLaws
 pub mod Demand3
 pub mod CompileLaws
+pub mod AnyTable
 pub mod Demand2
 pub mod BehindLaws
 pub mod RuleLaws

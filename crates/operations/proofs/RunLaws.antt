@@ -1,11 +1,19 @@
--- What an accepted Run leaves: the state sets of the tree, in a slice of the same length. Assumes nothing.
+-- What an accepted Run leaves: the state sets of the tree, in a slice of the same length; and a node's state set is that of its
+-- subtree's tree. Assumes nothing.
 use mathlib.Core.Path.{_≡_, ap, _∙_}
-use mathlib.Core.List.{List, flatten}
-use Prim.Native.Nat.{ℕ, _*_, _≤_}
+use mathlib.Core.List.{List, [], flatten}
+use Prim.Native.Nat.{ℕ, _*_, _<_, _≤_}
 use native.Mathlib.Omega.{arith}
-use lib.ListN.{length, take, drop, length-append, length-drop}
+use lib.ListN.{length, getD, take, drop, length-append, length-drop}
 use lib.Seq.{take-at}
-use Rattle.operations.specs.Marks.{sizeOf, finalOf, nodeSets}
+use Rattle.words.specs.Tree.{Tree}
+use Rattle.words.specs.Postfix.{subtreeOf}
+use Rattle.language.proofs.SubjectLaws.{SubjectOf}
+use Rattle.language.proofs.SubtreeLaws.{value-subject}
+use Rattle.automaton.specs.Transition.{automatonOf}
+use Rattle.automaton.specs.StateSet.{stateSet}
+use Rattle.automaton.proofs.TreeSets.{treeSet}
+use Rattle.operations.specs.Marks.{sizeOf, finalOf, nodeSet, nodeSets}
 use Rattle.operations.specs.Run.{runFault, runMarks, runExit}
 use Rattle.operations.specs.Listing.{matchesIn, matchesOf}
 use Rattle.operations.proofs.MarksLaws.{length-flatten, sized-nodeSets, length-nodeSets, stored-nodeSets}
@@ -35,3 +43,9 @@ module _ (a table p : List ℕ) where
       → matchesOf table (length p) marks ≡ matchesIn (finalOf table) 0 (nodeSets a table p)
   unfolding matchesOf
   matches-nodeSets marks h = ap (matchesIn (finalOf table) 0) (stored-nodeSets a table p marks h)
+
+  -- the state set of a node is that of its subtree's tree
+  pub node-tree : length a ≤ 64 → (i : ℕ) (t : Tree) → i < length p → SubjectOf a (subtreeOf a p i) t
+      → getD (nodeSets a table p) i [] ≡ treeSet (automatonOf table) t
+  unfolding nodeSets nodeSet
+  node-tree few i t l k = value-subject a few (λ f rs. stateSet (automatonOf table) f rs) p i [] t l k

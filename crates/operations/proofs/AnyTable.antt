@@ -1,0 +1,122 @@
+-- Run with any table that 8 lets pass, compiled or not: a bit of the marks is set exactly if its state is reached, at an
+-- element from its children's marks, and by the tree of its subtree. A table that Compile writes is such a table. Assumes
+-- nothing.
+use Prim.Native.Nat.{ℕ, _*_, _<_, _≤_}
+use mathlib.Core.Path.{_≡_, sym, ap, _∙_, subst}
+use mathlib.Core.Logic.{_↔_}
+use mathlib.Core.Bool.{true, false}
+use mathlib.Core.List.{List, [], _∷_, map}
+use native.Mathlib.Omega.{arith}
+use lib.ListN.{length, getD, take, drop}
+use borrow.Author.Tests.{not-false}
+use Rattle.words.specs.Tree.{Tree}
+use Rattle.words.specs.Alphabet.{noAlphabet}
+use Rattle.words.specs.Chapter.{symbolOf}
+use Rattle.words.specs.Postfix.{subtreeOf, childrenOf}
+use Rattle.words.proofs.AlphabetLaws.{alphabet-most}
+use Rattle.words.proofs.ExactlyOne.{ExactlyOne}
+use Rattle.words.proofs.ChildLaws.{values-children}
+use Rattle.words.proofs.StackLaws.{Right}
+use Rattle.language.proofs.SubjectLaws.{SubjectOf}
+use Rattle.language.proofs.SubtreeLaws.{exactly-one-subtree}
+use Rattle.automaton.specs.Transition.{automatonOf}
+use Rattle.automaton.specs.StateSet.{StateSet, contains}
+use Rattle.automaton.specs.Reached.{Reached, Reaches}
+use Rattle.automaton.specs.Table.{isTable, noTable}
+use Rattle.automaton.proofs.ClosureLaws.{TargetsBelow, targets-below, stateSet-reached, stateSet-beyond}
+use Rattle.automaton.proofs.TreeSets.{treeSet, treeSet-reaches}
+use Rattle.automaton.proofs.TableLaws.{isTable-automaton}
+use Rattle.operations.specs.Answer.{accepted}
+use Rattle.operations.specs.Compile.{compileAnswer, compileExit}
+use Rattle.operations.specs.Marks.{sizeOf, nodeSet, nodeSets, storedSet}
+use Rattle.operations.specs.Run.{runFault, runMarks, runAnswer, runExit}
+use Rattle.operations.proofs.AcceptedLaws.{accepted-values, RunAccepted, run-accepted}
+use Rattle.operations.proofs.CompileLaws.{compile-accepted}
+use Rattle.operations.proofs.MarksLaws.{length-nodeSet, sized-nodeSets, length-nodeSets, storedSet-flatten, stored-right}
+use Rattle.operations.proofs.RunLaws.{run-writes, run-exit, node-tree}
+
+-- the words of one element with symbol f whose children have the sets rs
+pub record ReachedSet (table : List ℕ) (f : ℕ) (rs : List StateSet) (r : StateSet) : Type 0 where
+  -- "Element i owns S words"
+  pub size : length r ≡ sizeOf table
+  -- "for every state s, bit s mod 32 (bit 0 lowest) of word s / 32 is set exactly if s is reached"
+  pub reached : (q : ℕ) → (contains r q ≡ true) ↔ Reached (automatonOf table .transitions) f rs q
+  -- "Bits beyond the last state are zero."
+  pub beyond : (q : ℕ) → automatonOf table .states ≤ q → contains r q ≡ false
+
+-- ---- any table
+
+module _ (a table : List ℕ) (alphabet : noAlphabet a ≡ false) (passes : noTable a table ≡ false) where
+  below : TargetsBelow (automatonOf table .states) (automatonOf table .transitions)
+  unfolding noTable
+  below =
+      let few = alphabet-most a alphabet in
+      targets-below (isTable-automaton a (omega arith) table (not-false (isTable a table) passes))
+
+  pub nodeSet-reached : (w : ℕ) (rs : List StateSet) → ReachedSet table (symbolOf w) rs (nodeSet table w rs)
+  unfolding nodeSet
+  nodeSet-reached w rs = record {
+    size = length-nodeSet table w rs;
+    reached = stateSet-reached (automatonOf table) (symbolOf w) rs below;
+    beyond = stateSet-beyond (automatonOf table) (symbolOf w) rs below;
+  }
+
+-- ---- an accepted Run
+
+-- what stands in a marks slice for every element of the chapter
+pub record Marked (a table ch marks : List ℕ) : Type 0 where
+  -- each element's words follow from those of its children
+  pub sets : (i : ℕ) → i < length ch
+      → ReachedSet table (symbolOf (getD ch i 0)) (map (storedSet (sizeOf table) marks) (childrenOf a ch i)) (storedSet (sizeOf table) marks i)
+  -- its subtree is the words of exactly one tree, and its words hold the states that this tree reaches
+  pub subtrees : (i : ℕ) → i < length ch → ExactlyOne (SubjectOf a (subtreeOf a ch i))
+  pub reaches : (i : ℕ) (t : Tree) → i < length ch → SubjectOf a (subtreeOf a ch i) t → (q : ℕ)
+      → (contains (storedSet (sizeOf table) marks i) q ≡ true) ↔ Reaches (automatonOf table .transitions) q t
+
+module _ (a table ch marks : List ℕ) (n cells : ℕ) (h : runAnswer a table ch marks ≡ accepted (n ∷ cells ∷ [])) where
+  fine : runFault a table ch (length marks) ≡ 0
+  unfolding runAnswer
+  fine = accepted-values (runFault a table ch (length marks)) _ _ h .0
+
+  run : RunAccepted a table ch (length marks)
+  run = run-accepted a table ch (length marks) fine
+
+  few : length a ≤ 64
+  few = alphabet-most a (run .alphabet)
+
+  -- the words of element i at exit
+  abbrev set : ℕ → StateSet
+  set i = storedSet (sizeOf table) (runExit a table ch marks) i
+
+  set-right : Right a (nodeSet table) set 0 ch []
+  set-right =
+      stored-right a table ch (runExit a table ch marks)
+      (ap (take (length ch * sizeOf table)) (run-exit a table ch marks fine) ∙ run-writes a table ch marks)
+
+  set-tree : (i : ℕ) (t : Tree) → i < length ch → SubjectOf a (subtreeOf a ch i) t → set i ≡ treeSet (automatonOf table) t
+  unfolding runMarks
+  set-tree i t l k =
+      ap (λ (m : List ℕ). storedSet (sizeOf table) m i) (run-exit a table ch marks fine)
+      ∙ storedSet-flatten (sizeOf table) (nodeSets a table ch) (drop (length ch * sizeOf table) marks) i
+      (sized-nodeSets a table ch) (rw (length-nodeSets a table ch) l)
+      ∙ node-tree a table ch few i t l k
+
+  pub run-marked : Marked a table ch (runExit a table ch marks)
+  run-marked = record {
+    sets = λ i l.
+        let rs = map set (childrenOf a ch i) in
+        subst (ReachedSet table (symbolOf (getD ch i 0)) rs) (sym (values-children a ch (nodeSet table) set set-right i l))
+        (nodeSet-reached a table (run .alphabet) (run .automaton) (getD ch i 0) rs);
+    subtrees = λ i l. exactly-one-subtree a few ch i (run .nodes) (run .tree) l;
+    reaches = λ i t l k q.
+        rw (set-tree i t l k) (treeSet-reaches (automatonOf table) (below a table (run .alphabet) (run .automaton)) t q);
+  }
+
+-- ---- a table that Compile writes
+
+-- 8 never refuses it, and it has at most 1,147 words
+pub compiled-passes : (a e slice : List ℕ) (k : ℕ) → compileAnswer a e slice ≡ accepted (k ∷ [])
+    → (noTable a (take k (compileExit a e slice)) ≡ false) × (k ≤ 1147)
+compiled-passes a e slice k h =
+    let c = compile-accepted a e slice k h in
+    (rw (c .table) (c .passes), rw (c .count) (c .most))
