@@ -1,4 +1,4 @@
-// Run, List and Exchange (document 01): state sets for the nodes of a tree, the matches, and the replacement of a subtree.
+// Run and List (document 01): state sets for the nodes of a tree, and the matches.
 pub mod faults;
 pub mod listing;
 pub mod nodes;
@@ -13,11 +13,5 @@ pub enum Ran {
 // What List answers: how many matches it wrote, or the number of the refusal.
 pub enum Listed {
     Matches(usize),
-    Refused(u32),
-}
-
-// What Exchange answers: the new element count and how many nodes were recomputed, or the number of the refusal.
-pub enum Exchanged {
-    Replaced(usize, usize),
     Refused(u32),
 }
