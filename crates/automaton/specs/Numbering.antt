@@ -1,14 +1,14 @@
 -- The numbered Thompson tree automaton of a rule, word by word (document 01, "Numbered automaton"; document 000, section
 -- 3). Assumes nothing.
-use Prim.Native.Nat.{ℕ, zero, suc, _+_, _-_}
+use Prim.Native.Nat.{ℕ, suc, _+_, _-_}
 use mathlib.Core.List.{List, [], _∷_, _++_, map, flatMap, reverse}
-use mathlib.Core.Bool.{Bool, true, false, not, cond}
+use mathlib.Core.Bool.{Bool, not, cond}
 use lib.ListN.{length, getD, take, drop}
 use lib.Dec.{eqb}
 use Rattle.words.specs.Word.{symbolKind, unionKind, productKind, closureKind, hasKind, lowByte}
 use Rattle.words.specs.Alphabet.{constantsOf}
 use Rattle.words.specs.Postfix.{arity}
-use Rattle.automaton.specs.Transition.{Transition, Automaton, onSymbol, epsilon, tableWords}
+use Rattle.automaton.specs.Transition.{Transition, Automaton, onSymbol, epsilon}
 
 -- a word's states: its exit, and its entries, each a constant with the state for it
 pub record Port : Type 0 where

@@ -1,11 +1,11 @@
 -- Lists of Exchange calls on one chapter, and the plain chapter beside them (document 01, "Marks", demand 3). Assumes nothing.
-use Prim.Native.Nat.{ℕ, zero, suc, _+_, _*_}
+use Prim.Native.Nat.{ℕ, _*_}
 use mathlib.Core.Path.{_≡_}
-use mathlib.Core.List.{List, [], _∷_, _++_}
+use mathlib.Core.List.{List, [], _∷_}
 use mathlib.Core.Bool.{cond}
 use lib.ListN.{length, take}
 use lib.Dec.{eqb}
-use Rattle.operations.specs.Answer.{Answer, accepted, firstValue}
+use Rattle.operations.specs.Answer.{accepted, firstValue}
 use Rattle.operations.specs.Marks.{sizeOf}
 use Rattle.words.specs.Postfix.{splice}
 use Rattle.operations.specs.Run.{runAnswer, runExit}

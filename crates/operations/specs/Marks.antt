@@ -1,5 +1,5 @@
 -- The state sets of a tree's nodes (document 01's marks), and what stands in a lent slice behind a change. Assumes nothing.
-use Prim.Native.Nat.{ℕ, zero, suc, _+_, _-_, _*_, max}
+use Prim.Native.Nat.{ℕ, _-_, _*_, max}
 use mathlib.Core.List.{List, [], _∷_, _++_}
 use mathlib.Core.Bool.{Bool, true, false, _&&_}
 use lib.ListN.{length, take, drop, replicate}

@@ -1,5 +1,5 @@
 -- Run: refusals 1 2 8 9 10 11 12, the answer, and the marks slice at exit. Assumes nothing.
-use Prim.Native.Nat.{ℕ, zero, suc, _+_, _*_}
+use Prim.Native.Nat.{ℕ, _+_, _*_}
 use mathlib.Core.List.{List, [], _∷_, _++_, flatten}
 use mathlib.Core.Bool.{Bool, _||_}
 use lib.ListN.{length, drop}

@@ -1,14 +1,13 @@
 -- Laws of kinds: a kind and its number, the word of a kind with given fields, and what `isOf` says of a word. Assumes
 -- nothing.
 use mathlib.Core.Path.{_≡_, refl, ap, _∙_, sym}
-use mathlib.Core.Bool.{Bool, true, false, _&&_}
+use mathlib.Core.Bool.{true, false}
 use mathlib.Core.List.{List, [], _∷_}
 use mathlib.Core.Logic.{_⊎_, inl, inr, ⊎-elim}
 use Prim.Native.Nat.{ℕ, zero, suc, _+_, _<_, _≤_}
 use native.Mathlib.Omega.{arith}
 use native.Mathlib.Nat.{zero-add, add-zero, add-suc, suc-add}
 use lib.ListN.{getD, List·getD-eq-default}
-use lib.Dec.{ltb, eqb}
 use borrow.Author.Tests.{eq-eqb, ne-eqb, eqb-true, lt-ltb, le-ltb, ltb-true}
 use Rattle.words.proofs.TestLaws.{Tested, holds, fails, tested, and-true, true-and}
 use Rattle.words.specs.Word.{Kind, entryKind, symbolKind, emptyKind, unionKind, productKind, closureKind, nodeKind, headKind, transitionKind, epsilonKind, sourceKind, noKind, kindAt, kindNumber, numberOf, kindOf, hasKind, bodyOf, fieldRange, spareBitsClear, isOf, wordOf, lowByte}

@@ -1,7 +1,7 @@
 -- Tests over a list, and lists by their index. Assumes nothing.
 use Prim.Native.Nat.{ℕ, zero, suc, _+_}
 use mathlib.Core.List.{List, [], _∷_}
-use mathlib.Core.Bool.{Bool, true, false, cond, _&&_}
+use mathlib.Core.Bool.{Bool, true, cond, _&&_}
 
 -- the test holds of every number of the list
 abbrev pub all : (ℕ → Bool) → List ℕ → Bool
