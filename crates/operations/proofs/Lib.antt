@@ -18,6 +18,5 @@ pub mod OutcomeSizes
 pub mod LengthLaws
 pub mod Recomputed
 pub mod Recomputation
-pub mod SliceLaws
 pub mod LoopLaws
 pub mod ExchangeLoops
