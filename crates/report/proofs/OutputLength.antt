@@ -20,6 +20,7 @@ use Rattle.automaton.specs.Numbering.{compiled}
 use Rattle.operations.specs.Compile.{compiledTable, tooManyStates}
 use Rattle.operations.specs.Marks.{nodeSets}
 use Rattle.operations.specs.Listing.{matchesIn}
+use Rattle.matcher.proofs.ListingLaws.{matches-few}
 use Rattle.operations.proofs.MarksLaws.{length-nodeSets}
 use Rattle.report.specs.Decimal.{decimal}
 use Rattle.report.specs.Output.{refusedLine, headLine, hitLine, hitLines, wrongChapter, marklistRefusals, marklistFault, hitsOf, marklistOutput, outputOf}
@@ -78,16 +79,6 @@ matches-below final (r ∷ rs) i n h = go (contains r final) (matches-below fina
     go : (b : Bool) → AllBelow n (matchesIn final (suc i) rs) → AllBelow n (cond b (i ∷ matchesIn final (suc i) rs) (matchesIn final (suc i) rs))
     go true k = (omega arith, k)
     go false k = k
-
-pub matches-few : (final : ℕ) (rs : List StateSet) (i : ℕ) → length (matchesIn final i rs) ≤ length rs
-unfolding matchesIn
-matches-few final [] i = omega arith
-matches-few final (r ∷ rs) i = go (contains r final) (matches-few final rs (suc i))
-  where
-    go : (b : Bool) → length (matchesIn final (suc i) rs) ≤ length rs
-        → length (cond b (i ∷ matchesIn final (suc i) rs) (matchesIn final (suc i) rs)) ≤ suc (length rs)
-    go true k = omega arith
-    go false k = omega arith
 
 -- ---- the whole output
 

@@ -1,0 +1,65 @@
+-- `haqbylur_exchange` meets its contract: it hands on what Exchange answers and leaves, and each value fits 32 bits. Assumes nothing.
+use Rattle.exports.proofs.StatusLaws.{accepted-status, first-value, second-value, refused-status, refused-value, exchanged-replaced, exchanged-refused}
+use Rattle.exports.proofs.ValueLaws.{exchange-small}
+use borrow.Author.Needs.{needs}
+use Rattle.exports.proofs.haqbylur_exchange.Statement.{statement}
+use Rattle.exports.proofs.haqbylur_exchange.Tie as tie
+
+exchange-requires : tie.Need-exchange-requires
+exchange-requires c κs = search needs
+
+enum-known-total : tie.Need-enum-known-total
+enum-known-total c = search needs
+
+cast-elements : tie.Need-cast-elements
+cast-elements c =
+    let call = c .before .before .before .before .before .before .before in
+    record { fits = exchange-small _ _ _ _ _ _ _ _ _ (exchanged-replaced _ (c .before .total .given .1) (call .exchange .ensures .0)) .0 }
+
+cast-worked-out : tie.Need-cast-worked-out
+cast-worked-out c =
+    let call = c .before .before .before .before .before .before .before in
+    record { fits = exchange-small _ _ _ _ _ _ _ _ _ (exchanged-replaced _ (c .before .total .given .1) (call .exchange .ensures .0)) .1 }
+
+enum-known-number : tie.Need-enum-known-number
+enum-known-number c = search needs
+
+same-length : tie.Need-same-length
+same-length c = search needs
+
+same-length-2 : tie.Need-same-length-2
+same-length-2 c = search needs
+
+returns : tie.Need-returns
+returns c =
+    let call = c .before .before .before .before .before .before .before in
+    let h = exchanged-replaced _ (c .before .total .given .1) (call .exchange .ensures .0) in
+    (accepted-status h, (call .exchange .ensures .1 .0, (call .exchange .ensures .1 .1, (first-value _ h, second-value _ h))))
+
+same-length-3 : tie.Need-same-length-3
+same-length-3 c = search needs
+
+same-length-4 : tie.Need-same-length-4
+same-length-4 c = search needs
+
+returns-2 : tie.Need-returns-2
+returns-2 c =
+    let call = c .before .before .before .before .before .before .before in
+    let h = exchanged-refused _ (c .before .number .given .1) (call .exchange .ensures .0) in
+    (refused-status h, (call .exchange .ensures .1 .0, (call .exchange .ensures .1 .1, (refused-value 0 h, refused-value 1 h))))
+
+pub haqbylur-exchange-spec : {M : Type 1} → statement M
+haqbylur-exchange-spec =
+    tie.close
+    (tie.spec
+    exchange-requires
+    enum-known-total
+    cast-elements
+    cast-worked-out
+    enum-known-number
+    same-length
+    same-length-2
+    returns
+    same-length-3
+    same-length-4
+    returns-2)
