@@ -1,5 +1,5 @@
 -- The refusals of Run and List, asked one after the other, and what is known of a call that is not refused. Assumes nothing.
-use mathlib.Core.Path.{_≡_, refl, _∙_, sym}
+use mathlib.Core.Path.{_≡_, refl, sym}
 use mathlib.Core.Bool.{true, false}
 use mathlib.Core.List.{List, [], _∷_, _++_}
 use Prim.Native.Nat.{ℕ, _*_, _≤_}
@@ -16,7 +16,7 @@ use Rattle.automaton.specs.Table.{isTable, noTable}
 use Rattle.operations.specs.Marks.{sizeOf}
 use Rattle.operations.specs.Run.{wrongCount, fewMarks, runFault}
 use Rattle.operations.specs.Listing.{listTooShort, listRefusals, listFault}
-use Rattle.operations.proofs.AcceptedLaws.{Counted, count-right, marks-fit, RunAccepted, run-accepted}
+use Rattle.operations.proofs.AcceptedLaws.{Counted, count-right, marks-fit, run-accepted}
 use Rattle.matcher.specs.Faults.{tableRefusals, tableFault}
 use Rattle.matcher.specs.Nodes.{Workable}
 use Rattle.matcher.proofs.FaultLaws.{part-refuses, part-passes, one-refuses, one-passes}

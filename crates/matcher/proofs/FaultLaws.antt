@@ -1,9 +1,9 @@
 -- Laws of a refusal that is looked for in parts: where one part refuses, so does the whole, and otherwise the next decides.
 -- Assumes nothing.
-use mathlib.Core.Path.{_≡_, refl, _∙_, sym}
+use mathlib.Core.Path.{_≡_, _∙_, sym}
 use mathlib.Core.Bool.{Bool, true, false}
-use mathlib.Core.List.{List, [], _∷_, _++_}
-use Prim.Native.Nat.{ℕ, _+_, _*_, _/_, _<_, _≤_}
+use mathlib.Core.List.{List, _∷_, _++_}
+use Prim.Native.Nat.{ℕ, _*_, _≤_}
 use native.Mathlib.Omega.{arith}
 use native.Mathlib.Nat.{le-trans, mul-le-mul-left, mul-le-mul-right}
 use borrow.Author.Tests.{ne-eqb}
@@ -12,7 +12,7 @@ use Rattle.words.proofs.RefusalLaws.{positive, refusal-here, refusal-next, refu
 use Rattle.automaton.specs.Transition.{automatonOf}
 use Rattle.automaton.specs.StateSet.{sizeFor}
 use Rattle.operations.specs.Marks.{sizeOf}
-use Rattle.operations.specs.Answer.{Answer, refused, accepted, answerOf, exitOf}
+use Rattle.operations.specs.Answer.{refused, accepted, answerOf, exitOf}
 
 -- ---- sizes
 

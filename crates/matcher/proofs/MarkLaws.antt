@@ -1,21 +1,21 @@
 -- State sets that are worked out in the marks are those worked out over a list of state sets; Run's nodes, one after the
 -- other, leave what the definition says. Assumes nothing.
 use mathlib.Core.Path.{_≡_, refl, ap, ap₂, _∙_, sym}
-use mathlib.Core.List.{List, [], _∷_, _++_, map, flatten, append-nil}
+use mathlib.Core.List.{List, [], _++_, flatten, append-nil}
 use Prim.Native.Nat.{ℕ, zero, suc, _+_, _*_, _<_, _≤_}
 use native.Mathlib.Omega.{arith}
 use native.Mathlib.Nat.{zero-add}
 use lib.ListN.{length, getD, take, drop, set, drop-of-length-le}
-use lib.Seq.{paste, slice, take-length}
+use lib.Seq.{paste, take-length}
 use Rattle.words.specs.Lists.{listFrom}
-use Rattle.words.specs.Postfix.{values, stackAfter, stackGiven, childrenOf}
+use Rattle.words.specs.Postfix.{values, stackGiven, childrenOf}
 use Rattle.words.proofs.ListLaws.{map-below, length-listFrom}
 use Rattle.automaton.specs.StateSet.{StateSet}
 use Rattle.operations.specs.Marks.{sizeOf, nodeSet, nodeSets, storedSet}
 use Rattle.operations.specs.Run.{runMarks}
 use Rattle.operations.proofs.MarksLaws.{Sized, length-nodeSet, storedSet-flatten}
 use Rattle.slices.proofs.RowLaws.{paste-row, sized-set, sized-stored, stored-split}
-use Rattle.matcher.specs.Nodes.{rootsOf, setFrom, markedAt, markedFrom}
+use Rattle.matcher.specs.Nodes.{setFrom, markedAt, markedFrom}
 use Rattle.matcher.proofs.RootLaws.{children-below}
 use Rattle.matcher.proofs.NodeLaws.{look, newSet, length-newSet}
 use Rattle.matcher.proofs.WorkedLaws.{workedFrom, length-worked, Worked, worked-is}

@@ -1,8 +1,8 @@
 -- What working out a node asks of the table layer, shown of a tree over the alphabet: its children are on top of the stack,
 -- they are as many as its symbol's rank, and their state sets lie inside the marks. Assumes nothing.
-use mathlib.Core.Path.{_≡_, ap, ap₂, _∙_, sym, subst}
+use mathlib.Core.Path.{_≡_, ap, _∙_, sym, subst}
 use mathlib.Core.Bool.{true}
-use mathlib.Core.List.{List, [], _∷_, _++_}
+use mathlib.Core.List.{List, _∷_, _++_}
 use Prim.Native.Nat.{ℕ, suc, _+_, _-_, _*_, _<_, _≤_}
 use native.Mathlib.Omega.{arith}
 use native.Mathlib.Nat.{suc-mul, le-trans, mul-le-mul-left, mul-le-mul-right}
@@ -19,7 +19,7 @@ use Rattle.automaton.proofs.TableLaws.{isTable-sizes}
 use Rattle.operations.specs.Marks.{sizeOf, nodeSet}
 use Rattle.tables.specs.Ready.{Ready, RowsInside, childSets}
 use Rattle.slices.proofs.RefitLaws.{take-drop}
-use Rattle.matcher.specs.Nodes.{rootsOf, Stacked, setFrom, Workable, AtNode}
+use Rattle.matcher.specs.Nodes.{setFrom, Workable, AtNode}
 use Rattle.matcher.proofs.RootLaws.{arity-fits, roots-few, stacked-children, length-children, children-below, below-getD}
 
 -- node i's words lie inside the marks of n nodes

@@ -1,16 +1,16 @@
 -- Run's accepted calls: what its parts ask, and that the marks and the cells are those of the definition. Assumes nothing.
-use mathlib.Core.Path.{_≡_, ap, _∙_, sym}
+use mathlib.Core.Path.{_≡_, ap, _∙_}
 use mathlib.Core.List.{List, [], _∷_, flatten}
-use Prim.Native.Nat.{ℕ, zero, _-_, _*_, _≤_}
+use Prim.Native.Nat.{ℕ, _-_, _*_, _≤_}
 use native.Mathlib.Omega.{arith}
-use lib.ListN.{length, take, replicate, length-replicate}
+use lib.ListN.{length, take}
 use lib.Seq.{length-take-le}
 use Rattle.words.specs.Postfix.{stackGiven}
 use Rattle.operations.specs.Answer.{refused, accepted}
 use Rattle.operations.specs.Marks.{sizeOf, nodeSets}
 use Rattle.operations.specs.Run.{runFault, runMarks, cellsIn, runAnswer, runExit}
 use Rattle.operations.proofs.RunLaws.{run-writes, run-length}
-use Rattle.matcher.specs.Nodes.{rootsOf, markedFrom, Workable, AtNodes}
+use Rattle.matcher.specs.Nodes.{markedFrom, Workable, AtNodes}
 use Rattle.matcher.proofs.RootLaws.{stacked-none}
 use Rattle.matcher.proofs.MarkLaws.{marked-run}
 use Rattle.matcher.proofs.ReadyLaws.{words-few, size-few}

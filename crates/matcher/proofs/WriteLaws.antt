@@ -8,7 +8,7 @@ use lib.ListN.{length, take, replicate, length-append}
 use lib.Seq.{paste, take-at}
 use Rattle.automaton.specs.StateSet.{StateSet}
 use Rattle.operations.specs.Marks.{sizeOf}
-use Rattle.matcher.specs.Nodes.{rootsOf, Stacked, setFrom, markedAt, markedFrom, Workable, AtRoot, AtNode, AtNodes}
+use Rattle.matcher.specs.Nodes.{rootsOf, Stacked, setFrom, markedAt, markedFrom, AtRoot, AtNode, AtNodes}
 use Rattle.matcher.proofs.MarkLaws.{length-setFrom}
 use Rattle.matcher.proofs.ReadyLaws.{row-inside, words-few, size-few}
 

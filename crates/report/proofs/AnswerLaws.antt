@@ -1,28 +1,26 @@
 -- What Compile, Run and List answer on slices of 2,048, 8,192 and 256 words is what the output is made of: 7, 8, 12 and 13
 -- cannot arise. Assumes nothing.
 use mathlib.Core.Path.{_≡_, refl, ap, _∙_, sym}
-use mathlib.Core.Bool.{Bool, true, false, not, cond, _||_}
+use mathlib.Core.Bool.{false}
 use mathlib.Core.List.{List, [], _∷_, _++_, head-eq-of-cons-eq}
-use Prim.Native.Nat.{ℕ, zero, suc, _+_, _*_, _/_, _<_, _≤_}
+use Prim.Native.Nat.{ℕ, zero, suc, _*_, _<_, _≤_}
 use native.Mathlib.Omega.{arith}
-use native.Mathlib.Decide.{decLe}
 use native.Mathlib.Nat.{mul-le-mul}
 use lib.ListN.{length, take, drop}
 use lib.Seq.{take-at}
-use lib.Dec.{eqb, ltb}
-use borrow.Author.Tests.{lt-ltb, le-ltb, ltb-false, ne-eqb, eqb-true}
+use borrow.Author.Tests.{lt-ltb, le-ltb, ltb-false, ne-eqb}
 use Rattle.words.specs.Refusal.{Refusals, refusal}
 use Rattle.words.specs.Alphabet.{alphabetRefusals, alphabetFault}
 use Rattle.words.specs.Expression.{expressionRefusals, expressionFault}
 use Rattle.words.specs.Chapter.{treeRefusals}
-use Rattle.words.proofs.RefusalLaws.{NoneHolds, refusal-none, none-refusal, refusal-behind, refusal-before, refusal-rest}
+use Rattle.words.proofs.RefusalLaws.{refusal-none, none-refusal, refusal-before, refusal-rest}
 use Rattle.automaton.specs.Transition.{Automaton, automatonOf}
 use Rattle.automaton.specs.StateSet.{sizeFor}
 use Rattle.automaton.specs.Numbering.{compiled}
-use Rattle.automaton.specs.Table.{isTable, noTable}
+use Rattle.automaton.specs.Table.{noTable}
 use Rattle.automaton.proofs.CompiledTable.{table-most, compiled-isTable}
-use Rattle.operations.specs.Answer.{Answer, refused, accepted}
-use Rattle.operations.specs.Compile.{compiledTable, tooManyStates, tableTooLong, compileRefusals, compileFault, compileAnswer, compileExit}
+use Rattle.operations.specs.Answer.{refused, accepted}
+use Rattle.operations.specs.Compile.{compiledTable, tooManyStates, tableTooLong, compileFault, compileAnswer, compileExit}
 use Rattle.operations.specs.Marks.{sizeOf, finalOf, nodeSets}
 use Rattle.operations.specs.Run.{wrongCount, fewMarks, runFault, runMarks, runAnswer, runExit}
 use Rattle.operations.specs.Listing.{listTooShort, listFault, matchesIn, matchesOf, listAnswer, listExit}

@@ -1,14 +1,13 @@
 -- Laws of words in bytes, and of the loop that keeps them as far as a slice reaches. Assumes nothing.
 use mathlib.Core.Path.{_≡_, refl, ap, ap₂, _∙_, sym}
-use mathlib.Core.List.{List, [], _∷_, _++_}
-use Prim.Native.Nat.{ℕ, zero, suc, _+_, _*_, _-_, _/_, _<_, _≤_, min}
+use mathlib.Core.List.{List, [], _∷_}
+use Prim.Native.Nat.{ℕ, suc, _+_, _*_, _-_, _/_, _<_, _≤_, min}
 use native.Mathlib.Omega.{arith}
-use native.Mathlib.Nat.{zero-add, add-zero}
+use native.Mathlib.Nat.{zero-add}
 use native.Mathlib.Numerals.{add-one}
 use native.Mathlib.Decide.{decLe}
-use lib.ListN.{length, getD, take, drop, set, length-set, length-take, take-append-drop}
+use lib.ListN.{length, getD, take, drop, set, length-set, take-append-drop}
 use lib.Seq.{sets, length-sets, set-out, take-suc, take-all, length-take-le}
-use Rattle.words.specs.Lists.{listFrom}
 use Rattle.words.proofs.ListLaws.{length-listFrom, getD-listFrom}
 use Rattle.emitter.proofs.WritingLaws.{sets-append}
 use Rattle.report.specs.Input.{wordAt, wordsIn}

@@ -1,8 +1,7 @@
 -- The source's own example, byte for byte: what the definitions print of its input. Assumes nothing.
 use Prim.Native.Nat.{ℕ}
 use mathlib.Core.Path.{_≡_, refl}
-use mathlib.Core.List.{List, [], _∷_, flatten, flatMap}
-use lib.ListN.{length}
+use mathlib.Core.List.{List, [], _∷_, flatMap}
 use Rattle.words.specs.Word.{kindAt, spareBitsClear, isOf}
 use Rattle.words.specs.Alphabet.{isEntry, rankOf, isConstant, constantsFrom, constantsOf, noAlphabet, wrongConstants}
 use Rattle.words.specs.Expression.{isExpressionWord, wrongLength, noExpressionWords}

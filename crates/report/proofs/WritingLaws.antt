@@ -1,11 +1,11 @@
 -- Laws of bytes written one after the other. Assumes nothing.
 use mathlib.Core.Path.{_≡_, refl, ap, _∙_, sym}
-use mathlib.Core.List.{List, [], _∷_, _++_, append-nil}
-use Prim.Native.Nat.{ℕ, zero, suc, _+_, _<_, _≤_}
+use mathlib.Core.List.{List, [], _∷_, _++_}
+use Prim.Native.Nat.{ℕ, _+_, _<_, _≤_}
 use native.Mathlib.Omega.{arith}
 use native.Mathlib.Nat.{add-zero, add-assoc}
 use native.Mathlib.Numerals.{add-one}
-use lib.ListN.{length, getD, take, drop, set, length-append, length-set}
+use lib.ListN.{length, getD, take, drop, set, length-append}
 use lib.Seq.{sets, length-sets, take-suc, take-all}
 use Rattle.emitter.proofs.WritingLaws.{sets-append, sets-whole}
 use Rattle.report.specs.Writing.{Written}

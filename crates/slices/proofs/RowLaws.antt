@@ -1,11 +1,11 @@
 -- Laws of the state sets that stand one behind the other in a slice: they are its words, and one that is written is one of
 -- them. Assumes nothing.
-use mathlib.Core.Path.{_≡_, refl, ap, ap₂, _∙_, sym}
+use mathlib.Core.Path.{_≡_, ap, ap₂, _∙_, sym}
 use mathlib.Core.List.{List, [], _∷_, _++_, flatten, append-assoc}
-use Prim.Native.Nat.{ℕ, zero, suc, _+_, _-_, _*_, _<_, _≤_}
+use Prim.Native.Nat.{ℕ, zero, suc, _+_, _*_, _<_, _≤_}
 use native.Mathlib.Omega.{arith}
 use native.Mathlib.Nat.{zero-mul, suc-mul, add-comm, add-suc, suc-add, le-trans, mul-le-mul-right}
-use lib.ListN.{length, getD, take, drop, set, length-append, take-append-drop}
+use lib.ListN.{length, take, drop, set, take-append-drop}
 use lib.Seq.{paste, take-all, drop-drop, take-add, drop-at, take-append-add, drop-append-add}
 use Rattle.words.specs.Lists.{listFrom}
 use Rattle.automaton.specs.StateSet.{StateSet}

@@ -1,8 +1,5 @@
 -- `report_words` meets its contract: each return writes what the laws of Compile, Run and List say of the answers so far, and
 -- List never refuses here. Assumes nothing.
-use lib.ListN.{length, replicate, length-replicate}
-use Prim.Native.Nat.{ℕ}
-use mathlib.Core.Path.{_≡_, sym}
 use Rattle.report.proofs.ReportLaws.{HasTable, has-table, table-long, table-fits, refused-compiled, refused-over, refused-ran, never-refused, hits-long, hits-fit, lines-written}
 use borrow.Author.Needs.{needs}
 use Rattle.report.proofs.report_words.Statement.{statement}

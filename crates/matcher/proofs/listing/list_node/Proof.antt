@@ -1,8 +1,6 @@
 -- `listing::list_node` meets its contract: the node is a match exactly if its state set holds the final state. Assumes nothing.
-use mathlib.Core.Path.{_≡_, refl, sym, _∙_}
-use mathlib.Core.List.{[], _∷_}
+use mathlib.Core.Path.{sym, _∙_}
 use native.Mathlib.Omega.{arith}
-use Rattle.operations.specs.Listing.{matchesIn}
 use Rattle.matcher.proofs.ListingLaws.{match-here, match-none}
 use borrow.Author.Needs.{needs}
 use Rattle.matcher.proofs.listing.list_node.Statement.{statement}

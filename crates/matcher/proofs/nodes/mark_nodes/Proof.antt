@@ -1,7 +1,6 @@
 -- `nodes::mark_nodes` meets its contract: the loop keeps that the nodes before i are worked out and that the stack holds their
 -- roots. Assumes nothing.
-use Prim.Native.Nat.{_-_, _≤_}
-use native.Mathlib.Omega.{arith}
+use Prim.Native.Nat.{_-_}
 use Rattle.matcher.proofs.RootLaws.{stacked-end}
 use Rattle.matcher.proofs.WriteLaws.{Marking, marking-none, marking-node, marking-root, marking-more, marking-end}
 use borrow.Author.Needs.{needs}

@@ -1,9 +1,9 @@
 -- `run::run_accepted` meets its contract: the nodes worked out one after the other leave the state sets of the tree.
 -- Assumes nothing.
-use mathlib.Core.Path.{_≡_, refl, sym}
+use mathlib.Core.Path.{sym}
 use Prim.Native.Nat.{ℕ}
 use native.Mathlib.Omega.{arith}
-use lib.ListN.{length, length-replicate}
+use lib.ListN.{length-replicate}
 use Rattle.matcher.proofs.RunLaws.{run-nodes, run-left, run-room, run-few, run-part, run-cells}
 use borrow.Author.Needs.{needs}
 use Rattle.matcher.proofs.run.run_accepted.Statement.{statement}

@@ -1,9 +1,8 @@
 -- `writer::write_number` meets its contract: it writes the digits of a tenth of the number and then the last one, as the
 -- decimal of a number of several digits says. The measure is the number. Assumes nothing.
-use mathlib.Core.Path.{sym, _∙_}
+use mathlib.Core.Path.{_∙_}
 use native.Mathlib.Omega.{arith}
 use borrow.Author.Needs.{needs}
-use Rattle.report.proofs.WritingLaws.{written-more, written-same}
 use Rattle.report.proofs.DecimalLaws.{number-one, number-several}
 use Prim.Native.Nat.{ℕ, _<_}
 use borrow.Fn.Kinds.{In}
