@@ -39,10 +39,12 @@ fn recompute(
     let size = set_size(table);
     let at = i * size;
     let set = node_at(alphabet, table, nodes, i, marks, stack, height);
-    if same_words(&set[..size], &marks[at..at + size]) {
+    let new = &set[..size];
+    let stored = &marks[at..at + size];
+    if same_words(new, stored) {
         return false;
     }
-    write_set_at(marks, at, &set[..size]);
+    write_set_at(marks, at, new);
     true
 }
 

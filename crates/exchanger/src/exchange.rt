@@ -21,51 +21,34 @@ use slices::sets::same_words;
 use tables::head::set_size;
 use words::postfix::subtree_start;
 
-// Works out the replacement's nodes, from `start` up to `behind`, over a stack with the roots of the nodes before. If the words
+// Works out the replacement's nodes, from `start` up to `end`, over a stack with the roots of the nodes before. If the words
 // of its root differ from the old ones, goes on with the ancestors. Answers how many nodes were worked out.
 fn recompute_nodes(
     alphabet: &[u32],
     table: &[u32],
     nodes: &[u32],
     start: usize,
-    behind: usize,
+    end: usize,
     old: &[u32],
     marks: &mut [u32],
 ) -> usize
-    requires { ⌜ Exchangeable (now alphabet) (now table) (now nodes) start behind (now marks) ⌝ }
+    requires { ⌜ Exchangeable (now alphabet) (now table) (now nodes) start end (now marks) ⌝ }
     ensures { λ r. ⌜
         (now (marks .exit), r)
-        ≡ exchangedFrom (now (alphabet .entry)) (now (table .entry)) (now (nodes .entry)) start behind (now (old .entry)) (now (marks .entry))
+        ≡ exchangedFrom (now (alphabet .entry)) (now (table .entry)) (now (nodes .entry)) start end (now (old .entry)) (now (marks .entry))
         ⌝ }
 {
     let size = set_size(table);
     let mut stack = [0u32; 4096];
-    let height = stack_roots(alphabet, nodes, start, &mut stack);
-    let top = mark_nodes(
-        alphabet,
-        table,
-        nodes,
-        start,
-        behind,
-        marks,
-        &mut stack,
-        height,
-    );
-    let count = behind - start;
-    let root = (behind - 1) * size;
-    if same_words(&marks[root..root + size], old) {
+    let base = stack_roots(alphabet, nodes, start, &mut stack);
+    let top = mark_nodes(alphabet, table, nodes, start, end, marks, &mut stack, base);
+    let count = end - start;
+    let root = (end - 1) * size;
+    let new = &marks[root..root + size];
+    if same_words(new, old) {
         return count;
     }
-    climb(
-        alphabet,
-        table,
-        nodes,
-        behind,
-        marks,
-        &mut stack,
-        top,
-        count,
-    )
+    climb(alphabet, table, nodes, end, marks, &mut stack, top, count)
 }
 
 // An accepted call. The old element's words are saved before any word moves.

@@ -24,32 +24,32 @@ array-share-prefix-set c =
     let s = c .before .before in
     set-long (start s .pre) _ (c .node-at .ensures) _ (s .set-size .ensures)
 
-slice-aggregate-same-words : tie.Need-slice-aggregate-same-words
-slice-aggregate-same-words c =
+slice-aggregate-new : tie.Need-slice-aggregate-new
+slice-aggregate-new c =
     let n = c .before in
     let s = n .before .before in
     set-length (start s .pre) _ (n .node-at .ensures) _ (s .set-size .ensures)
 
-add-same-words : tie.Need-add-same-words
-add-same-words c =
+add-stored : tie.Need-add-stored
+add-stored c =
     let s = c .before .before .before in
     let l = row-room (start s .pre) _ (s .set-size .ensures) in
     omega arith
 
-mul-same-words : tie.Need-mul-same-words
-mul-same-words c =
+mul-stored : tie.Need-mul-stored
+mul-stored c =
     let s = c .before .before .before in
     let l = row-room (start s .pre) _ (s .set-size .ensures) in
     omega arith
 
-sub-same-words : tie.Need-sub-same-words
-sub-same-words c = search needs
+sub-stored : tie.Need-sub-stored
+sub-stored c = search needs
 
-part-same-words-start : tie.Need-part-same-words-start
-part-same-words-start c = search needs
+part-stored-start : tie.Need-part-stored-start
+part-stored-start c = search needs
 
-part-same-words-end : tie.Need-part-same-words-end
-part-same-words-end c =
+part-stored-end : tie.Need-part-stored-end
+part-stored-end c =
     let s = c .before .before .before .before in
     row-room (start s .pre) _ (s .set-size .ensures)
 
@@ -65,21 +65,9 @@ returns c =
     let s = n .before .before in
     recompute-same (start s .pre) _ (n .node-at .ensures) _ (s .set-size .ensures) _ (c .before .same-words .ensures) (c .if1 .taken)
 
-array-share-prefix-set-2 : tie.Need-array-share-prefix-set-2
-array-share-prefix-set-2 c =
-    let n = c .before .before .before .before .before .before in
-    let s = n .before .before in
-    set-long (start s .pre) _ (n .node-at .ensures) _ (s .set-size .ensures)
-
-slice-aggregate-write-set-at : tie.Need-slice-aggregate-write-set-at
-slice-aggregate-write-set-at c =
-    let n = c .before .before .before .before .before .before .before in
-    let s = n .before .before in
-    set-length (start s .pre) _ (n .node-at .ensures) _ (s .set-size .ensures)
-
 write-set-at-requires : tie.Need-write-set-at-requires
 write-set-at-requires c κs =
-    let n = c .before .before .before .before .before .before .before in
+    let n = c .before .before .before .before .before .before in
     let s = n .before .before in
     set-room (start s .pre) _ (n .node-at .ensures) _ (s .set-size .ensures)
 
@@ -89,7 +77,7 @@ same-length-2 c = search needs
 returns-2 : tie.Need-returns-2
 returns-2 c =
     let w = c .before .before in
-    let d = w .before .before .before in
+    let d = w .before .before in
     let n = d .before .before .before .before .before in
     let s = n .before .before in
     recompute-changed (start s .pre) _ (n .node-at .ensures) _ (s .set-size .ensures) _ (d .before .same-words .ensures) (d .if1 .left)
@@ -103,17 +91,15 @@ recompute-spec =
     mul-at
     node-at-requires
     array-share-prefix-set
-    slice-aggregate-same-words
-    add-same-words
-    mul-same-words
-    sub-same-words
-    part-same-words-start
-    part-same-words-end
+    slice-aggregate-new
+    add-stored
+    mul-stored
+    sub-stored
+    part-stored-start
+    part-stored-end
     same-words-requires
     same-length
     returns
-    array-share-prefix-set-2
-    slice-aggregate-write-set-at
     write-set-at-requires
     same-length-2
     returns-2)

@@ -43,26 +43,26 @@ mul-root c =
     let l = root-place (start s .pre) _ (s .set-size .ensures) in
     omega arith
 
-add-same-words : tie.Need-add-same-words
-add-same-words c =
+add-new : tie.Need-add-new
+add-new c =
     let s = sized (c .before .before .before) in
     let l = root-room (start s .pre) _ (s .set-size .ensures) in
     omega arith
 
-mul-same-words : tie.Need-mul-same-words
-mul-same-words c =
+mul-new : tie.Need-mul-new
+mul-new c =
     let s = sized (c .before .before .before) in
     let l = root-place (start s .pre) _ (s .set-size .ensures) in
     omega arith
 
-sub-same-words : tie.Need-sub-same-words
-sub-same-words c = search needs
+sub-new : tie.Need-sub-new
+sub-new c = search needs
 
-part-same-words-start : tie.Need-part-same-words-start
-part-same-words-start c = search needs
+part-new-start : tie.Need-part-new-start
+part-new-start c = search needs
 
-part-same-words-end : tie.Need-part-same-words-end
-part-same-words-end c =
+part-new-end : tie.Need-part-new-end
+part-new-end c =
     let m = c .before .before .before .before in
     let s = sized m in
     let l = root-room (start s .pre) _ (s .set-size .ensures) in
@@ -114,11 +114,11 @@ recompute-nodes-spec =
     sub-count
     sub-root
     mul-root
-    add-same-words
-    mul-same-words
-    sub-same-words
-    part-same-words-start
-    part-same-words-end
+    add-new
+    mul-new
+    sub-new
+    part-new-start
+    part-new-end
     same-words-requires
     same-length
     returns
