@@ -1,13 +1,13 @@
 -- A node's state set holds exactly the states that are reached there, and it is the only set of its size that does.
 -- Assumes nothing.
-use mathlib.Core.Path.{_≡_, refl, _∙_, sym}
+use mathlib.Core.Path.{_≡_, _∙_, sym}
 use mathlib.Core.Logic.{_↔_}
-use mathlib.Core.Bool.{Bool, true, false, true≢false}
+use mathlib.Core.Bool.{true, false, true≢false}
 use mathlib.Core.List.{List, _∷_, List·Memᴰ, List·Memᴰ·head, List·Memᴰ·tail}
 use Prim.Native.Nat.{ℕ, _<_, _≤_}
 use native.Mathlib.Omega.{arith}
 use lib.ListN.{length, replicate, length-replicate}
-use Rattle.words.proofs.TestLaws.{Tested, holds, fails, tested}
+use Rattle.words.proofs.TestLaws.{Tested, holds, fails, tested, same-truth}
 use Rattle.automaton.specs.Transition.{Transition, Automaton, onSymbol, epsilon}
 use Rattle.automaton.specs.StateSet.{StateSet, sizeFor, contains, move, stateSet}
 use Rattle.automaton.specs.Reached.{Reached, bySymbol, byEpsilon}
@@ -53,11 +53,6 @@ pub seeded-closed-all : (ts : List Transition) (f : ℕ) (rs : List StateSet) (P
     → Seeded ts f rs P → ClosedUnder ts P → {q : ℕ} → Reached ts f rs q → P q
 seeded-closed-all ts f rs P s c (bySymbol {q = q} {ps = ps} m e) = s ps q m e
 seeded-closed-all ts f rs P s c (byEpsilon {p = p} {q = q} m d) = c p q m (seeded-closed-all ts f rs P s c d)
-
-same-truth : (b c : Bool) → (b ≡ true → c ≡ true) → (c ≡ true → b ≡ true) → b ≡ c
-same-truth true c f g = sym (f refl)
-same-truth false true f g = g refl
-same-truth false false f g = refl
 
 module _ {A : Automaton} {f : ℕ} {rs : List StateSet} {r : StateSet} where
   pub isStateSet-reached : IsStateSet A f rs r → (q : ℕ) → (contains r q ≡ true) ↔ Reached (A .transitions) f rs q

@@ -13,9 +13,8 @@ use borrow.Author.Tests.{leb-true, ltb-false, eqb-false, not-false}
 use Rattle.words.specs.Lists.{all}
 use Rattle.words.specs.Postfix.{arity, trees, oneTree, notOneTree}
 use Rattle.words.specs.Expression.{isExpressionWord, wrongLength, noExpressionWords, expressionRefusals, expressionFault}
-use Rattle.words.proofs.TestLaws.{and-true, or-false}
+use Rattle.words.proofs.TestLaws.{and-true, or-false, picked}
 use Rattle.words.proofs.RefusalLaws.{refusal-none}
-use Rattle.words.proofs.PostfixLaws.{picked}
 use Rattle.automaton.specs.Numbering.{Port, statesOf, portOf, ownTransitions}
 use Rattle.automaton.proofs.Ports.{PortIn, portOf-in, portIn-from, Stack, bottom, push, Children, children-le, taken}
 use Rattle.automaton.proofs.OwnTransitions.{Own, own}

@@ -10,7 +10,7 @@ use borrow.Author.Tests.{lt-ltb, le-ltb, ltb-false, eq-eqb, ne-eqb}
 use Rattle.words.specs.Refusal.{Refusals, refusal}
 use Rattle.words.specs.Alphabet.{alphabetRefusals, alphabetFault}
 use Rattle.words.specs.Expression.{expressionRefusals, expressionFault}
-use Rattle.words.proofs.RefusalLaws.{NoneHolds, none-refusal, refusal-before, refusal-rest, refusal-none}
+use Rattle.words.proofs.RefusalLaws.{NoneHolds, none-refusal, refusal-rest, refusal-none, part-refuses}
 use Rattle.automaton.specs.Numbering.{statesAfter, compiled}
 use Rattle.operations.specs.Answer.{refused, accepted}
 use Rattle.operations.specs.Compile.{compiledTable, tooManyStates, tableTooLong, compileRefusals, compileFault, compileAnswer, compileExit}
@@ -23,7 +23,7 @@ module _ (a e : List ℕ) (room : ℕ) where
 
   -- 1 and 2
   pub fault-alphabet : (f : ℕ) → f ≡ alphabetFault a → (f ≡ 0 → ⊥) → f ≡ compileFault a e room
-  fault-alphabet f h n = h ∙ sym (refusal-before (alphabetRefusals a) (expressionRefusals a e ++ last) (omega arith))
+  fault-alphabet = part-refuses (alphabetRefusals a) (expressionRefusals a e ++ last)
 
   module _ (h : alphabetFault a ≡ 0) where
     behind-alphabet : compileFault a e room ≡ refusal (expressionRefusals a e ++ last)
@@ -31,7 +31,7 @@ module _ (a e : List ℕ) (room : ℕ) where
 
     -- 3, 4 and 5
     pub fault-expression : (f : ℕ) → f ≡ expressionFault a e → (f ≡ 0 → ⊥) → f ≡ compileFault a e room
-    fault-expression f g n = g ∙ sym (behind-alphabet ∙ refusal-before (expressionRefusals a e) last (omega arith))
+    fault-expression f g n = part-refuses (expressionRefusals a e) last f g n ∙ sym behind-alphabet
 
     module _ (g : expressionFault a e ≡ 0) where
       behind-expression : compileFault a e room ≡ refusal last

@@ -7,12 +7,10 @@ use table::write_table;
 use words::alphabet::alphabet_fault;
 use words::alphabet::count_constants;
 use words::expression::expression_fault;
+use words::word::STATES_MOST;
 
 pub mod states;
 pub mod table;
-
-// The most states of a table.
-const STATES_MOST: u32 = 1024;
 
 // The answer: the table's word count, or document 01's number of a refusal.
 pub enum Compiled {

@@ -16,7 +16,7 @@ use Rattle.words.specs.Alphabet.{alphabetRefusals, alphabetFault}
 use Rattle.words.specs.Chapter.{isNode, noNodes, treeRefusals, treeFault}
 use Rattle.words.specs.Postfix.{oneTree, notOneTree, startOf, splice}
 use Rattle.words.proofs.TestLaws.{or-false}
-use Rattle.words.proofs.RefusalLaws.{positive, NoneHolds, refusal-none, refusal-here, refusal-next, refusal-before, refusal-rest}
+use Rattle.words.proofs.RefusalLaws.{NoneHolds, refusal-none, refusal-here, refusal-next, refusal-rest, part-refuses}
 use Rattle.words.proofs.PostfixLaws.{length-splice}
 use Rattle.automaton.specs.Transition.{automatonOf}
 use Rattle.automaton.specs.StateSet.{sizeFor}
@@ -26,15 +26,6 @@ use Rattle.operations.specs.Run.{wrongCount, fewMarks}
 use Rattle.operations.specs.Exchange.{wrongUse, noElement, noReplacement, resultTooLong, exchangeFault}
 use Rattle.operations.proofs.AcceptedLaws.{count-right, replacement-right}
 use Rattle.exchanger.specs.Faults.{markedRefusals, changeRefusals}
-
--- ---- one part after the other, where r is the first part's number
-
-module _ (rs ks : Refusals) (r : ℕ) (e : r ≡ refusal rs) where
-  pub part-refuses : (r ≡ 0 → ⊥) → r ≡ refusal (rs ++ ks)
-  part-refuses h = e ∙ sym (refusal-before rs ks (omega (arith, e, h)))
-
-  pub part-passes : positive rs ≡ true → r ≡ 0 → refusal (rs ++ ks) ≡ refusal ks
-  part-passes p h = refusal-rest rs ks p (sym e ∙ h)
 
 -- ---- the marked chapter, one number after the other
 
@@ -60,7 +51,7 @@ module _ (table : List ℕ) (n room : ℕ) where
       refused-tree h = part-refuses (treeRefusals a used) fromTwelve r e h
 
       pub up-to-12 : r ≡ 0 → refusal fromTen ≡ refusal fromTwelve
-      up-to-12 h = part-passes (treeRefusals a used) fromTwelve r e refl h
+      up-to-12 h = refusal-rest (treeRefusals a used) fromTwelve refl (sym e ∙ h)
 
     module _ (places : ℕ) where
       abbrev fromNine : Refusals
@@ -102,7 +93,7 @@ module _ (table : List ℕ) (n room : ℕ) where
         refused-alphabet h = part-refuses (alphabetRefusals a) fromEight r e h
 
         pub up-to-8 : r ≡ 0 → refusal marked ≡ refusal fromEight
-        up-to-8 h = part-passes (alphabetRefusals a) fromEight r e refl h
+        up-to-8 h = refusal-rest (alphabetRefusals a) fromEight refl (sym e ∙ h)
 
 -- ---- the change, one number after the other
 
@@ -190,7 +181,7 @@ module _ (a table : List ℕ) (n : ℕ) (chapter : List ℕ) (room e : ℕ) (xs 
   marked-passes h t p =
       let m : length (take n chapter) ≡ n = length-take-le n chapter (used-right a table n (take n chapter) (length chapter) room r q h .within) in
       p ∙ ap (λ (k : ℕ). refusal (changed k)) m
-      ∙ sym (part-passes (markedRefusals a table n (take n chapter) (length chapter) room) (changed n) r q refl h)
+      ∙ sym (refusal-rest (markedRefusals a table n (take n chapter) (length chapter) room) (changed n) refl (sym q ∙ h))
 
 -- ---- lengths
 

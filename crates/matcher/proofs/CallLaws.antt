@@ -1,5 +1,5 @@
 -- The refusals of Run and List, asked one after the other, and what is known of a call that is not refused. Assumes nothing.
-use mathlib.Core.Path.{_≡_, refl, sym}
+use mathlib.Core.Path.{_≡_, refl, _∙_, sym}
 use mathlib.Core.Bool.{true, false}
 use mathlib.Core.List.{List, [], _∷_, _++_}
 use Prim.Native.Nat.{ℕ, _*_, _≤_}
@@ -11,7 +11,7 @@ use Rattle.words.specs.Refusal.{Refusals, refusal}
 use Rattle.words.specs.Alphabet.{alphabetRefusals, alphabetFault}
 use Rattle.words.specs.Chapter.{treeRefusals, treeFault}
 use Rattle.words.proofs.AlphabetLaws.{alphabet-most}
-use Rattle.words.proofs.RefusalLaws.{NoneHolds, refusal-none}
+use Rattle.words.proofs.RefusalLaws.{NoneHolds, refusal-none, refusal-rest, part-refuses}
 use Rattle.automaton.specs.Table.{isTable, noTable}
 use Rattle.operations.specs.Marks.{sizeOf}
 use Rattle.operations.specs.Run.{wrongCount, fewMarks, runFault}
@@ -19,7 +19,7 @@ use Rattle.operations.specs.Listing.{listTooShort, listRefusals, listFault}
 use Rattle.operations.proofs.AcceptedLaws.{Counted, count-right, marks-fit, run-accepted}
 use Rattle.matcher.specs.Faults.{tableRefusals, tableFault}
 use Rattle.matcher.specs.Nodes.{Workable}
-use Rattle.matcher.proofs.FaultLaws.{part-refuses, part-passes, one-refuses, one-passes}
+use Rattle.matcher.proofs.FaultLaws.{one-refuses, one-passes}
 
 -- ---- 1, 2 and 8
 
@@ -34,7 +34,7 @@ module _ (a table : List ℕ) where
   module _ (p : alphabetFault a ≡ 0) where
     past : (r : ℕ) → r ≡ refusal eight → r ≡ tableFault a table
     unfolding eight
-    past r q = part-passes (alphabetRefusals a) eight 0 (sym p) refl refl r q
+    past r q = q ∙ sym (refusal-rest (alphabetRefusals a) eight refl p)
 
     pub table-refused : isTable a table ≡ false → _≡_ {A = ℕ} 8 (tableFault a table)
     unfolding eight noTable
@@ -61,7 +61,7 @@ module _ (a table ch : List ℕ) (room : ℕ) where
   module _ (p : tableFault a table ≡ 0) where
     run-past : (r : ℕ) → r ≡ refusal nine → r ≡ runFault a table ch room
     unfolding nine twelve
-    run-past r q = part-passes (tableRefusals a table) nine 0 (sym p) refl refl r q
+    run-past r q = q ∙ sym (refusal-rest (tableRefusals a table) nine refl p)
 
     pub run-count : wrongCount (length ch) ≡ true → _≡_ {A = ℕ} 9 (runFault a table ch room)
     unfolding nine twelve
@@ -79,7 +79,7 @@ module _ (a table ch : List ℕ) (room : ℕ) where
         last r e =
             run-past r
             (one-passes 9 (wrongCount (length ch)) (treeRefusals a ch ++ twelve) q r
-            (part-passes (treeRefusals a ch) twelve 0 (sym t) refl refl r e))
+            (e ∙ sym (refusal-rest (treeRefusals a ch) twelve refl t)))
 
         pub run-marks : fewMarks table (length ch) room ≡ true → _≡_ {A = ℕ} 12 (runFault a table ch room)
         unfolding twelve
@@ -106,7 +106,7 @@ module _ (a table : List ℕ) (n room places : ℕ) where
   module _ (p : tableFault a table ≡ 0) where
     list-past : (r : ℕ) → r ≡ refusal counted → r ≡ listFault a table n room places
     unfolding counted thirteen
-    list-past r q = part-passes (tableRefusals a table) counted 0 (sym p) refl refl r q
+    list-past r q = q ∙ sym (refusal-rest (tableRefusals a table) counted refl p)
 
     pub list-count : wrongCount n ≡ true → _≡_ {A = ℕ} 9 (listFault a table n room places)
     unfolding counted thirteen

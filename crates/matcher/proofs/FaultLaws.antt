@@ -1,14 +1,14 @@
--- Laws of a refusal that is looked for in parts: where one part refuses, so does the whole, and otherwise the next decides.
--- Assumes nothing.
+-- Laws of a refusal whose conditions are asked one after the other, and of the answer and a slice of a refused and of an
+-- accepted call. Assumes nothing.
 use mathlib.Core.Path.{_≡_, _∙_, sym}
 use mathlib.Core.Bool.{Bool, true, false}
-use mathlib.Core.List.{List, _∷_, _++_}
+use mathlib.Core.List.{List, _∷_}
 use Prim.Native.Nat.{ℕ, _*_, _≤_}
 use native.Mathlib.Omega.{arith}
 use native.Mathlib.Nat.{le-trans, mul-le-mul-left, mul-le-mul-right}
 use borrow.Author.Tests.{ne-eqb}
 use Rattle.words.specs.Refusal.{Refusals, refusal}
-use Rattle.words.proofs.RefusalLaws.{positive, refusal-here, refusal-next, refusal-before, refusal-rest}
+use Rattle.words.proofs.RefusalLaws.{refusal-here, refusal-next}
 use Rattle.automaton.specs.Transition.{automatonOf}
 use Rattle.automaton.specs.StateSet.{sizeFor}
 use Rattle.operations.specs.Marks.{sizeOf}
@@ -22,15 +22,6 @@ unfolding sizeOf sizeFor automatonOf
 words-fit table count size h e =
     let few : size ≤ 64 = omega arith in
     le-trans (mul-le-mul-right size h) (mul-le-mul-left 4096 few)
-
--- ---- a part of the list
-
-module _ (rs ks : Refusals) (f : ℕ) (e : f ≡ refusal rs) where
-  pub part-refuses : (f ≡ 0 → ⊥) → f ≡ refusal (rs ++ ks)
-  part-refuses h = e ∙ sym (refusal-before rs ks (omega arith))
-
-  pub part-passes : positive rs ≡ true → f ≡ 0 → (r : ℕ) → r ≡ refusal ks → r ≡ refusal (rs ++ ks)
-  part-passes p h r q = q ∙ sym (refusal-rest rs ks p (sym e ∙ h))
 
 -- ---- one condition
 

@@ -11,7 +11,8 @@ use lib.Seq.{slice, split-at, take-at, drop-at, take-take, take-suc-set, length-
 use lib.Dec.{leb}
 use borrow.Author.Tests.{leb-true}
 use Rattle.words.specs.Postfix.{arity, trees, oneTree, stackGiven, childrenOf}
-use Rattle.words.proofs.PostfixLaws.{picked, trees-split}
+use Rattle.words.proofs.TestLaws.{picked}
+use Rattle.words.proofs.PostfixLaws.{trees-split}
 use Rattle.words.proofs.ListLaws.{Below}
 use Rattle.words.proofs.ChildLaws.{numbers-more, numbers-below}
 use Rattle.words.proofs.ChildSubtreeLaws.{given-height}

@@ -7,6 +7,7 @@ use Prim.Native.Nat.{ℕ, zero, suc, _+_, _-_, _^_, _/_, _<_}
 use native.Mathlib.Omega.{arith}
 use lib.ListN.{length, getD, replicate, length-append, length-replicate}
 use Rattle.words.specs.Lists.{count, listFrom}
+use Rattle.words.proofs.TestLaws.{same-truth}
 use Rattle.words.proofs.CountLaws.{count-most, count-more, listFrom-member}
 use Rattle.words.proofs.ListLaws.{length-listFrom}
 use Rattle.automaton.specs.Transition.{Transition, Automaton, onSymbol, epsilon, automatonOf}
@@ -100,11 +101,6 @@ contains-zeros x n q = rw (zeros-at x n (q / 32))
 
 words-zeros : (x : StateSet) (n : ℕ) → Words x → Words (x ++ replicate n 0)
 words-zeros x n w i = rw (zeros-at x n i) (w i)
-
-same-truth : (b c : Bool) → (b ≡ true → c ≡ true) → (c ≡ true → b ≡ true) → b ≡ c
-same-truth true c h k = sym (h refl)
-same-truth false true h k = k refl
-same-truth false false h k = refl
 
 -- ---- the node's state set
 

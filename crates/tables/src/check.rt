@@ -15,15 +15,14 @@ use words::word::KIND_UNIT;
 use words::word::NODE;
 use words::word::PRODUCT;
 use words::word::SOURCE;
+use words::word::STATES_MOST;
 use words::word::SYMBOL;
 use words::word::TRANSITION;
 use words::word::UNION;
 use words::word::is_of;
 use words::word::spare_bits_clear;
 
-// The limits of a table.
-pub const STATES_MOST: u32 = 1024;
-
+// The most words of a table.
 pub const TABLE_MOST: usize = 2048;
 
 // Whether the word is a head: 1 to 1,024 states, and the final state is one of them.

@@ -13,7 +13,8 @@ use borrow.Author.Tests.{eqb-true}
 use Rattle.words.specs.Lists.{listFrom}
 use Rattle.words.specs.Postfix.{arity, trees, oneTree, startFrom, startOf, subtreeOf, values, stackGiven, childrenOf}
 use Rattle.words.proofs.ListLaws.{slice-slice, listFrom-getD}
-use Rattle.words.proofs.PostfixLaws.{picked, trees-split, trees-unsnoc, trees-same, startFrom-none, startFrom-add, startFrom-le, start-parts, run-is}
+use Rattle.words.proofs.TestLaws.{picked}
+use Rattle.words.proofs.PostfixLaws.{trees-split, trees-unsnoc, trees-same, startFrom-none, startFrom-add, startFrom-le, start-parts, run-is}
 use Rattle.words.proofs.StackLaws.{length-values, list-right}
 use Rattle.words.proofs.ChildLaws.{numbers, numbers-start, values-children}
 use Rattle.words.proofs.SubtreeLaws.{subtree-last}

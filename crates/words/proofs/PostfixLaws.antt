@@ -1,6 +1,6 @@
 -- Laws of postfix words that make trees, of where subtrees begin, and of a subtree that gives way. Assumes nothing.
 use mathlib.Core.Path.{_≡_, refl, ap, ap₂, _∙_, sym, subst}
-use mathlib.Core.Bool.{Bool, true, false, cond}
+use mathlib.Core.Bool.{true}
 use mathlib.Core.List.{List, [], _∷_, _++_, append-assoc}
 use Prim.Native.Nat.{ℕ, zero, suc, _+_, _-_, _<_, _≤_}
 use native.Mathlib.Omega.{arith}
@@ -12,16 +12,7 @@ use lib.Seq.{slice, take-suc, drop-append-le, length-take-le, slice-empty, take-
 use lib.Dec.{leb, eqb}
 use borrow.Author.Tests.{le-leb, leb-true, eq-eqb, eqb-true}
 use Rattle.words.specs.Postfix.{arity, trees, oneTree, startFrom, startOf, splice}
-
--- ---- choices
-
--- a choice whose other side is false holds by its test
-pub picked : (b c : Bool) → cond b c false ≡ true → (b ≡ true) × (c ≡ true)
-picked true c e = (refl, e)
-picked false c e = absurd (let z : _≡_ {A = ℕ} 0 1 = cc in omega arith)
-
-pub picks : (b c : Bool) → b ≡ true → c ≡ true → cond b c false ≡ true
-picks b c e f = rw (e, f)
+use Rattle.words.proofs.TestLaws.{picked, picks}
 
 -- ---- words that make trees
 

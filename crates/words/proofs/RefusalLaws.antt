@@ -1,6 +1,6 @@
 -- Laws of refusals: a call is accepted exactly if no condition holds, and otherwise the first condition that holds gives the
 -- number. Assumes nothing.
-use mathlib.Core.Path.{_≡_, refl, _∙_}
+use mathlib.Core.Path.{_≡_, refl, _∙_, sym}
 use mathlib.Core.Bool.{Bool, true, false, _&&_}
 use mathlib.Core.List.{[], _∷_, _++_}
 use Prim.Native.Nat.{ℕ, _<_}
@@ -54,6 +54,10 @@ pub refusal-before : (rs ks : Refusals) → 0 < refusal rs → refusal (rs ++ ks
 refusal-before [] ks h = absurd (omega arith)
 refusal-before ((n, true) ∷ rs) ks h = refl
 refusal-before ((n, false) ∷ rs) ks h = refusal-before rs ks h
+
+-- the same, where f is the first list's number
+pub part-refuses : (rs ks : Refusals) (f : ℕ) → f ≡ refusal rs → (f ≡ 0 → ⊥) → f ≡ refusal (rs ++ ks)
+part-refuses rs ks f e h = e ∙ sym (refusal-before rs ks (omega (arith, e, h)))
 
 -- where the first list does not refuse, the second decides
 pub refusal-rest : (rs ks : Refusals) → positive rs ≡ true → refusal rs ≡ 0 → refusal (rs ++ ks) ≡ refusal ks

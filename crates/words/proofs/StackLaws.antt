@@ -12,7 +12,7 @@ use lib.Dec.{leb}
 use borrow.Author.Tests.{leb-true, eqb-true}
 use Rattle.words.specs.Lists.{listFrom}
 use Rattle.words.specs.Postfix.{arity, trees, oneTree, valueOn, values, stackAfter, stackGiven}
-use Rattle.words.proofs.PostfixLaws.{picked}
+use Rattle.words.proofs.TestLaws.{picked}
 
 module _ {A : Type 0} (a : List ℕ) (value : ℕ → List A → A) where
   abbrev on : ℕ → List A → A

@@ -1,7 +1,8 @@
--- Laws of tests: a test with its outcome, both and either of two tests, and a test of every word of a list. Assumes nothing.
-use mathlib.Core.Path.{_≡_, refl}
+-- Laws of tests: a test with its outcome, two tests that hold together, both and either of two tests, and a test of every word
+-- of a list. Assumes nothing.
+use mathlib.Core.Path.{_≡_, refl, sym}
 use mathlib.Core.Logic.{_⊎_, inl, inr}
-use mathlib.Core.Bool.{Bool, true, false, _&&_, _||_, true≢false, false≢true}
+use mathlib.Core.Bool.{Bool, true, false, cond, _&&_, _||_, true≢false, false≢true}
 use mathlib.Core.List.{List, [], _∷_, _++_}
 use Prim.Native.Nat.{ℕ}
 use Rattle.words.specs.Lists.{all}
@@ -14,6 +15,12 @@ pub data Tested (b : Bool) : Type 0 where
 pub tested : (b : Bool) → Tested b
 tested true = holds refl
 tested false = fails refl
+
+-- each holds where the other does
+pub same-truth : (b c : Bool) → (b ≡ true → c ≡ true) → (c ≡ true → b ≡ true) → b ≡ c
+same-truth true c f g = sym (f refl)
+same-truth false true f g = g refl
+same-truth false false f g = refl
 
 -- ---- both and either of two tests
 
@@ -34,6 +41,14 @@ false-or b c e f = rw (e, f)
 pub or-true : (b c : Bool) → b || c ≡ true → (b ≡ true) ⊎ (c ≡ true)
 or-true true c e = inl refl
 or-true false c e = inr e
+
+-- both, as a choice whose other side is false
+pub picked : (b c : Bool) → cond b c false ≡ true → (b ≡ true) × (c ≡ true)
+picked true c e = (refl, e)
+picked false c e = absurd (false≢true e)
+
+pub picks : (b c : Bool) → b ≡ true → c ≡ true → cond b c false ≡ true
+picks b c e f = rw (e, f)
 
 -- ---- every word of a list
 

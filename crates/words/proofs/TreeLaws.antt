@@ -12,7 +12,7 @@ use lib.Dec.{leb}
 use borrow.Author.Tests.{leb-true, eqb-true}
 use Rattle.words.specs.Tree.{Tree, Trees, node, none, more, number, postfix, postfixAll, fold, foldAll}
 use Rattle.words.specs.Postfix.{arity, trees, oneTree, stackAfter, Ranked, RankedAll}
-use Rattle.words.proofs.PostfixLaws.{picked}
+use Rattle.words.proofs.TestLaws.{picked}
 use Rattle.words.proofs.ExactlyOne.{ExactlyOne}
 use Rattle.words.proofs.ReadingLaws.{stack-tree}
 

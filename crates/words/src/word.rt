@@ -27,6 +27,8 @@ pub const TRANSITION: u32 = 9;
 pub const EPSILON: u32 = 10;
 
 pub const SOURCE: u32 = 11;
+// The most states that a head counts.
+pub const STATES_MOST: u32 = 1024;
 
 // The other 28 bits of a word of this kind stay below the answer.
 pub fn field_range(kind: u32) -> u32
