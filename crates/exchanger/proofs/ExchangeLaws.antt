@@ -19,10 +19,10 @@ use Rattle.operations.proofs.RuleLaws.{follows-length, follows-outcomes}
 use Rattle.operations.proofs.LoopLaws.{setAt, upwards}
 use Rattle.operations.proofs.ExchangeLoops.{movedSets, replacedSets, exchangedSets, exchangedSets-outcomes, length-movedSets, length-replacedSets, words-behind}
 use Rattle.matcher.specs.Nodes.{markedFrom}
-use Rattle.matcher.proofs.MarkLaws.{Holding, holding-set}
+use Rattle.matcher.proofs.MarkLaws.{Holding, holding-set, markedAt-rows}
 use Rattle.exchanger.specs.Climbing.{climbFrom, foot}
 use Rattle.exchanger.specs.Exchanging.{exchangedFrom}
-use Rattle.exchanger.proofs.UpwardLaws.{Upward, Same, climb-upwards, marked-over}
+use Rattle.exchanger.proofs.UpwardLaws.{Upward, Same, climb-upwards}
 use Rattle.exchanger.proofs.TailLaws.{tail-filled}
 use Rattle.exchanger.proofs.CallLaws.{Numbers, numbers, accepted-call, length-used, chapter-fits}
 use Rattle.exchanger.proofs.MovedLaws.{gapSets, behindUse}
@@ -87,7 +87,7 @@ module _ (a table chapter marks : List ℕ) (n e : ℕ) (xs : List ℕ) (ok : fa
     replaced-holds (suc k) h =
         let t = length-replaced k in
         let l = length-splice a used e xs he in
-        marked-over a table tree (markedFrom a table tree s k moved) (replaced k) rest (s + k) (replaced-holds k (omega arith)) (omega arith) (omega arith)
+        markedAt-rows a table tree (markedFrom a table tree s k moved) (replaced k) rest (s + k) (replaced-holds k (omega arith)) (omega arith) (omega arith)
 
     abbrev work : List ℕ
     work = markedFrom a table tree s (length xs) moved

@@ -16,8 +16,7 @@ use Rattle.operations.specs.Marks.{sizeOf, storedSet, sameWords}
 use Rattle.operations.proofs.LoopLaws.{setAt, upwards, upwards-beside, upwards-last, upwards-onward}
 use Rattle.operations.proofs.LoopLaws as loops
 use Rattle.matcher.specs.Nodes.{setFrom, markedAt}
-use Rattle.matcher.proofs.NodeLaws.{newSet}
-use Rattle.matcher.proofs.MarkLaws.{Holding, holding-set, holding-write, length-setFrom, setFrom-rows}
+use Rattle.matcher.proofs.MarkLaws.{Holding, holding-set, setFrom-rows, markedAt-rows}
 use Rattle.exchanger.specs.declared.climb.Rise.{Rise}
 use Rattle.exchanger.specs.Climbing.{climbFrom}
 use Rattle.exchanger.proofs.ClimbLaws.{recomputed-same, recomputed-changed, step-beside, step-ancestor, climb-goes, climb-stops}
@@ -29,20 +28,6 @@ module _ {A : Type 0} (f g : ℕ → A) (i j : ℕ) (h : (t : ℕ) → f (i + t)
 
   later : (t : ℕ) → f (suc i + t) ≡ g (suc j + t)
   later t = ap f (suc-add i t ∙ sym (add-suc i t)) ∙ h (suc t) ∙ ap g (add-suc j t ∙ sym (suc-add j t))
-
--- node i's state set from the marks is the one from the list of state sets
-pub set-over : (a table ch marks : List ℕ) (rows : List StateSet) (rest : List ℕ) (i : ℕ) → Holding (sizeOf table) marks rows rest → i ≤ length rows
-    → i ≤ length ch → setFrom a table ch marks i ≡ loops.setFrom a table ch i rows
-unfolding newSet loops.setFrom
-set-over a table ch marks rows rest i g l h = setFrom-rows a table ch marks rows rest i g l h
-
--- node i, worked out and written
-pub marked-over : (a table ch marks : List ℕ) (rows : List StateSet) (rest : List ℕ) (i : ℕ) → Holding (sizeOf table) marks rows rest → i < length rows
-    → i ≤ length ch → Holding (sizeOf table) (markedAt a table ch i marks) (set rows i (loops.setFrom a table ch i rows)) rest
-unfolding markedAt
-marked-over a table ch marks rows rest i g l h =
-    rw (← set-over a table ch marks rows rest i g (omega arith) h)
-    (holding-write (sizeOf table) marks rows rest i (setFrom a table ch marks i) g (length-setFrom a table ch marks i) l)
 
 module _ (a table ch used : List ℕ) (e : ℕ) (rest : List ℕ) (above : ℕ → Bool) where
   abbrev size : ℕ
@@ -137,7 +122,7 @@ module _ (a table ch used : List ℕ) (e : ℕ) (rest : List ℕ) (above : ℕ �
         tests : sameWords (loops.setFrom a table ch i rows) (setAt rows i) ≡ sameWords new old
         tests =
             ap₂ sameWords
-            (sym (set-over a table ch marks rows rest i (g .sets) (omega (arith, inside-rows)) inside))
+            (sym (setFrom-rows a table ch marks rows rest i (g .sets) (omega (arith, inside-rows)) inside))
             (sym (holding-set size marks rows rest i (g .sets) inside-rows))
 
         go : Tested (sameWords new old) → Same (climbs i (suc n) marks t) (ups i (suc n) rows (t .recomputed))
@@ -161,7 +146,7 @@ module _ (a table ch used : List ℕ) (e : ℕ) (rest : List ℕ) (above : ℕ �
             rw (p, q)
             (ih (suc i) (suc j) marks′ rows′ t′
             (next 0 marks′ rows′ (holding-ancestor a used e j d (g .holding) l′) (length-set rows i _)
-            (marked-over a table ch marks rows rest i (g .sets) inside-rows inside)))
+            (markedAt-rows a table ch marks rows rest i (g .sets) inside-rows inside)))
 
   pub climb-upwards : (n : ℕ) → Goal n
   unfolding climbFrom upwards

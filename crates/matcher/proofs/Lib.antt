@@ -1,5 +1,4 @@
 pub mod RootLaws
-pub mod NodeLaws
 pub mod WorkedLaws
 pub mod MarkLaws
 pub mod ReadyLaws

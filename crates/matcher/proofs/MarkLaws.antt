@@ -14,11 +14,12 @@ use Rattle.automaton.specs.StateSet.{StateSet}
 use Rattle.operations.specs.Marks.{sizeOf, nodeSet, nodeSets, storedSet}
 use Rattle.operations.specs.Run.{runMarks}
 use Rattle.operations.proofs.MarksLaws.{Sized, length-nodeSet, storedSet-flatten}
+use Rattle.operations.proofs.LoopLaws.{setAt, Recomputing}
+use Rattle.operations.proofs.LoopLaws as loops
 use Rattle.slices.proofs.RowLaws.{paste-row, sized-set, sized-stored, stored-split}
 use Rattle.matcher.specs.Nodes.{setFrom, markedAt, markedFrom}
 use Rattle.matcher.proofs.RootLaws.{children-below}
-use Rattle.matcher.proofs.NodeLaws.{look, newSet, length-newSet}
-use Rattle.matcher.proofs.WorkedLaws.{workedFrom, length-worked, Worked, worked-is}
+use Rattle.matcher.proofs.WorkedLaws.{workedFrom, length-worked, worked-is}
 
 -- the marks begin with these state sets
 pub record Holding (size : ℕ) (marks : List ℕ) (rows : List StateSet) (rest : List ℕ) : Type 0 where
@@ -34,7 +35,7 @@ holding-stored size marks n h = record {
 }
 
 pub holding-set : (size : ℕ) (marks : List ℕ) (rows : List StateSet) (rest : List ℕ) (k : ℕ) → Holding size marks rows rest → k < length rows
-    → storedSet size marks k ≡ look rows k
+    → storedSet size marks k ≡ setAt rows k
 holding-set size marks rows rest k g l =
     ap (λ (m : List ℕ). storedSet size m k) (g .words) ∙ storedSet-flatten size rows rest k (g .sized) l
 
@@ -55,27 +56,31 @@ module _ (a table ch : List ℕ) where
   unfolding setFrom
   length-setFrom marks i = length-nodeSet table (getD ch i 0) _
 
+  -- node i's state set from the marks is the one from the list of state sets
   pub setFrom-rows : (marks : List ℕ) (rows : List StateSet) (rest : List ℕ) (i : ℕ) → Holding (sizeOf table) marks rows rest → i ≤ length rows
-      → i ≤ length ch → setFrom a table ch marks i ≡ newSet a table ch i rows
-  unfolding setFrom newSet
+      → i ≤ length ch → setFrom a table ch marks i ≡ loops.setFrom a table ch i rows
+  unfolding setFrom loops.setFrom
   setFrom-rows marks rows rest i g l h =
       ap (nodeSet table (getD ch i 0))
-      (map-below (storedSet size marks) (look rows) i (childrenOf a ch i) (children-below a ch i h)
+      (map-below (storedSet size marks) (setAt rows) i (childrenOf a ch i) (children-below a ch i h)
       (λ k m. holding-set size marks rows rest k g (omega arith)))
+
+  -- node i, worked out and written
+  pub markedAt-rows : (marks : List ℕ) (rows : List StateSet) (rest : List ℕ) (i : ℕ) → Holding (sizeOf table) marks rows rest → i < length rows
+      → i ≤ length ch → Holding (sizeOf table) (markedAt a table ch i marks) (set rows i (loops.setFrom a table ch i rows)) rest
+  unfolding markedAt
+  markedAt-rows marks rows rest i g l h =
+      rw (← setFrom-rows marks rows rest i g (omega arith) h)
+      (holding-write size marks rows rest i (setFrom a table ch marks i) g (length-setFrom marks i) l)
 
   pub markedFrom-rows : (marks : List ℕ) (rows : List StateSet) (rest : List ℕ) (i n : ℕ) → Holding (sizeOf table) marks rows rest
       → i + n ≤ length rows → i + n ≤ length ch
       → Holding (sizeOf table) (markedFrom a table ch i n marks) (workedFrom a table ch i n rows) rest
-  unfolding markedFrom markedAt workedFrom
+  unfolding markedFrom workedFrom
   markedFrom-rows marks rows rest i zero g l h = g
   markedFrom-rows marks rows rest i (suc n) g l h =
-      let before = markedFrom a table ch i n marks in
-      let worked = workedFrom a table ch i n rows in
-      let ih : Holding size before worked rest = markedFrom-rows marks rows rest i n g (omega arith) (omega arith) in
-      let inside : i + n < length worked = rw (length-worked a table ch i n rows) (omega arith) in
-      let new = newSet a table ch (i + n) worked in
-      rw (setFrom-rows before worked rest (i + n) ih (omega arith) (omega arith))
-      (holding-write size before worked rest (i + n) new ih (length-newSet a table ch (i + n) worked) inside)
+      markedAt-rows (markedFrom a table ch i n marks) (workedFrom a table ch i n rows) rest (i + n)
+      (markedFrom-rows marks rows rest i n g (omega arith) (omega arith)) (rw (length-worked a table ch i n rows) (omega arith)) (omega arith)
 
   -- ---- Run
 
@@ -88,10 +93,10 @@ module _ (a table ch : List ℕ) where
       let rest = drop (n * size) marks in
       let m : length old ≡ n = length-listFrom (storedSet size marks) n 0 in
       let z : 0 + n ≡ n = zero-add n in
-      let w : Worked a table ch old 0 [] n (workedFrom a table ch 0 n old) = worked-is a table ch old 0 [] n (omega arith) (omega arith) refl in
+      let w : Recomputing a table ch old 0 [] n (workedFrom a table ch 0 n old) = worked-is a table ch old 0 [] n (omega arith) (omega arith) refl in
       markedFrom-rows marks old rest 0 n (holding-stored size marks n h) (omega arith) (omega arith) .words
       ∙ ap (λ (rows : List StateSet). flatten rows ++ rest)
-      (w .rows-are
+      (w .sets-are
       ∙ ap₂ (λ (l : List ℕ) (r : List StateSet). values a (nodeSet table) l [] ++ r)
       (ap (λ (i : ℕ). take i ch) z ∙ take-length ch)
       (ap (λ (i : ℕ). drop i old) z ∙ drop-of-length-le old {i = n} (omega arith))
