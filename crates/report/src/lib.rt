@@ -22,13 +22,19 @@ mod writer;
 // The most elements of a chapter here.
 pub const CHAPTER_MOST: usize = 256;
 
+// The words of the table and of the marks: a compiled table has at most 1,147 words, and the marks of an element have at
+// most 32.
+const TABLE_ROOM: usize = 2048;
+
+const MARKS_ROOM: usize = 8192;
+
 // The output for an alphabet, a rule and a chapter. Its own slices are so large that 7, 8, 12 and 13 cannot arise.
 fn report_words(alphabet: &[u32], rule: &[u32], chapter: &[u32], out: &mut [u8]) -> usize
     ensures { λ r. ⌜
         Written 0 (marklistOutput (now (alphabet .entry)) (now (rule .entry)) (now (chapter .entry))) (now (out .entry)) (now (out .exit)) r
         ⌝ }
 {
-    let mut table = [0u32; 2048];
+    let mut table = [0u32; TABLE_ROOM];
     let size = match compile(alphabet, rule, &mut table) {
         Compiled::Table(size) => size,
         Compiled::Refused(number) => return write_refused(out, number),
@@ -36,13 +42,12 @@ fn report_words(alphabet: &[u32], rule: &[u32], chapter: &[u32], out: &mut [u8])
     if chapter.len() > CHAPTER_MOST {
         return write_refused(out, 9);
     }
-    let mut marks = [0u32; 8192];
+    let mut marks = [0u32; MARKS_ROOM];
     match run(alphabet, &table[..size], chapter, &mut marks) {
         Ran::Marked(_, _) => (),
         Ran::Refused(number) => return write_refused(out, number),
     }
-    ;
-    let mut hits = [0u32; 256];
+    let mut hits = [0u32; CHAPTER_MOST];
     match list(alphabet, &table[..size], chapter.len(), &marks, &mut hits) {
         Listed::Matches(count) => write_lines(
             out,

@@ -1,0 +1,64 @@
+/* The source's own example through the C interface: Compile, Run and List, and then Exchange of element 4 for d. */
+#include <stdio.h>
+
+#include "haqbylur.h"
+
+#define LENGTH(a) (sizeof(a) / sizeof((a)[0]))
+
+/* a, b, c, d of rank 0, f of rank 2, g and h of rank 1, numbered 0 to 6. */
+static const uint32_t alphabet[] = {
+    0x10000000, 0x10000000, 0x10000000, 0x10000000, 0x10000002, 0x10000001, 0x10000001};
+
+/* a b f c g d (product over c) union (closure over d). */
+static const uint32_t rule[] = {
+    0x20000000, 0x20000001, 0x20000004, 0x20000002, 0x20000005, 0x20000003, 0x50000002, 0x40000000, 0x60000003};
+
+static const uint32_t d[] = {0x70000003};
+
+/* Chapter a b f d g h f. The slices are lent to the calls. */
+static uint32_t chapter[] = {
+    0x70000000, 0x70000001, 0x70000004, 0x70000003, 0x70000005, 0x70000006, 0x70000004};
+static uint32_t table[2048];
+static uint32_t marks[7 * 32];
+static uint32_t list[7];
+
+static void print_hits(const char *name, uint32_t words, uint32_t elements)
+{
+    uint32_t hits;
+    uint32_t status = haqbylur_list(alphabet, LENGTH(alphabet), table, words, elements, marks, LENGTH(marks), list, LENGTH(list), &hits);
+    if (status != 0) {
+        printf("%s refused %u\n", name, (unsigned)status);
+        return;
+    }
+    printf("%s elements %u hits", name, (unsigned)elements);
+    for (uint32_t i = 0; i < hits; i++)
+        printf(" %u", (unsigned)list[i]);
+    printf("\n");
+}
+
+int main(void)
+{
+    uint32_t words, elements, cells, worked_out;
+    uint32_t status = haqbylur_compile(alphabet, LENGTH(alphabet), rule, LENGTH(rule), table, LENGTH(table), &words);
+    if (status != 0)
+        return 1;
+    printf("compile words %u head 0x%08x\n", (unsigned)words, (unsigned)table[0]);
+
+    status = haqbylur_run(alphabet, LENGTH(alphabet), table, words, chapter, LENGTH(chapter), marks, LENGTH(marks), &elements, &cells);
+    if (status != 0)
+        return 1;
+    print_hits("run", words, elements);
+
+    status = haqbylur_exchange(alphabet, LENGTH(alphabet), table, words, chapter, LENGTH(chapter), elements, marks, LENGTH(marks),
+                               4, d, LENGTH(d), &elements, &worked_out);
+    if (status != 0)
+        return 1;
+    printf("exchange worked out %u\n", (unsigned)worked_out);
+    print_hits("exchange", words, elements);
+
+    /* An element that the chapter does not have: document 01's number 14. */
+    status = haqbylur_exchange(alphabet, LENGTH(alphabet), table, words, chapter, LENGTH(chapter), elements, marks, LENGTH(marks),
+                               elements, d, LENGTH(d), &elements, &worked_out);
+    printf("exchange refused %u\n", (unsigned)status);
+    return 0;
+}
