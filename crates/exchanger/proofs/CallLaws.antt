@@ -8,21 +8,19 @@ use native.Mathlib.Omega.{arith}
 use native.Mathlib.Nat.{add-mul, one-mul}
 use lib.ListN.{length, take, drop, take-append-drop}
 use lib.Seq.{length-take-le}
-use borrow.Author.Tests.{not-false}
 use Rattle.words.specs.Lists.{all}
-use Rattle.words.specs.Alphabet.{alphabetRefusals}
 use Rattle.words.specs.Chapter.{isNode}
 use Rattle.words.specs.Postfix.{startOf, splice}
 use Rattle.words.proofs.TestLaws.{all-left, all-right, all-append}
-use Rattle.words.proofs.RefusalLaws.{none-refusal}
-use Rattle.words.proofs.AcceptedAlphabet.{alphabet-accepted}
+use Rattle.words.proofs.AlphabetLaws.{alphabet-most}
 use Rattle.words.proofs.PostfixLaws.{start-le, splice-tree}
-use Rattle.automaton.specs.Table.{isTable, noTable}
+use Rattle.automaton.specs.Table.{isTable}
 use Rattle.automaton.proofs.TableLaws.{isTable-sizes}
 use Rattle.operations.specs.Marks.{sizeOf}
 use Rattle.operations.specs.Exchange.{fault}
 use Rattle.operations.proofs.AcceptedLaws.{ExchangeAccepted, exchange-accepted}
 use Rattle.matcher.specs.Nodes.{Workable}
+use Rattle.matcher.proofs.CallLaws.{table-right}
 use Rattle.matcher.proofs.ReadyLaws.{words-few}
 use Rattle.exchanger.specs.Tail.{TailFits}
 use Rattle.exchanger.proofs.FaultLaws.{result-length}
@@ -56,9 +54,8 @@ module _ (a table chapter marks : List ℕ) (n e : ℕ) (xs : List ℕ) (ok : fa
   unfolding fault
   accepted-call = exchange-accepted a table n used (length chapter) (length marks) e xs ok
 
-  pub table-checked : isTable a table ≡ true
-  unfolding noTable
-  table-checked = not-false (isTable a table) (accepted-call .automaton)
+  table-checked : isTable a table ≡ true
+  table-checked = table-right a table (accepted-call .automaton)
 
   pub length-used : length (take n chapter) ≡ n
   length-used = length-take-le n chapter (accepted-call .within)
@@ -126,7 +123,7 @@ module _ (a table chapter marks : List ℕ) (n e : ℕ) (xs : List ℕ) (ok : fa
   result-workable marks′ l =
       let g = accepted-call in
       record {
-        alphabet = alphabet-accepted a (none-refusal (alphabetRefusals a) (g .alphabet, (g .constants, tt))) .few;
+        alphabet = alphabet-most a (g .alphabet);
         checked = table-checked;
         nodes = result-nodes;
         tree = splice-tree a used e (g .tree) (rw length-used (g .element)) xs (g .replacement .tree);

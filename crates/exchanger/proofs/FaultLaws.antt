@@ -3,28 +3,23 @@
 use mathlib.Core.Path.{_≡_, refl, ap, _∙_, sym}
 use mathlib.Core.Bool.{Bool, true, false, not, cond, _&&_}
 use mathlib.Core.List.{List, [], _∷_, _++_}
-use Prim.Native.Nat.{ℕ, _+_, _-_, _*_, _<_, _≤_}
+use Prim.Native.Nat.{ℕ, _+_, _-_, _<_, _≤_}
 use native.Mathlib.Omega.{arith}
-use native.Mathlib.Nat.{mul-le-mul-right}
 use lib.ListN.{length, take, length-drop}
 use lib.Seq.{length-take-le}
 use lib.Dec.{eqb, ltb}
-use borrow.Author.Tests.{eq-eqb, ne-eqb, lt-ltb, le-ltb, ltb-false}
+use borrow.Author.Tests.{lt-ltb, le-ltb, ltb-false}
 use Rattle.words.specs.Lists.{all}
 use Rattle.words.specs.Refusal.{Refusals, refusal}
-use Rattle.words.specs.Alphabet.{alphabetRefusals, alphabetFault}
 use Rattle.words.specs.Chapter.{isNode, noNodes, treeRefusals, treeFault}
 use Rattle.words.specs.Postfix.{oneTree, notOneTree, startOf, splice}
 use Rattle.words.proofs.TestLaws.{or-false}
 use Rattle.words.proofs.RefusalLaws.{NoneHolds, refusal-none, refusal-here, refusal-next, refusal-rest, part-refuses}
 use Rattle.words.proofs.PostfixLaws.{length-splice}
-use Rattle.automaton.specs.Transition.{automatonOf}
-use Rattle.automaton.specs.StateSet.{sizeFor}
-use Rattle.automaton.specs.Table.{isTable, noTable}
-use Rattle.operations.specs.Marks.{sizeOf}
 use Rattle.operations.specs.Run.{wrongCount, fewMarks}
 use Rattle.operations.specs.Exchange.{wrongUse, noElement, noReplacement, resultTooLong, exchangeFault}
 use Rattle.operations.proofs.AcceptedLaws.{count-right, replacement-right}
+use Rattle.matcher.specs.Faults.{tableRefusals, tableFault}
 use Rattle.exchanger.specs.Faults.{markedRefusals, changeRefusals}
 
 -- ---- the marked chapter, one number after the other
@@ -33,14 +28,12 @@ module _ (table : List ℕ) (n room : ℕ) where
   abbrev fromTwelve : Refusals
   fromTwelve = (12, fewMarks table n room) ∷ []
 
-  module _ (size : ℕ) (e : size ≡ sizeOf table) where
-    pub refused-12 : room < n * size → refusal fromTwelve ≡ 12
-    unfolding fewMarks
-    refused-12 h = refusal-here 12 (fewMarks table n room) [] (lt-ltb room (n * sizeOf table) (rw e at h))
+  module _ (b : Bool) (e : b ≡ fewMarks table n room) where
+    pub refused-12 : b ≡ true → refusal fromTwelve ≡ 12
+    refused-12 h = refusal-here 12 (fewMarks table n room) [] (sym e ∙ h)
 
-    pub past-12 : n * size ≤ room → refusal fromTwelve ≡ 0
-    unfolding fewMarks
-    past-12 h = refusal-next 12 (fewMarks table n room) [] (le-ltb room (n * sizeOf table) (rw e at h))
+    pub past-12 : b ≡ false → refusal fromTwelve ≡ 0
+    past-12 h = refusal-next 12 (fewMarks table n room) [] (sym e ∙ h)
 
   module _ (a used : List ℕ) where
     abbrev fromTen : Refusals
@@ -57,43 +50,32 @@ module _ (table : List ℕ) (n room : ℕ) where
       abbrev fromNine : Refusals
       fromNine = (9, wrongUse n places) ∷ fromTen
 
-      abbrev fromEight : Refusals
-      fromEight = (8, noTable a table) ∷ fromNine
-
       abbrev marked : Refusals
       marked = markedRefusals a table n used places room
 
-      pub refused-none : n ≡ 0 → refusal fromNine ≡ 9
-      unfolding wrongUse wrongCount
-      refused-none h = refusal-here 9 (wrongUse n places) fromTen (simp (eq-eqb n 0 h))
+      module _ (b : Bool) (e : b ≡ wrongCount n) where
+        pub refused-count : b ≡ true → refusal fromNine ≡ 9
+        unfolding wrongUse
+        refused-count h = refusal-here 9 (wrongUse n places) fromTen (simp (sym e ∙ h))
 
-      pub refused-most : (n ≡ 0 → ⊥) → 4096 < n → refusal fromNine ≡ 9
-      unfolding wrongUse wrongCount
-      refused-most z h = refusal-here 9 (wrongUse n places) fromTen (simp (ne-eqb n 0 z, lt-ltb 4096 n h))
+        pub refused-use : b ≡ false → places < n → refusal fromNine ≡ 9
+        unfolding wrongUse
+        refused-use h l = refusal-here 9 (wrongUse n places) fromTen (simp (sym e ∙ h, lt-ltb places n l))
 
-      pub refused-use : (n ≡ 0 → ⊥) → n ≤ 4096 → places < n → refusal fromNine ≡ 9
-      unfolding wrongUse wrongCount
-      refused-use z m h = refusal-here 9 (wrongUse n places) fromTen (simp (ne-eqb n 0 z, le-ltb 4096 n m, lt-ltb places n h))
+        pub up-to-10 : b ≡ false → n ≤ places → refusal fromNine ≡ refusal fromTen
+        unfolding wrongUse
+        up-to-10 h l = refusal-next 9 (wrongUse n places) fromTen (simp (sym e ∙ h, le-ltb places n l))
 
-      pub up-to-10 : (n ≡ 0 → ⊥) → n ≤ 4096 → n ≤ places → refusal fromNine ≡ refusal fromTen
-      unfolding wrongUse wrongCount
-      up-to-10 z m h = refusal-next 9 (wrongUse n places) fromTen (simp (ne-eqb n 0 z, le-ltb 4096 n m, le-ltb places n h))
+      module _ (r : ℕ) (e : r ≡ tableFault a table) where
+        pub refused-table : (r ≡ 0 → ⊥) → r ≡ refusal marked
+        refused-table h = part-refuses (tableRefusals a table) fromNine r e h
 
-      module _ (b : Bool) (e : b ≡ isTable a table) where
-        pub refused-8 : not b ≡ true → refusal fromEight ≡ 8
-        unfolding noTable
-        refused-8 h = refusal-here 8 (noTable a table) fromNine (ap not (sym e) ∙ h)
+        pub up-to-9 : r ≡ 0 → refusal marked ≡ refusal fromNine
+        up-to-9 h = refusal-rest (tableRefusals a table) fromNine refl (sym e ∙ h)
 
-        pub up-to-9 : not b ≡ false → refusal fromEight ≡ refusal fromNine
-        unfolding noTable
-        up-to-9 h = refusal-next 8 (noTable a table) fromNine (ap not (sym e) ∙ h)
-
-      module _ (r : ℕ) (e : r ≡ alphabetFault a) where
-        pub refused-alphabet : (r ≡ 0 → ⊥) → r ≡ refusal marked
-        refused-alphabet h = part-refuses (alphabetRefusals a) fromEight r e h
-
-        pub up-to-8 : r ≡ 0 → refusal marked ≡ refusal fromEight
-        up-to-8 h = refusal-rest (alphabetRefusals a) fromEight refl (sym e ∙ h)
+-- a count that is not wrong is at most 4,096
+pub count-few : (n : ℕ) (b : Bool) → b ≡ wrongCount n → b ≡ false → n ≤ 4096
+count-few n b e h = count-right n (sym e ∙ h) .few
 
 -- ---- the change, one number after the other
 
@@ -184,14 +166,6 @@ module _ (a table : List ℕ) (n : ℕ) (chapter : List ℕ) (room e : ℕ) (xs 
       ∙ sym (refusal-rest (markedRefusals a table n (take n chapter) (length chapter) room) (changed n) refl (sym q ∙ h))
 
 -- ---- lengths
-
--- a state set has few words, whatever the table
-pub size-small : (table : List ℕ) (size : ℕ) → size ≡ sizeOf table → size ≤ 64
-unfolding sizeOf sizeFor automatonOf
-size-small table size e = omega arith
-
-pub words-small : (n size : ℕ) → n ≤ 4096 → size ≤ 64 → n * size ≤ 262144
-words-small n size h g = omega (arith, mul-le-mul-right size h)
 
 -- the words before the subtree, the replacement's, and those behind
 pub result-length : (a used : List ℕ) (e s : ℕ) (xs : List ℕ) → e < length used → s ≡ startOf a used e

@@ -5,14 +5,12 @@ ghost use lib.ListN.{length, take};
 ghost use Rattle.words.specs.Refusal.{refusal};
 ghost use Rattle.operations.specs.Exchange.{noReplacement, resultTooLong, exchangeFault};
 ghost use Rattle.exchanger.specs.Faults.{markedRefusals, changeRefusals};
-use tables::check::is_table;
-use tables::head::set_size;
-use words::alphabet::alphabet_fault;
+use matcher::faults::ELEMENTS_MOST;
+use matcher::faults::few_marks;
+use matcher::faults::table_fault;
+use matcher::faults::wrong_count;
 use words::chapter::tree_fault;
 use words::postfix::subtree_start;
-
-// The most elements of a chapter.
-pub const NODES_MOST: usize = 4096;
 
 // Of the alphabet, the table and the marked chapter: 1, 2, 8, 9, 10, 11 or 12, the first that applies, or 0.
 fn marked_fault(alphabet: &[u32], table: &[u32], chapter: &[u32], count: usize, room: usize) -> u32
@@ -22,17 +20,11 @@ fn marked_fault(alphabet: &[u32], table: &[u32], chapter: &[u32], count: usize, 
         (markedRefusals (now (alphabet .entry)) (now (table .entry)) count (take count (now (chapter .entry))) (length (now (chapter .entry))) room)
         ⌝ }
 {
-    let symbols = alphabet_fault(alphabet);
-    if symbols != 0 {
-        return symbols;
+    let fault = table_fault(alphabet, table);
+    if fault != 0 {
+        return fault;
     }
-    if !is_table(alphabet, table) {
-        return 8;
-    }
-    if count == 0 {
-        return 9;
-    }
-    if count > NODES_MOST {
+    if wrong_count(count) {
         return 9;
     }
     if count > chapter.len() {
@@ -42,7 +34,7 @@ fn marked_fault(alphabet: &[u32], table: &[u32], chapter: &[u32], count: usize, 
     if shape != 0 {
         return shape;
     }
-    if room < count * set_size(table) {
+    if few_marks(table, count, room) {
         return 12;
     }
     0
@@ -52,11 +44,7 @@ fn marked_fault(alphabet: &[u32], table: &[u32], chapter: &[u32], count: usize, 
 fn no_replacement(alphabet: &[u32], replacement: &[u32]) -> bool
     ensures { λ r. ⌜ r ≡ noReplacement (now (alphabet .entry)) (now (replacement .entry)) ⌝ }
 {
-    let count = replacement.len();
-    if count == 0 {
-        return true;
-    }
-    if count > NODES_MOST {
+    if wrong_count(replacement.len()) {
         return true;
     }
     tree_fault(alphabet, replacement) != 0
@@ -66,13 +54,13 @@ fn no_replacement(alphabet: &[u32], replacement: &[u32]) -> bool
 fn result_too_long(table: &[u32], count: usize, places: usize, room: usize) -> bool
     ensures { λ r. ⌜ r ≡ resultTooLong (now (table .entry)) count places room ⌝ }
 {
-    if count > NODES_MOST {
+    if count > ELEMENTS_MOST {
         return true;
     }
     if count > places {
         return true;
     }
-    room < count * set_size(table)
+    few_marks(table, count, room)
 }
 
 // Of the element and the replacement: 14, 15 or 16, the first that applies, or 0. For 16 the result's length is known: what
