@@ -1,5 +1,5 @@
 -- What a caller gets of an answer, and the answers of the four operations by their cases. Assumes nothing.
-use mathlib.Core.Path.{_≡_, refl}
+use mathlib.Core.Path.{_≡_}
 use mathlib.Core.List.{List, [], _∷_}
 use Prim.Native.Nat.{ℕ}
 use Rattle.operations.specs.Answer.{Answer, refused, accepted}

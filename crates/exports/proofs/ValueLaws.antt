@@ -1,11 +1,11 @@
 -- Every value of an accepted call fits 32 bits. Assumes nothing.
-use mathlib.Core.Path.{_≡_, refl, ap, _∙_, sym}
-use mathlib.Core.List.{List, [], _∷_, _++_, flatten, head-eq-of-cons-eq}
-use Prim.Native.Nat.{ℕ, suc, _+_, _*_, _^_, _<_, _≤_}
+use mathlib.Core.Path.{_≡_, refl, sym}
+use mathlib.Core.List.{List, [], _∷_, flatten, head-eq-of-cons-eq}
+use Prim.Native.Nat.{ℕ, suc, _*_, _^_, _<_, _≤_}
 use native.Mathlib.Omega.{arith}
 use native.Mathlib.Nat.{suc-mul}
-use lib.ListN.{length, getD, drop, take, length-append}
-use lib.Count.{ones, ones-le}
+use lib.ListN.{length, drop, take}
+use lib.Count.{ones-le}
 use borrow.Author.Tests.{ltb-false}
 use Rattle.words.specs.Alphabet.{alphabetRefusals}
 use Rattle.words.specs.Expression.{expressionRefusals}
@@ -22,7 +22,7 @@ use Rattle.operations.specs.Compile.{compiledTable, tooManyStates, compileRefus
 use Rattle.operations.specs.Marks.{sizeOf, nodeSet, nodeSets}
 use Rattle.operations.specs.Run.{runFault, cellsIn, runAnswer}
 use Rattle.operations.specs.Listing.{matchesOf, listFault, listAnswer}
-use Rattle.operations.specs.Exchange.{Outcome, kept, recomputed, isRecomputed, recomputedIn, fault, newTree, outcomes, exchangeAnswer}
+use Rattle.operations.specs.Exchange.{Outcome, kept, recomputed, recomputedIn, fault, newTree, outcomes, exchangeAnswer}
 use Rattle.operations.proofs.AcceptedLaws.{accepted-values, run-accepted, exchange-accepted}
 use Rattle.operations.proofs.MarksLaws.{length-nodeSet}
 use Rattle.operations.proofs.Recomputed.{exchanged}
