@@ -1,14 +1,11 @@
 -- Laws of the loop that reads words part after part. Assumes nothing.
 use mathlib.Core.Path.{_≡_, refl, ap, _∙_, sym}
-use mathlib.Core.Bool.{Bool}
 use mathlib.Core.List.{List, [], _++_}
 use Prim.Native.Nat.{ℕ, _+_, _*_, _-_, _/_, _<_, _≤_, min}
 use native.Mathlib.Omega.{arith}
 use lib.ListN.{length, take, drop, length-append}
 use lib.Seq.{sets, length-sets, length-front, length-take-le}
 use Rattle.report.specs.Input.{wordsIn}
-use Rattle.report.specs.Output.{outputOf}
-use Rattle.report.proofs.OutputLength.{output-short}
 use Rattle.report.proofs.ProgramLaws.{kept-parts}
 use Rattle.marklist.specs.Reading.{Stored}
 
@@ -19,10 +16,6 @@ module _ (buffer back : List ℕ) (n : ℕ) (room : n ≤ length buffer) (long :
 
   pub part-long : n ≡ length (take n (back ++ drop n buffer))
   part-long = sym (length-take-le n (back ++ drop n buffer) part-fits)
-
--- the report fits the buffer
-pub report-short : (complete : Bool) (a e ch : List ℕ) (n : ℕ) → n ≡ length (outputOf complete a e ch) → n ≤ 4096
-report-short complete a e ch n h = let s = output-short complete a e ch in omega arith
 
 -- the loop after `seen` words
 pub record SoFar (count : ℕ) (words₀ words : List ℕ) (seen : ℕ) : Type 0 where

@@ -1,12 +1,12 @@
--- What the function that reads words leaves. A contract cannot say which bytes a call of the C library gives, so these are
--- some bytes, as many as asked for. It serves inner functions. Assumes nothing.
+-- What the functions that read leave. A contract cannot say which bytes a call of the C library gives, so these are some
+-- bytes, as many as asked for. It serves inner functions. Assumes nothing.
 use Prim.Native.Nat.{ℕ, _*_}
 use mathlib.Core.Path.{_≡_}
 use mathlib.Core.Bool.{Bool, true}
-use mathlib.Core.List.{List}
-use lib.ListN.{length}
+use mathlib.Core.List.{List, _++_}
+use lib.ListN.{length, drop}
 use lib.Seq.{sets}
-use Rattle.report.specs.Input.{wordsIn}
+use Rattle.report.specs.Input.{wordsIn, programOutput}
 
 -- some bytes of `count` words, and a slice into which their words were stored, as far as it reaches
 pub record Stored (count : ℕ) (before after : List ℕ) : Type 0 where
@@ -14,6 +14,12 @@ pub record Stored (count : ℕ) (before after : List ℕ) : Type 0 where
   pub whole : length bytes ≡ 4 * count
   pub same : after ≡ sets before 0 (wordsIn bytes)
 
--- if all words were there, their words are stored
-abbrev pub ReadAll : ℕ → List ℕ → List ℕ → Bool → Type 0
-ReadAll count before after r = r ≡ true → Stored count before after
+-- if all words were there, and so were those before, their words are stored
+abbrev pub ReadAll : Bool → ℕ → List ℕ → List ℕ → Bool → Type 0
+ReadAll complete count before after r = r ≡ true → (complete ≡ true) × Stored count before after
+
+-- the slice begins with the output of some input, and the answer is its length
+pub record Printed (before after : List ℕ) (r : ℕ) : Type 0 where
+  pub input : List ℕ
+  pub long : r ≡ length (programOutput input)
+  pub same : after ≡ programOutput input ++ drop r before

@@ -1,6 +1,8 @@
 // Reads three word counts, an alphabet, a rule and a chapter from standard input, and prints the hits or the refusal
 // (document 01, "The source's own example"). What the bytes mean and what is printed stands in the crate `report`.
-ghost use Rattle.marklist.specs.Reading.{ReadAll};
+ghost use Prim.Native.Nat.{_≤_};
+ghost use lib.ListN.{length};
+ghost use Rattle.marklist.specs.Reading.{ReadAll, Printed};
 use libc::STDIN_FILENO;
 use libc::STDOUT_FILENO;
 use report::input::WORD_BYTES;
@@ -12,7 +14,7 @@ use report::report;
 // Reads the next `count` words, keeps as many as the slice has room for, and answers whether all were there. It asks for
 // no byte behind them, and for none where `complete` says that the input has ended before.
 fn read_words(complete: bool, count: u32, words: &mut [u32]) -> bool
-    ensures { λ r. ⌜ ReadAll count (now (words .entry)) (now (words .exit)) r ⌝ }
+    ensures { λ r. ⌜ ReadAll complete count (now (words .entry)) (now (words .exit)) r ⌝ }
 {
     if !complete {
         return false;
@@ -31,8 +33,12 @@ fn read_words(complete: bool, count: u32, words: &mut [u32]) -> bool
     true
 }
 
-// Each slice has room for one word more than the most that is accepted: what follows makes no difference.
-fn main() {
+// Reads the input, writes what is to be printed of it, and answers how many bytes that is. Each slice of words has room for
+// one more than the most that is accepted: what follows makes no difference.
+fn answer_input(out: &mut [u8]) -> usize
+    requires { ⌜ 4096 ≤ length (now out) ⌝ }
+    ensures { λ r. ⌜ Printed (now (out .entry)) (now (out .exit)) r ⌝ }
+{
     let mut counts = [0u32; 3];
     let mut alphabet = [0u32; 65];
     let mut rule = [0u32; 65];
@@ -44,13 +50,17 @@ fn main() {
     let symbols = kept(counts[0], 65);
     let words = kept(counts[1], 65);
     let nodes = kept(counts[2], 257);
-    let mut out = io::buffer();
-    let length = report(
+    report(
         complete,
         &alphabet[..symbols],
         &rule[..words],
         &chapter[..nodes],
-        &mut out,
-    );
+        out,
+    )
+}
+
+fn main() {
+    let mut out = io::buffer();
+    let length = answer_input(&mut out);
     io::write_all(STDOUT_FILENO, &out[..length]);
 }

@@ -1,98 +1,29 @@
--- `main` is safe: what it lends of each slice lies inside it. Assumes nothing.
+-- `main` is safe: what it lends of the buffer lies inside it. Assumes nothing.
 use mathlib.Core.Path.{sym}
 use native.Mathlib.Omega.{arith}
 use lib.Seq.{length-take-le}
-use Rattle.marklist.proofs.ReadingLaws.{report-short}
+use Rattle.marklist.proofs.PrintedLaws.{printed-short}
 use borrow.Author.Needs.{needs}
 use Rattle.marklist.proofs.main.Statement.{statement}
 use Rattle.marklist.proofs.main.Tie as tie
 
-slice-aggregate-read-words : tie.Need-slice-aggregate-read-words
-slice-aggregate-read-words c = search needs
-
-read-words-requires : tie.Need-read-words-requires
-read-words-requires c κs = search needs
-
-array-read-read-words : tie.Need-array-read-read-words
-array-read-read-words c = search needs
-
-slice-aggregate-read-words-2 : tie.Need-slice-aggregate-read-words-2
-slice-aggregate-read-words-2 c = search needs
-
-read-words-requires-2 : tie.Need-read-words-requires-2
-read-words-requires-2 c κs = search needs
-
-array-read-read-words-2 : tie.Need-array-read-read-words-2
-array-read-read-words-2 c = search needs
-
-slice-aggregate-read-words-3 : tie.Need-slice-aggregate-read-words-3
-slice-aggregate-read-words-3 c = search needs
-
-read-words-requires-3 : tie.Need-read-words-requires-3
-read-words-requires-3 c κs = search needs
-
-array-read-read-words-3 : tie.Need-array-read-read-words-3
-array-read-read-words-3 c = search needs
-
-slice-aggregate-read-words-4 : tie.Need-slice-aggregate-read-words-4
-slice-aggregate-read-words-4 c = search needs
-
-read-words-requires-4 : tie.Need-read-words-requires-4
-read-words-requires-4 c κs = search needs
-
-array-read-kept : tie.Need-array-read-kept
-array-read-kept c = search needs
-
-kept-requires : tie.Need-kept-requires
-kept-requires c κs = search needs
-
-array-read-kept-2 : tie.Need-array-read-kept-2
-array-read-kept-2 c = search needs
-
-kept-requires-2 : tie.Need-kept-requires-2
-kept-requires-2 c κs = search needs
-
-array-read-kept-3 : tie.Need-array-read-kept-3
-array-read-kept-3 c = search needs
-
-kept-requires-3 : tie.Need-kept-requires-3
-kept-requires-3 c κs = search needs
-
 buffer-requires : tie.Need-buffer-requires
 buffer-requires c κs = search needs
 
-array-share-prefix-alphabet : tie.Need-array-share-prefix-alphabet
-array-share-prefix-alphabet c = search needs
+slice-aggregate-answer-input : tie.Need-slice-aggregate-answer-input
+slice-aggregate-answer-input c = search needs
 
-slice-aggregate-report : tie.Need-slice-aggregate-report
-slice-aggregate-report c = sym (length-take-le (c .before .before .before .before .kept .result) (c .before .before .before .before .before .before .before .before .before .before .before .before .read-words2 .last .1 .1 .0) (omega arith))
-
-array-share-prefix-rule : tie.Need-array-share-prefix-rule
-array-share-prefix-rule c = search needs
-
-slice-aggregate-report-2 : tie.Need-slice-aggregate-report-2
-slice-aggregate-report-2 c = sym (length-take-le (c .before .before .before .before .kept2 .result) (c .before .before .before .before .before .before .before .before .before .before .read-words3 .last .1 .1 .0) (omega arith))
-
-array-share-prefix-chapter : tie.Need-array-share-prefix-chapter
-array-share-prefix-chapter c = search needs
-
-slice-aggregate-report-3 : tie.Need-slice-aggregate-report-3
-slice-aggregate-report-3 c = sym (length-take-le (c .before .before .before .before .kept3 .result) (c .before .before .before .before .before .before .before .before .read-words4 .last .1 .1 .0) (omega arith))
-
-slice-aggregate-report-4 : tie.Need-slice-aggregate-report-4
-slice-aggregate-report-4 c = search needs
-
-report-requires : tie.Need-report-requires
-report-requires c κs = search needs
+answer-input-requires : tie.Need-answer-input-requires
+answer-input-requires c κs = search needs
 
 array-share-prefix-out : tie.Need-array-share-prefix-out
-array-share-prefix-out c = let n = report-short _ _ _ _ _ (c .before .report .ensures .0) in omega arith
+array-share-prefix-out c = let n = printed-short (c .before .answer-input .ensures) in omega arith
 
 slice-aggregate-write-all : tie.Need-slice-aggregate-write-all
 slice-aggregate-write-all c =
     let call = c .before .before in
-    let n = report-short _ _ _ _ _ (call .report .ensures .0) in
-    sym (length-take-le (call .report .result) (call .report .last .1 .1 .1 .1 .0) (omega arith))
+    let n = printed-short (call .answer-input .ensures) in
+    sym (length-take-le (call .answer-input .result) (call .answer-input .last .0) (omega arith))
 
 write-all-requires : tie.Need-write-all-requires
 write-all-requires c κs = search needs
@@ -104,32 +35,9 @@ pub main-spec : {M : Type 1} → statement M
 main-spec =
     tie.close
     (tie.spec
-    slice-aggregate-read-words
-    read-words-requires
-    array-read-read-words
-    slice-aggregate-read-words-2
-    read-words-requires-2
-    array-read-read-words-2
-    slice-aggregate-read-words-3
-    read-words-requires-3
-    array-read-read-words-3
-    slice-aggregate-read-words-4
-    read-words-requires-4
-    array-read-kept
-    kept-requires
-    array-read-kept-2
-    kept-requires-2
-    array-read-kept-3
-    kept-requires-3
     buffer-requires
-    array-share-prefix-alphabet
-    slice-aggregate-report
-    array-share-prefix-rule
-    slice-aggregate-report-2
-    array-share-prefix-chapter
-    slice-aggregate-report-3
-    slice-aggregate-report-4
-    report-requires
+    slice-aggregate-answer-input
+    answer-input-requires
     array-share-prefix-out
     slice-aggregate-write-all
     write-all-requires

@@ -6,6 +6,7 @@ use mathlib.Core.Bool.{false≢true}
 use native.Mathlib.Omega.{arith}
 use lib.Seq.{length-take-le}
 use borrow.Author.Needs.{needs}
+use borrow.Author.Tests.{not-false}
 use Rattle.marklist.proofs.ReadingLaws.{part-fits, part-long, SoFar, so-far-none, so-far-more, so-far-end}
 use Rattle.marklist.proofs.read_words.Statement.{statement}
 use Rattle.marklist.proofs.read_words.Tie as tie
@@ -72,7 +73,7 @@ same-length-2 : tie.Need-same-length-2 Inv-loop μ-loop
 same-length-2 c = c .before .loop .inv .long
 
 returns-3 : tie.Need-returns-3 Inv-loop μ-loop
-returns-3 c = λ e. so-far-end _ _ _ _ (c .before .loop .inv) (c .loop-test .left)
+returns-3 c = λ e. (not-false _ (c .before .before .if1 .left), so-far-end _ _ _ _ (c .before .loop .inv) (c .loop-test .left))
 
 pub read-words-spec : {M : Type 1} → statement M
 read-words-spec =
