@@ -19,7 +19,7 @@ pub enum Compiled {
 }
 
 // Document 01's number from 1 to 7, the first that applies, or 0; `room` is the length of the table slice. The table's
-// words are counted by writing them into a slice that they do not fit.
+// words are counted by writing them into a slice of one word; those past its end are left out.
 fn compile_fault(alphabet: &[u32], expression: &[u32], room: usize) -> u32
     ensures { λ r. ⌜ r ≡ compileFault (now (alphabet .entry)) (now (expression .entry)) room ⌝ }
 {

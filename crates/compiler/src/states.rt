@@ -11,8 +11,18 @@ use emitter::port::NONE;
 use emitter::port::port_of;
 use words::alphabet::LOW_BYTE;
 use words::postfix::arity;
+use words::word::CLOSURE;
+use words::word::EMPTY;
+use words::word::ENTRY;
+use words::word::EPSILON;
+use words::word::HEAD;
 use words::word::KIND_UNIT;
+use words::word::NODE;
+use words::word::PRODUCT;
+use words::word::SOURCE;
 use words::word::SYMBOL;
+use words::word::TRANSITION;
+use words::word::UNION;
 
 // How many states a word has, where `count` is the number of constants.
 pub fn states_of(alphabet: &[u32], count: usize, w: u32) -> u32
@@ -50,7 +60,17 @@ pub fn word_port(alphabet: &[u32], exit: u32, w: u32) -> u32
     }
     let kind = w / KIND_UNIT;
     match kind {
+        ENTRY => port_of(exit, NONE),
         SYMBOL => port_of(exit, w % LOW_BYTE),
+        EMPTY => port_of(exit, NONE),
+        UNION => port_of(exit, NONE),
+        PRODUCT => port_of(exit, NONE),
+        CLOSURE => port_of(exit, NONE),
+        NODE => port_of(exit, NONE),
+        HEAD => port_of(exit, NONE),
+        TRANSITION => port_of(exit, NONE),
+        EPSILON => port_of(exit, NONE),
+        SOURCE => port_of(exit, NONE),
         _ => port_of(exit, NONE),
     }
 }

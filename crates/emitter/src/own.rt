@@ -19,9 +19,16 @@ use super::writer::push_epsilon;
 use super::writer::push_transition;
 use words::alphabet::LOW_BYTE;
 use words::word::CLOSURE;
+use words::word::EMPTY;
+use words::word::ENTRY;
+use words::word::EPSILON;
+use words::word::HEAD;
 use words::word::KIND_UNIT;
+use words::word::NODE;
 use words::word::PRODUCT;
+use words::word::SOURCE;
 use words::word::SYMBOL;
+use words::word::TRANSITION;
 use words::word::UNION;
 
 // The word of a part state, kind 11, over the number in its lower bits.
@@ -178,10 +185,17 @@ pub fn push_own(
     }
     let kind = w / KIND_UNIT;
     match kind {
+        ENTRY => at,
         SYMBOL => push_symbol(constants, ports, out, at, exit, w % LOW_BYTE),
+        EMPTY => at,
         UNION => push_union(constants, ports, out, at, exit),
         PRODUCT => push_product(constants, ports, out, at, exit, w % LOW_BYTE),
         CLOSURE => push_closure(constants, ports, out, at, exit, w % LOW_BYTE),
+        NODE => at,
+        HEAD => at,
+        TRANSITION => at,
+        EPSILON => at,
+        SOURCE => at,
         _ => at,
     }
 }
