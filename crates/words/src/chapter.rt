@@ -9,7 +9,7 @@ use super::word::NODE;
 use super::word::is_of;
 
 // Whether a word is a chapter element with a symbol that the alphabet has.
-pub fn is_node(alphabet: &[u32], w: u32) -> bool
+fn is_node(alphabet: &[u32], w: u32) -> bool
     ensures { λ r. ⌜ r ≡ isNode (now (alphabet .entry)) w ⌝ }
 {
     if is_of(NODE, w) {
@@ -18,6 +18,7 @@ pub fn is_node(alphabet: &[u32], w: u32) -> bool
     false
 }
 
+// Whether every word is one.
 fn nodes_only(alphabet: &[u32], words: &[u32]) -> bool
     ensures { λ r. ⌜ r ≡ all (isNode (now (alphabet .entry))) (now (words .entry)) ⌝ }
 {

@@ -21,10 +21,10 @@ use super::word::UNION;
 use super::word::spare_bits_clear;
 
 // The most words of a rule.
-pub const EXPRESSION_MOST: usize = 64;
+const EXPRESSION_MOST: usize = 64;
 
 // Whether a word is a rule word with a known symbol or a constant where it names one.
-pub fn is_expression_word(alphabet: &[u32], w: u32) -> bool
+fn is_expression_word(alphabet: &[u32], w: u32) -> bool
     ensures { λ r. ⌜ r ≡ isExpressionWord (now (alphabet .entry)) w ⌝ }
 {
     if !spare_bits_clear(w) {
@@ -48,6 +48,7 @@ pub fn is_expression_word(alphabet: &[u32], w: u32) -> bool
     }
 }
 
+// Whether every word is one.
 fn expression_words_only(alphabet: &[u32], expression: &[u32]) -> bool
     ensures { λ r. ⌜ r ≡ all (isExpressionWord (now (alphabet .entry))) (now (expression .entry)) ⌝ }
 {
