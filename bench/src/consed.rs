@@ -3,6 +3,7 @@
 //! each target at hand. The marks written are the same.
 
 use crate::automaton::{has, put, Automaton};
+use peer::words::count_ones;
 use std::collections::HashMap;
 use std::hash::{BuildHasherDefault, Hasher};
 
@@ -60,7 +61,7 @@ impl Sets {
         }
         let number = self.ones.len() as u32;
         self.words.extend_from_slice(set);
-        self.ones.push(set.iter().map(|word| word.count_ones()).sum());
+        self.ones.push(count_ones(set));
         self.numbers.insert(set.into(), number);
         number
     }
@@ -130,15 +131,7 @@ fn closures(automaton: &Automaton) -> Vec<Vec<Step>> {
     let closed = |target: usize| {
         let mut closure = vec![0; automaton.width];
         put(&mut closure, target);
-        let mut front = vec![target];
-        while let Some(state) = front.pop() {
-            for to in &automaton.epsilons[state] {
-                if !has(&closure, *to) {
-                    put(&mut closure, *to);
-                    front.push(*to);
-                }
-            }
-        }
+        automaton.skip_epsilon(&mut closure, &mut vec![target]);
         closure
     };
     automaton

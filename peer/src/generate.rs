@@ -90,7 +90,7 @@ pub fn expression(random: &mut Random, alphabet: &[u32], budget: usize) -> Vec<u
             return choice;
         }
     });
-    operators.into_iter().map(Operator::word).collect()
+    words::operator_words(&operators)
 }
 
 /// The symbols with an arity in this range, with their arities.
@@ -153,14 +153,7 @@ fn large_member(random: &mut Random, expression: &Expression, limit: usize) -> O
 /// A member of the expression's language with at most `limit` nodes, where one is found: each operator is read as the
 /// substitution semantics says, with a free choice at each place.
 pub fn member(random: &mut Random, expression: &Expression, limit: usize) -> Option<Tree> {
-    let mut effort = 200;
-    member_of(
-        random,
-        expression,
-        expression.operators.len() - 1,
-        limit,
-        &mut effort,
-    )
+    member_of(random, expression, expression.whole(), limit, &mut 200)
 }
 
 fn member_of(
@@ -236,11 +229,6 @@ fn replace_each(tree: &Tree, constant: usize, mut choose: impl FnMut() -> Option
         }
     }
     Some(replaced)
-}
-
-/// The words of a tree of symbols.
-pub fn tree_words(tree: &[usize]) -> Vec<u32> {
-    tree.iter().map(|symbol| words::node_word(*symbol)).collect()
 }
 
 /// A well-formed table that no expression needs to have: transitions and epsilon transitions at random.

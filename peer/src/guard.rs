@@ -3,9 +3,9 @@
 
 use std::fmt;
 
-/// A slice of words within a longer run of words.
+/// A slice of words within a longer run of words, which begins and ends with guard words.
 pub struct Guarded {
-    words: Vec<u32>,
+    pub words: Vec<u32>,
 }
 
 const GUARD: usize = 8;

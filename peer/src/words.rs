@@ -109,7 +109,7 @@ pub fn read_node(word: u32) -> Option<usize> {
     (node_word(symbol) == word).then_some(symbol)
 }
 
-/// The arity of a symbol, None for an unknown one.
+/// The arity of a symbol; None for an unknown one.
 pub fn arity(alphabet: &[u32], symbol: usize) -> Option<usize> {
     read_entry(*alphabet.get(symbol)?)
 }
@@ -121,6 +121,31 @@ pub fn constants(alphabet: &[u32]) -> Vec<usize> {
         .collect()
 }
 
+/// The arities of an alphabet's symbols.
+pub fn arities(alphabet: &[u32]) -> Vec<usize> {
+    alphabet
+        .iter()
+        .map(|word| read_entry(*word).expect("an alphabet entry"))
+        .collect()
+}
+
+/// The symbols of a tree's words.
+pub fn symbols(tree: &[u32]) -> Vec<usize> {
+    tree.iter()
+        .map(|word| read_node(*word).expect("an element"))
+        .collect()
+}
+
+/// The words of a tree of symbols.
+pub fn node_words(tree: &[usize]) -> Vec<u32> {
+    tree.iter().map(|symbol| node_word(*symbol)).collect()
+}
+
+/// The words of an expression.
+pub fn operator_words(expression: &[Operator]) -> Vec<u32> {
+    expression.iter().map(|operator| operator.word()).collect()
+}
+
 /// How many sub-expressions an expression word takes; None where the alphabet does not say.
 pub fn operands(alphabet: &[u32], word: u32) -> Option<usize> {
     match Operator::read(word)? {
@@ -129,4 +154,8 @@ pub fn operands(alphabet: &[u32], word: u32) -> Option<usize> {
         Operator::Union | Operator::Product(_) => Some(2),
         Operator::Closure(_) => Some(1),
     }
+}
+
+pub fn count_ones(words: &[u32]) -> u32 {
+    words.iter().map(|word| word.count_ones()).sum()
 }

@@ -9,8 +9,8 @@ use peer::generate;
 use peer::language::membership::Membership;
 use peer::language::Expression;
 use peer::marks::Table;
-use peer::model::arities;
 use peer::postfix;
+use peer::words::arities;
 
 #[test]
 fn random_trees_match_nearly_never_or_nearly_always() {
@@ -56,8 +56,7 @@ fn random_exchanges_all_end_at_the_same_place() {
         let node = random.below(old.symbols.len());
         let replacement = generate::planted_tree(&mut random, &own.alphabet, &read, 10);
         let new = exchange(&table, &arities, &old, node, &replacement);
-        let own_arities: Vec<usize> = old.symbols.iter().map(|symbol| arities[*symbol]).collect();
-        let depth = postfix::ancestors(&postfix::children(&own_arities).expect("one tree"), node).len();
+        let depth = postfix::ancestors(&postfix::tree_children(&old.symbols, &arities), node).len();
         match new.recomputed - replacement.len() {
             _ if depth < 2 => {}
             0 => at_once += 1,

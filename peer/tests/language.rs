@@ -6,8 +6,7 @@ use peer::generate;
 use peer::language::literal::{self, members};
 use peer::language::membership::Membership;
 use peer::language::{Expression, Tree};
-use peer::model::arities;
-use peer::words::{entry_word, Operator};
+use peer::words::{arities, entry_word, operator_words, Operator};
 use std::collections::BTreeSet;
 use Operator::{Closure, Empty, Product, Symbol, Union};
 
@@ -22,8 +21,7 @@ fn alphabet() -> Vec<u32> {
 }
 
 fn expression(operators: &[Operator]) -> Expression {
-    let words: Vec<u32> = operators.iter().map(|operator| operator.word()).collect();
-    Expression::read(&alphabet(), &words).expect("an expression")
+    Expression::read(&alphabet(), &operator_words(operators)).expect("an expression")
 }
 
 fn literal(operators: &[Operator], limit: usize) -> BTreeSet<Tree> {

@@ -78,7 +78,7 @@ fn attained(comparison: &mut Comparison) {
         let answer = comparison.call("the largest table differs", &call);
         let is_attained = answer.number == number && (number != 0 || answer.values[0] as usize == LARGEST);
         comparison.check("the largest table has not 1,147 words", is_attained, || {
-            call.lent().to_string()
+            call.to_string()
         });
     }
 }
@@ -98,6 +98,6 @@ fn near_the_limits(comparison: &mut Comparison, random: &mut Random, bounds: &[u
     comparison.check(
         "a table is longer than the bound",
         within && answer.number != 7,
-        || call.lent().to_string(),
+        || call.to_string(),
     );
 }

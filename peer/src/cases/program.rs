@@ -1,14 +1,15 @@
 //! The program `marklist`: what it prints for an input of bytes, compared with what document 01 says. The program's path
 //! is in HAQBYLUR_MARKLIST.
 
-use crate::cases::examples;
 use crate::cases::random::{pattern, Pattern};
+use crate::cases::{examples, limits};
 use crate::chance::Random;
 use crate::compare::Comparison;
 use crate::generate;
 use crate::language::Expression;
 use crate::marklist::{encode, expected};
-use crate::words::{entry_word, node_word, Operator};
+use crate::postfix;
+use crate::words::{self, entry_word, node_word, Operator};
 use std::io::{Read, Write};
 use std::process::{Child, Command, Stdio};
 use std::sync::mpsc;
@@ -167,9 +168,7 @@ fn lengths(comparison: &mut Comparison, program: &mut Program) {
         same(comparison, program, wrong, &encode(&own, &long, &tree), false);
     }
     for length in [0, 1, 255, 256, 257, 4096, 4097, 100_000] {
-        let mut chain = vec![node_word(examples::D)];
-        chain.resize(length.max(1), node_word(examples::G));
-        chain.truncate(length);
+        let mut chain = postfix::chain(node_word(examples::D), node_word(examples::G), length);
         same(comparison, program, wrong, &encode(&own, &rule, &chain), false);
         same(comparison, program, wrong, &encode(&own, &[], &chain), false);
         if let Some(word) = chain.last_mut() {
@@ -179,17 +178,14 @@ fn lengths(comparison: &mut Comparison, program: &mut Program) {
         chain.push(0);
         same(comparison, program, wrong, &encode(&own, &rule, &chain), false);
     }
-    let sixteen = [vec![entry_word(0); 16], vec![entry_word(1)]].concat();
+    let sixteen = limits::alphabet(16, 1);
+    let chain = postfix::chain(node_word(0), node_word(16), 256);
     for closures in [59, 60, 61, 63] {
-        let mut long = vec![Operator::Symbol(0).word()];
-        long.resize(1 + closures, Operator::Closure(0).word());
-        let mut chain = vec![node_word(0)];
-        chain.resize(256, node_word(16));
         same(
             comparison,
             program,
             "many states print otherwise",
-            &encode(&sixteen, &long, &chain),
+            &encode(&sixteen, &limits::closures(closures), &chain),
             true,
         );
     }
@@ -206,7 +202,7 @@ fn random_input(comparison: &mut Comparison, program: &mut Program, random: &mut
     } else {
         random.between(1, 40)
     };
-    let mut tree = generate::tree_words(&generate::planted_tree(random, &alphabet, &read, budget));
+    let mut tree = words::node_words(&generate::planted_tree(random, &alphabet, &read, budget));
     match random.below(6) {
         0 => generate::flip(random, &mut alphabet),
         1 => generate::flip(random, &mut expression),
