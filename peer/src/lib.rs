@@ -9,6 +9,7 @@ pub mod call;
 pub mod cases;
 pub mod chance;
 pub mod compare;
+pub mod driver;
 pub mod exchange;
 pub mod generate;
 pub mod guard;

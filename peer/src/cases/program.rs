@@ -1,18 +1,16 @@
-//! The program `marklist`: what it prints for an input of bytes, compared with what document 01 says. The program's path
-//! is in HAQBYLUR_MARKLIST.
+//! The program `marklist`: what it prints for an input of bytes, compared with what document 01 says, and that it ends
+//! well. The program's path is in HAQBYLUR_MARKLIST.
 
 use crate::cases::random::{pattern, Pattern};
 use crate::cases::{examples, limits};
 use crate::chance::Random;
 use crate::compare::Comparison;
+use crate::driver::{Outcome, Program};
 use crate::generate;
 use crate::language::Expression;
 use crate::marklist::{encode, expected};
 use crate::postfix;
 use crate::words::{self, entry_word, node_word, Operator};
-use std::io::{Read, Write};
-use std::process::{Child, Command, Stdio};
-use std::sync::mpsc;
 use std::time::Duration;
 
 pub fn path() -> Option<String> {
@@ -20,7 +18,8 @@ pub fn path() -> Option<String> {
 }
 
 pub fn compare(comparison: &mut Comparison, path: &str, seed: u64, cases: u64) {
-    let program = &mut Program { path, hangs: false };
+    let patience = Duration::from_secs(20);
+    let program = &mut Compared::new(Program { path, patience });
     source(comparison, program);
     early_ends(comparison, program);
     lengths(comparison, program);
@@ -29,65 +28,30 @@ pub fn compare(comparison: &mut Comparison, path: &str, seed: u64, cases: u64) {
     });
 }
 
-// What the program does.
-
 /// The compared program. Once it did not end in time, it is not started again: each such wait is long.
-struct Program<'a> {
-    path: &'a str,
+pub struct Compared<'a> {
+    program: Program<'a>,
     hangs: bool,
 }
 
-/// What the program printed, or why nothing is known. The input stays open until it has ended, so a program that waits
-/// for the end of input is found; with `ended` it is closed first.
-fn run(program: &str, bytes: &[u8], ended: bool) -> Result<String, String> {
-    let mut child = Command::new(program)
-        .stdin(Stdio::piped())
-        .stdout(Stdio::piped())
-        .spawn()
-        .map_err(|error| format!("{program}: {error}"))?;
-    let mut input = child.stdin.take().expect("a pipe");
-    let bytes = bytes.to_vec();
-    let (release, released) = mpsc::channel::<()>();
-    let writer = std::thread::spawn(move || {
-        // The program may end before it has read what it need not read; what is missing shows in what it prints.
-        let _ = input.write_all(&bytes).and_then(|()| input.flush());
-        if !ended {
-            let _ = released.recv();
+impl Compared<'_> {
+    pub fn new(program: Program<'_>) -> Compared<'_> {
+        Compared {
+            program,
+            hangs: false,
         }
-    });
-    let printed = printed_in_time(&mut child);
-    if printed.is_err() {
-        let _ = child.kill();
-    }
-    drop(release);
-    let _ = child.wait();
-    let _ = writer.join();
-    printed
-}
-
-fn printed_in_time(child: &mut Child) -> Result<String, String> {
-    let mut output = child.stdout.take().expect("a pipe");
-    let (sender, receiver) = mpsc::channel();
-    std::thread::spawn(move || {
-        let mut text = Vec::new();
-        let result = output.read_to_end(&mut text);
-        let _ = sender.send(result.map(|_| String::from_utf8_lossy(&text).into_owned()));
-    });
-    match receiver.recv_timeout(Duration::from_secs(20)) {
-        Ok(Ok(text)) => Ok(text),
-        Ok(Err(error)) => Err(error.to_string()),
-        Err(_) => Err("no end within 20 seconds".to_string()),
     }
 }
 
-fn same(comparison: &mut Comparison, program: &mut Program, wrong: &str, bytes: &[u8], ended: bool) {
+fn same(comparison: &mut Comparison, program: &mut Compared, wrong: &str, bytes: &[u8], ended: bool) {
     if program.hangs {
         return;
     }
-    let expected = expected(bytes);
-    let found = run(program.path, bytes, ended);
-    program.hangs = found.is_err();
-    comparison.check(wrong, found.as_ref() == Ok(&expected), || {
+    let expected = Outcome::Ended(expected(bytes), Some(0));
+    let found = program.program.run(bytes, ended);
+    program.hangs = found == Outcome::Hung;
+    comparison.check(wrong, found == expected, || {
+        // Only inputs with lengths far over the limits are longer, and they are fixed.
         let shown: String = bytes
             .iter()
             .take(4000)
@@ -100,9 +64,8 @@ fn same(comparison: &mut Comparison, program: &mut Program, wrong: &str, bytes: 
     });
 }
 
-// Inputs.
-
-fn source(comparison: &mut Comparison, program: &mut Program) {
+/// The source's own example, with its input closed, left open and followed by more.
+pub fn source(comparison: &mut Comparison, program: &mut Compared) {
     let bytes = encode(&examples::alphabet(), &examples::expression(), &examples::tree());
     let published = "nodes 7 states 29 hits 3\n2 4 3\n3 3 1\n4 5 2\n";
     comparison.check(
@@ -135,7 +98,7 @@ fn source(comparison: &mut Comparison, program: &mut Program) {
 }
 
 /// The source's input cut at every byte, and counts that announce far more than is there.
-fn early_ends(comparison: &mut Comparison, program: &mut Program) {
+fn early_ends(comparison: &mut Comparison, program: &mut Compared) {
     let bytes = encode(&examples::alphabet(), &examples::expression(), &examples::tree());
     let wrong = "an input that ends early is not refused by 0";
     for length in 0..bytes.len() {
@@ -154,7 +117,7 @@ fn early_ends(comparison: &mut Comparison, program: &mut Program) {
 }
 
 /// Lengths at the limits and far over them, all words present, with other faults beside them.
-fn lengths(comparison: &mut Comparison, program: &mut Program) {
+fn lengths(comparison: &mut Comparison, program: &mut Compared) {
     let own = examples::alphabet();
     let rule = examples::expression();
     let tree = examples::tree();
@@ -191,7 +154,7 @@ fn lengths(comparison: &mut Comparison, program: &mut Program) {
     }
 }
 
-fn random_input(comparison: &mut Comparison, program: &mut Program, random: &mut Random) {
+fn random_input(comparison: &mut Comparison, program: &mut Compared, random: &mut Random) {
     let Pattern {
         mut alphabet,
         mut expression,
