@@ -9,7 +9,7 @@ use std::hash::{BuildHasherDefault, Hasher};
 
 /// Multiplies and turns; short keys need no more.
 #[derive(Default)]
-pub struct Fold(u64);
+struct Fold(u64);
 
 impl Hasher for Fold {
     fn finish(&self) -> u64 {
@@ -73,7 +73,8 @@ struct Step {
     closure: Vec<u32>,
 }
 
-/// A symbol and its children's set numbers, 13 bits each: a tree has at most 4,096 sets, and a symbol four children.
+/// A symbol and its children's set numbers, 13 bits each: a tree has at most 4,096 sets, and a symbol four children. All
+/// are counted from 1, so that keys of different lengths differ.
 type Key = u64;
 
 /// Marks a tree that is known to be well-formed; answers the number of marked states.
@@ -94,9 +95,9 @@ pub fn run(alphabet: &[u32], table: &[u32], tree: &[u32], sets: &mut [u32]) -> u
     for (word, own) in tree.iter().zip(sets.chunks_mut(width)) {
         let symbol = (word & 0xff) as usize;
         let first = roots.len() - automaton.arities[symbol];
-        let key = roots[first..]
-            .iter()
-            .fold(symbol as u64, |key, child| (key << 13) | (u64::from(*child) + 1));
+        let key = roots[first..].iter().fold(symbol as Key + 1, |key, child| {
+            key << 13 | (Key::from(*child) + 1)
+        });
         let number = match memo.get(&key) {
             Some(number) => *number,
             None => {

@@ -1,9 +1,9 @@
 //! Exchange against a fresh Run: a leaf for another leaf and back, at places spread over the chapter, and a subtree of
 //! about 100 elements for another and back. After each pair the chapter and its marks are as before.
 
-use crate::library_run;
 use crate::measure::Measure;
 use crate::workloads::Workload;
+use crate::{compare_accepted, library_run};
 use peer::call::Call;
 use peer::chance::Random;
 use peer::compare::Comparison;
@@ -77,10 +77,7 @@ pub fn compare(comparison: &mut Comparison, work: &Workload) {
         for (node, replacement) in [pair.there, pair.back] {
             call.node = node;
             call.replacement = replacement;
-            let answer = comparison.call(work.name, &call);
-            comparison.check("a timed exchange is refused", answer.number == 0, || {
-                call.to_string()
-            });
+            let answer = compare_accepted(comparison, work, &call);
             call = answer.after;
             call.count = answer.values[0] as usize;
         }

@@ -10,7 +10,7 @@ mod textbook;
 mod workloads;
 
 use measure::Measure;
-use peer::call::Call;
+use peer::call::{Answer, Call};
 use peer::compare::Comparison;
 use peer::library;
 use peer::marks::Table;
@@ -72,12 +72,21 @@ fn results_are_equal(work: &Workload) -> bool {
             }
         }
         let lent = vec![0; expected.len()];
-        comparison.call(work.name, &Call::run(&work.alphabet, &work.table, tree, lent));
+        let call = Call::run(&work.alphabet, &work.table, tree, lent);
+        compare_accepted(&mut comparison, work, &call);
     }
     let lent = vec![0; work.table.len()];
-    comparison.call(work.name, &Call::compile(&work.alphabet, &work.expression, lent));
+    let call = Call::compile(&work.alphabet, &work.expression, lent);
+    compare_accepted(&mut comparison, work, &call);
     exchanges::compare(&mut comparison, work);
     simulations_agree && comparison.differences == 0
+}
+
+/// Compares a call that is to be timed: a refusal would be timed for nothing.
+pub fn compare_accepted(comparison: &mut Comparison, work: &Workload, call: &Call) -> Answer {
+    let answer = comparison.call(work.name, call);
+    comparison.check("a timed call is refused", answer.number == 0, || call.to_string());
+    answer
 }
 
 type Simulation = fn(&[u32], &[u32], &[u32], &mut [u32]) -> u32;

@@ -1,7 +1,7 @@
 //! One call of an operation: all that is given to it, and what it answers and leaves. Every matcher takes calls in this
 //! form, so that they differ in what they do and in nothing else.
 
-use crate::guard::Hex;
+use crate::words::Hex;
 use std::fmt;
 
 #[derive(Clone, Copy, Debug, PartialEq, Eq, PartialOrd, Ord)]
@@ -50,7 +50,7 @@ pub struct Answer {
 }
 
 /// What stands behind an out-parameter before a call.
-pub const UNWRITTEN: [u32; 2] = [0xcafe_0001, 0xcafe_0002];
+const UNWRITTEN: [u32; 2] = [0xcafe_0001, 0xcafe_0002];
 
 pub trait Matcher {
     /// Performs the call on copies of its slices.

@@ -1,6 +1,8 @@
 //! The 32-bit words of document 01: the kind in bits 31..28, named fields below it, every other bit zero.
 //! A word is of a kind exactly if writing what was read from it gives the same word again.
 
+use std::fmt;
+
 pub const SYMBOL_LIMIT: usize = 64;
 pub const CONSTANT_LIMIT: usize = 16;
 pub const ARITY_LIMIT: usize = 4;
@@ -158,4 +160,17 @@ pub fn operands(alphabet: &[u32], word: u32) -> Option<usize> {
 
 pub fn count_ones(words: &[u32]) -> u32 {
     words.iter().map(|word| word.count_ones()).sum()
+}
+
+/// Words in hexadecimal, for replaying a difference.
+pub struct Hex<'a>(pub &'a [u32]);
+
+impl fmt::Display for Hex<'_> {
+    fn fmt(&self, f: &mut fmt::Formatter<'_>) -> fmt::Result {
+        write!(f, "({})", self.0.len())?;
+        for word in self.0 {
+            write!(f, " {word:08x}")?;
+        }
+        Ok(())
+    }
 }

@@ -7,14 +7,14 @@ use crate::call::Call;
 use crate::cases::random::{pattern, Pattern};
 use crate::chance::Random;
 use crate::compare::Comparison;
+use crate::draw;
 use crate::exchange::splice;
 use crate::generate;
-use crate::guard::Hex;
 use crate::language::{Expression, Tree};
 use crate::marks::Table;
 use crate::postfix;
 use crate::refusals;
-use crate::words;
+use crate::words::{self, Hex};
 
 /// The Exchange whose slices and count stay through a list of calls, and the expression of its table, if it has one.
 struct History {
@@ -65,7 +65,7 @@ fn start(comparison: &mut Comparison, random: &mut Random, budget: usize) -> His
 
 fn draw_tree(random: &mut Random, alphabet: &[u32], expression: &Option<Expression>, budget: usize) -> Tree {
     match expression {
-        Some(expression) => generate::planted_tree(random, alphabet, expression, budget),
+        Some(expression) => draw::planted_tree(random, alphabet, expression, budget),
         None => generate::tree(random, alphabet, budget),
     }
 }

@@ -14,14 +14,14 @@ use crate::generate;
 use crate::words::{self, entry_word, Operator, CONSTANT_LIMIT, EXPRESSION_LIMIT, STATE_LIMIT};
 
 /// Document 01's figure.
-pub const LARGEST: usize = 1147;
+const LARGEST: usize = 1147;
 
 /// The most table words a rule word of this arity takes beside those into its entries:
 /// a closure for one part, and a symbol for more.
 const MOST_OWN: [usize; 5] = [0, 3, 3, 4, 5];
 
 /// The most words of a compiled table over so many constants.
-pub fn most_words(constants: usize) -> usize {
+fn most_words(constants: usize) -> usize {
     let mut most = 0;
     for four in 0..EXPRESSION_LIMIT {
         for three in 0..EXPRESSION_LIMIT - four {

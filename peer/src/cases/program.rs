@@ -5,6 +5,7 @@ use crate::cases::random::{pattern, Pattern};
 use crate::cases::{examples, limits};
 use crate::chance::Random;
 use crate::compare::Comparison;
+use crate::draw;
 use crate::driver::{Outcome, Program};
 use crate::generate;
 use crate::language::Expression;
@@ -165,7 +166,7 @@ fn random_input(comparison: &mut Comparison, program: &mut Compared, random: &mu
     } else {
         random.between(1, 40)
     };
-    let mut tree = words::node_words(&generate::planted_tree(random, &alphabet, &read, budget));
+    let mut tree = words::node_words(&draw::planted_tree(random, &alphabet, &read, budget));
     match random.below(6) {
         0 => generate::flip(random, &mut alphabet),
         1 => generate::flip(random, &mut expression),

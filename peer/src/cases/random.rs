@@ -5,14 +5,14 @@ use crate::automaton;
 use crate::call::Call;
 use crate::chance::Random;
 use crate::compare::Comparison;
+use crate::draw;
 use crate::generate;
-use crate::guard::Hex;
 use crate::language::literal;
 use crate::language::membership::Membership;
 use crate::language::{Expression, Tree};
 use crate::marks::Table;
 use crate::model;
-use crate::words;
+use crate::words::{self, Hex};
 
 /// An alphabet with an expression that has at most 1,024 states over it.
 pub struct Pattern {
@@ -36,7 +36,7 @@ pub fn pattern(random: &mut Random) -> Pattern {
 }
 
 /// A length at, below or above the one that is needed.
-pub fn length_near(random: &mut Random, needed: usize) -> usize {
+fn length_near(random: &mut Random, needed: usize) -> usize {
     match random.below(8) {
         0 => needed - 1,
         1..=4 => needed,
@@ -73,7 +73,7 @@ fn pattern_case(comparison: &mut Comparison, random: &mut Random) {
         1..=10 => random.between(1, 100),
         _ => random.between(1, 24),
     };
-    let tree = generate::planted_tree(random, &alphabet, &read, budget);
+    let tree = draw::planted_tree(random, &alphabet, &read, budget);
     let hits = marked_hits(comparison, random, &alphabet, &table, &tree);
     let arities = words::arities(&alphabet);
     let in_language = Membership::new(&read, alphabet.len()).subtrees(&tree, &arities);
@@ -83,7 +83,7 @@ fn pattern_case(comparison: &mut Comparison, random: &mut Random) {
         || input(&alphabet, &expression, &tree),
     );
 
-    if let Some(member) = generate::member(random, &read, 40) {
+    if let Some(member) = draw::member(random, &read, 40) {
         let hits = marked_hits(comparison, random, &alphabet, &table, &member);
         comparison.check(
             "a member of the language is no hit",
