@@ -108,28 +108,28 @@ replacement-right a xs h =
     record { counted = count-right (length xs) (p .0); nodes = r .0; tree = r .1 }
 
 -- 16
-pub record ResultFits (table : List ℕ) (n chapterRoom marksRoom : ℕ) : Type 0 where
+pub record ResultFits (table : List ℕ) (n treeRoom marksRoom : ℕ) : Type 0 where
   pub few : n ≤ 4096
-  pub elements : n ≤ chapterRoom
+  pub elements : n ≤ treeRoom
   pub marks : n * sizeOf table ≤ marksRoom
 
-pub right-result : (table : List ℕ) (n chapterRoom marksRoom : ℕ) → ResultFits table n chapterRoom marksRoom
-    → resultTooLong table n chapterRoom marksRoom ≡ false
+pub right-result : (table : List ℕ) (n treeRoom marksRoom : ℕ) → ResultFits table n treeRoom marksRoom
+    → resultTooLong table n treeRoom marksRoom ≡ false
 unfolding resultTooLong
-right-result table n chapterRoom marksRoom g =
-    false-or (ltb 4096 n || ltb chapterRoom n) (fewMarks table n marksRoom)
-    (false-or (ltb 4096 n) (ltb chapterRoom n) (le-ltb 4096 n (g .few)) (le-ltb chapterRoom n (g .elements)))
+right-result table n treeRoom marksRoom g =
+    false-or (ltb 4096 n || ltb treeRoom n) (fewMarks table n marksRoom)
+    (false-or (ltb 4096 n) (ltb treeRoom n) (le-ltb 4096 n (g .few)) (le-ltb treeRoom n (g .elements)))
     (fit-marks table n marksRoom (g .marks))
 
-pub result-right : (table : List ℕ) (n chapterRoom marksRoom : ℕ) → resultTooLong table n chapterRoom marksRoom ≡ false
-    → ResultFits table n chapterRoom marksRoom
+pub result-right : (table : List ℕ) (n treeRoom marksRoom : ℕ) → resultTooLong table n treeRoom marksRoom ≡ false
+    → ResultFits table n treeRoom marksRoom
 unfolding resultTooLong
-result-right table n chapterRoom marksRoom h =
-    let p = or-false (ltb 4096 n || ltb chapterRoom n) (fewMarks table n marksRoom) h in
-    let q = or-false (ltb 4096 n) (ltb chapterRoom n) (p .0) in
+result-right table n treeRoom marksRoom h =
+    let p = or-false (ltb 4096 n || ltb treeRoom n) (fewMarks table n marksRoom) h in
+    let q = or-false (ltb 4096 n) (ltb treeRoom n) (p .0) in
     record {
       few = ltb-false 4096 n (q .0);
-      elements = ltb-false chapterRoom n (q .1);
+      elements = ltb-false treeRoom n (q .1);
       marks = marks-fit table n marksRoom (p .1);
     }
 
@@ -172,21 +172,21 @@ accepted-run a table p room g =
 
 -- ---- Exchange
 
-pub record ExchangeAccepted (a table : List ℕ) (n : ℕ) (used : List ℕ) (chapterRoom marksRoom e : ℕ) (xs : List ℕ) : Type 0 where
+pub record ExchangeAccepted (a table : List ℕ) (n : ℕ) (used : List ℕ) (treeRoom marksRoom e : ℕ) (xs : List ℕ) : Type 0 where
   pub alphabet : noAlphabet a ≡ false
   pub constants : wrongConstants a ≡ false
   pub automaton : noTable a table ≡ false
   pub counted : Counted n
-  pub within : n ≤ chapterRoom
+  pub within : n ≤ treeRoom
   pub nodes : all (isNode a) used ≡ true
   pub tree : oneTree a used ≡ true
   pub marks : n * sizeOf table ≤ marksRoom
   pub element : e < n
   pub replacement : Replacement a xs
-  pub fits : ResultFits table (length (splice a used e xs)) chapterRoom marksRoom
+  pub fits : ResultFits table (length (splice a used e xs)) treeRoom marksRoom
 
-module _ (a table : List ℕ) (n : ℕ) (used : List ℕ) (chapterRoom marksRoom e : ℕ) (xs : List ℕ) where
-  pub accepted-exchange : ExchangeAccepted a table n used chapterRoom marksRoom e xs → exchangeFault a table n used chapterRoom marksRoom e xs ≡ 0
+module _ (a table : List ℕ) (n : ℕ) (used : List ℕ) (treeRoom marksRoom e : ℕ) (xs : List ℕ) where
+  pub accepted-exchange : ExchangeAccepted a table n used treeRoom marksRoom e xs → exchangeFault a table n used treeRoom marksRoom e xs ≡ 0
   unfolding wrongUse noElement
   accepted-exchange g =
       rw (
@@ -194,31 +194,31 @@ module _ (a table : List ℕ) (n : ℕ) (used : List ℕ) (chapterRoom marksRoom
         g .constants,
         g .automaton,
         right-count n (g .counted),
-        le-ltb chapterRoom n (g .within),
+        le-ltb treeRoom n (g .within),
         right-nodes a used (g .nodes),
         right-tree a used (g .tree),
         fit-marks table n marksRoom (g .marks),
         lt-ltb e n (g .element),
         right-replacement a xs (g .replacement),
       )
-      (ap (λ (b : Bool). cond b 16 0) (right-result table (length (splice a used e xs)) chapterRoom marksRoom (g .fits)))
+      (ap (λ (b : Bool). cond b 16 0) (right-result table (length (splice a used e xs)) treeRoom marksRoom (g .fits)))
 
-  pub exchange-accepted : exchangeFault a table n used chapterRoom marksRoom e xs ≡ 0 → ExchangeAccepted a table n used chapterRoom marksRoom e xs
+  pub exchange-accepted : exchangeFault a table n used treeRoom marksRoom e xs ≡ 0 → ExchangeAccepted a table n used treeRoom marksRoom e xs
   unfolding wrongUse noElement
   exchange-accepted h =
-      let rs = exchangeRefusals a table n used chapterRoom marksRoom e xs in
+      let rs = exchangeRefusals a table n used treeRoom marksRoom e xs in
       let not-so : (k : ℕ) → conditionOf k rs ≡ false = none-applies rs refl h in
-      let u = or-false (wrongCount n) (ltb chapterRoom n) (not-so 9) in
+      let u = or-false (wrongCount n) (ltb treeRoom n) (not-so 9) in
       record {
         alphabet = not-so 1;
         constants = not-so 2;
         automaton = not-so 8;
         counted = count-right n (u .0);
-        within = ltb-false chapterRoom n (u .1);
+        within = ltb-false treeRoom n (u .1);
         nodes = nodes-right a used (not-so 10);
         tree = tree-right a used (not-so 11);
         marks = marks-fit table n marksRoom (not-so 12);
         element = ltb-true e n (not-false (ltb e n) (not-so 14));
         replacement = replacement-right a xs (not-so 15);
-        fits = result-right table (length (splice a used e xs)) chapterRoom marksRoom (not-so 16);
+        fits = result-right table (length (splice a used e xs)) treeRoom marksRoom (not-so 16);
       }
