@@ -54,7 +54,7 @@ pub(crate) fn one_tree(alphabet: &[u32], words: &[u32]) -> bool
     made == 1
 }
 
-// The index of the first word of the node's subtree. Going back from the node, `needed` trees still end before `start`;
+// The index of the first word of the node's subtree. Going back from behind the node, `needed` trees still end before `start`;
 // where fewer words are left than trees needed, they do not suffice and the answer is 0.
 pub fn subtree_start(alphabet: &[u32], words: &[u32], node: usize) -> usize
     ensures { λ r. ⌜ r ≡ startOf (now (alphabet .entry)) (now (words .entry)) node ⌝ }
@@ -62,8 +62,8 @@ pub fn subtree_start(alphabet: &[u32], words: &[u32], node: usize) -> usize
     if node >= words.len() {
         return node;
     }
-    let mut start = node;
-    let mut needed = arity(alphabet, words[node]);
+    let mut start = node + 1;
+    let mut needed: usize = 1;
     while needed > 0 {
         if start <= needed {
             return 0;
