@@ -3,7 +3,7 @@ ghost use mathlib.Core.Path.{_≡_};
 ghost use lib.ListN.{length, take};
 ghost use lib.Seq.{sets};
 ghost use Rattle.words.specs.Lists.{all};
-ghost use Rattle.words.specs.Alphabet.{isEntry, isSymbol, isConstant, rankOf, constantsOf, alphabetFault};
+ghost use Rattle.words.specs.Alphabet.{isEntry, isConstant, rankOf, constantsOf, alphabetFault};
 use super::word::ENTRY;
 use super::word::is_of;
 
@@ -27,13 +27,6 @@ pub fn rank(alphabet: &[u32], symbol: usize) -> usize
         return (alphabet[symbol] % LOW_BYTE) as usize;
     }
     0
-}
-
-// Whether the alphabet has the symbol.
-pub(crate) fn is_symbol(alphabet: &[u32], symbol: usize) -> bool
-    ensures { λ r. ⌜ r ≡ isSymbol (now (alphabet .entry)) symbol ⌝ }
-{
-    symbol < alphabet.len()
 }
 
 // Whether the alphabet has the symbol and its rank is 0.

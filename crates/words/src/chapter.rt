@@ -3,7 +3,6 @@ ghost use mathlib.Core.Path.{_≡_};
 ghost use Rattle.words.specs.Lists.{all};
 ghost use Rattle.words.specs.Chapter.{isNode, treeFault};
 use super::alphabet::LOW_BYTE;
-use super::alphabet::is_symbol;
 use super::postfix::one_tree;
 use super::word::NODE;
 use super::word::is_of;
@@ -13,7 +12,8 @@ fn is_node(alphabet: &[u32], w: u32) -> bool
     ensures { λ r. ⌜ r ≡ isNode (now (alphabet .entry)) w ⌝ }
 {
     if is_of(NODE, w) {
-        return is_symbol(alphabet, (w % LOW_BYTE) as usize);
+        let symbol = (w % LOW_BYTE) as usize;
+        return symbol < alphabet.len();
     }
     false
 }

@@ -4,7 +4,6 @@ ghost use Rattle.words.specs.Lists.{all};
 ghost use Rattle.words.specs.Expression.{isExpressionWord, expressionFault};
 use super::alphabet::LOW_BYTE;
 use super::alphabet::is_constant;
-use super::alphabet::is_symbol;
 use super::postfix::one_tree;
 use super::word::CLOSURE;
 use super::word::EMPTY;
@@ -34,7 +33,7 @@ fn is_expression_word(alphabet: &[u32], w: u32) -> bool
     let kind = w / KIND_UNIT;
     match kind {
         ENTRY => false,
-        SYMBOL => is_symbol(alphabet, symbol),
+        SYMBOL => symbol < alphabet.len(),
         EMPTY => true,
         UNION => true,
         PRODUCT => is_constant(alphabet, symbol),
