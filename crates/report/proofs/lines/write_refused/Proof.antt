@@ -10,21 +10,17 @@ slice-aggregate-write-text c = search needs
 write-text-requires : tie.Need-write-text-requires
 write-text-requires c κs = search needs
 
-write-number-requires : tie.Need-write-number-requires
-write-number-requires c κs = search needs
-
-write-byte-requires : tie.Need-write-byte-requires
-write-byte-requires c κs = search needs
+write-field-requires : tie.Need-write-field-requires
+write-field-requires c κs = search needs
 
 same-length : tie.Need-same-length
 same-length c = search needs
 
 returns : tie.Need-returns
 returns c =
-    let third = c .before .before in
-    let second = third .before .before .before .before in
+    let second = c .before .before in
     let first = second .before .before .before .before in
-    refused-written _ (first .write-text .ensures) (second .write-number .ensures) (third .write-byte .ensures)
+    refused-written _ (first .write-text .ensures) (second .write-field .ensures)
 
 pub write-refused-spec : {M : Type 1} → statement M
 write-refused-spec =
@@ -32,7 +28,6 @@ write-refused-spec =
     (tie.spec
     slice-aggregate-write-text
     write-text-requires
-    write-number-requires
-    write-byte-requires
+    write-field-requires
     same-length
     returns)
