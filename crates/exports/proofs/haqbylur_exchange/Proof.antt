@@ -1,6 +1,7 @@
 -- `haqbylur_exchange` meets its contract: it hands on what Exchange answers and leaves, and each value fits 32 bits. Assumes nothing.
 use Rattle.exports.proofs.StatusLaws.{accepted-status, first-value, second-value, refused-status, refused-value, exchanged-replaced, exchanged-refused}
 use Rattle.exports.proofs.ValueLaws.{exchange-small}
+use native.Mathlib.Omega.{arith}
 use borrow.Author.Needs.{needs}
 use Rattle.exports.proofs.haqbylur_exchange.Statement.{statement}
 use Rattle.exports.proofs.haqbylur_exchange.Tie as tie
@@ -14,12 +15,14 @@ enum-known-total c = search needs
 cast-elements : tie.Need-cast-elements
 cast-elements c =
     let call = c .before .before .before .before .before .before .before in
-    record { fits = exchange-small _ _ _ _ _ _ _ _ _ (exchanged-replaced _ (c .before .total .given .1) (call .exchange .ensures .0)) .0 }
+    let small = exchange-small _ _ _ _ _ _ _ _ _ (exchanged-replaced _ (c .before .total .given .1) (call .exchange .ensures .0)) in
+    omega (arith, small .0, small .1)
 
 cast-worked-out : tie.Need-cast-worked-out
 cast-worked-out c =
     let call = c .before .before .before .before .before .before .before in
-    record { fits = exchange-small _ _ _ _ _ _ _ _ _ (exchanged-replaced _ (c .before .total .given .1) (call .exchange .ensures .0)) .1 }
+    let small = exchange-small _ _ _ _ _ _ _ _ _ (exchanged-replaced _ (c .before .total .given .1) (call .exchange .ensures .0)) in
+    omega (arith, small .0, small .1)
 
 enum-known-number : tie.Need-enum-known-number
 enum-known-number c = search needs

@@ -1,6 +1,7 @@
 -- `haqbylur_list` meets its contract: it hands on what List answers and leaves, and each value fits 32 bits. Assumes nothing.
 use Rattle.exports.proofs.StatusLaws.{accepted-status, first-value, refused-status, refused-value, listed-matches, listed-refused}
 use Rattle.exports.proofs.ValueLaws.{list-small}
+use native.Mathlib.Omega.{arith}
 use borrow.Author.Needs.{needs}
 use Rattle.exports.proofs.haqbylur_list.Statement.{statement}
 use Rattle.exports.proofs.haqbylur_list.Tie as tie
@@ -14,7 +15,8 @@ enum-known-found c = search needs
 cast-hits : tie.Need-cast-hits
 cast-hits c =
     let call = c .before .before .before .before .before in
-    record { fits = list-small _ _ _ _ _ _ (listed-matches _ (c .before .found .given .1) (call .list .ensures .0)) }
+    let small = list-small _ _ _ _ _ _ (listed-matches _ (c .before .found .given .1) (call .list .ensures .0)) in
+    omega arith
 
 enum-known-number : tie.Need-enum-known-number
 enum-known-number c = search needs

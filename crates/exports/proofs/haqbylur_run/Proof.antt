@@ -1,6 +1,7 @@
 -- `haqbylur_run` meets its contract: it hands on what Run answers and leaves, and each value fits 32 bits. Assumes nothing.
 use Rattle.exports.proofs.StatusLaws.{accepted-status, first-value, second-value, refused-status, refused-value, ran-marked, ran-refused}
 use Rattle.exports.proofs.ValueLaws.{run-small}
+use native.Mathlib.Omega.{arith}
 use borrow.Author.Needs.{needs}
 use Rattle.exports.proofs.haqbylur_run.Statement.{statement}
 use Rattle.exports.proofs.haqbylur_run.Tie as tie
@@ -14,12 +15,14 @@ enum-known-count c = search needs
 cast-elements : tie.Need-cast-elements
 cast-elements c =
     let call = c .before .before .before .before .before in
-    record { fits = run-small _ _ _ _ _ _ (ran-marked _ (c .before .count .given .1) (call .run .ensures .0)) .0 }
+    let small = run-small _ _ _ _ _ _ (ran-marked _ (c .before .count .given .1) (call .run .ensures .0)) in
+    omega (arith, small .0, small .1)
 
 cast-cells : tie.Need-cast-cells
 cast-cells c =
     let call = c .before .before .before .before .before in
-    record { fits = run-small _ _ _ _ _ _ (ran-marked _ (c .before .count .given .1) (call .run .ensures .0)) .1 }
+    let small = run-small _ _ _ _ _ _ (ran-marked _ (c .before .count .given .1) (call .run .ensures .0)) in
+    omega (arith, small .0, small .1)
 
 enum-known-number : tie.Need-enum-known-number
 enum-known-number c = search needs

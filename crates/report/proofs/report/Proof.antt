@@ -7,10 +7,10 @@ use Rattle.report.proofs.report.Statement.{statement}
 use Rattle.report.proofs.report.Tie as tie
 
 write-refused-requires : tie.Need-write-refused-requires
-write-refused-requires c κs = search needs
+write-refused-requires c κs = tt
 
 same-length : tie.Need-same-length
-same-length c = search needs
+same-length c = c .before .before .write-refused .kept .0
 
 returns : tie.Need-returns
 returns c = early-whole _ _ _ _ (c .before .before .before .before .before .before .before .before .before .pre) (not-true _ (c .before .before .before .before .if1 .taken)) (c .before .before .write-refused .ensures)
@@ -19,7 +19,7 @@ slice-aggregate-compile : tie.Need-slice-aggregate-compile
 slice-aggregate-compile c = search needs
 
 compile-requires : tie.Need-compile-requires
-compile-requires c κs = search needs
+compile-requires c κs = tt
 
 enum-known-size : tie.Need-enum-known-size
 enum-known-size c = search needs
@@ -31,16 +31,16 @@ slice-aggregate-report-chapter : tie.Need-slice-aggregate-report-chapter
 slice-aggregate-report-chapter c = table-long _ _ _ (c .before .before .size .given .1) (c .before .before .before .before .before .compile .ensures .0) (c .before .before .before .before .before .compile .ensures .1)
 
 report-chapter-requires : tie.Need-report-chapter-requires
-report-chapter-requires c κs = search needs
+report-chapter-requires c κs = tt
 
 enum-known-number : tie.Need-enum-known-number
 enum-known-number c = search needs
 
 write-refused-requires-2 : tie.Need-write-refused-requires-2
-write-refused-requires-2 c κs = search needs
+write-refused-requires-2 c κs = tt
 
 same-length-2 : tie.Need-same-length-2
-same-length-2 c = search needs
+same-length-2 c = c .before .before .report-chapter .kept .1 .1 .1 .0
 
 returns-2 : tie.Need-returns-2
 returns-2 c =
@@ -49,7 +49,7 @@ returns-2 c =
     (c .before .before .report-chapter .ensures _ (compiles _ _ _ (c .before .before .before .before .before .before .size .given .1) (call .ensures .0) (call .ensures .1)))
 
 same-length-3 : tie.Need-same-length-3
-same-length-3 c = search needs
+same-length-3 c = c .before .before .write-refused2 .kept .0
 
 returns-3 : tie.Need-returns-3
 returns-3 c =

@@ -12,13 +12,13 @@ slice-aggregate-list : tie.Need-slice-aggregate-list
 slice-aggregate-list c = search needs
 
 list-requires : tie.Need-list-requires
-list-requires c κs = search needs
+list-requires c κs = tt
 
 enum-known-count : tie.Need-enum-known-count
 enum-known-count c = search needs
 
 state-count-requires : tie.Need-state-count-requires
-state-count-requires c κs = search needs
+state-count-requires c κs = tt
 
 array-share-prefix-hits : tie.Need-array-share-prefix-hits
 array-share-prefix-hits c =
@@ -33,16 +33,16 @@ slice-aggregate-write-lines c =
     sym (length-take-le (told .given .0 .0) (call .last .1 .1 .1 .1 .0) (omega arith))
 
 write-lines-requires : tie.Need-write-lines-requires
-write-lines-requires c κs = search needs
+write-lines-requires c κs = tt
 
 enum-known-number : tie.Need-enum-known-number
 enum-known-number c = search needs
 
 write-refused-requires : tie.Need-write-refused-requires
-write-refused-requires c κs = search needs
+write-refused-requires c κs = tt
 
 same-length : tie.Need-same-length
-same-length c = search needs
+same-length c = c .before .before .write-lines .kept .0
 
 returns : tie.Need-returns
 returns c = λ rule m.
@@ -51,7 +51,7 @@ returns c = λ rule m.
     lines-written m _ (told .given .1) (call .ensures .0) (call .ensures .1) (c .before .before .before .before .state-count .ensures) (c .before .before .write-lines .ensures)
 
 same-length-2 : tie.Need-same-length-2
-same-length-2 c = search needs
+same-length-2 c = c .before .before .write-refused .kept .0
 
 returns-2 : tie.Need-returns-2
 returns-2 c = λ rule m. absurd (never-refused m _ (c .before .before .before .before .before .number .given .1) (c .before .before .before .before .before .before .before .before .list .ensures .0))
