@@ -1,5 +1,5 @@
 -- `haqbylur_exchange` meets its contract: it hands on what Exchange answers and leaves, and each value fits 32 bits. Assumes nothing.
-use Rattle.exports.proofs.StatusLaws.{accepted-status, first-value, second-value, refused-status, refused-value, exchanged-replaced, exchanged-refused}
+use Rattle.exports.proofs.StatusLaws.{exchanged-replaced, exchanged-refused}
 use Rattle.exports.proofs.ValueLaws.{exchange-small}
 use native.Mathlib.Omega.{arith}
 use borrow.Author.Needs.{needs}
@@ -15,13 +15,13 @@ enum-known-total c = search needs
 cast-elements : tie.Need-cast-elements
 cast-elements c =
     let call = c .before .before .before .before .before .before .before in
-    let small = exchange-small _ _ _ _ _ _ _ _ _ (exchanged-replaced _ (c .before .total .given .1) (call .exchange .ensures .0)) in
+    let small = exchange-small _ _ _ _ _ _ _ _ (c .before .total .given .1) (call .exchange .ensures .0) in
     omega (arith, small .0, small .1)
 
 cast-worked-out : tie.Need-cast-worked-out
 cast-worked-out c =
     let call = c .before .before .before .before .before .before .before in
-    let small = exchange-small _ _ _ _ _ _ _ _ _ (exchanged-replaced _ (c .before .total .given .1) (call .exchange .ensures .0)) in
+    let small = exchange-small _ _ _ _ _ _ _ _ (c .before .total .given .1) (call .exchange .ensures .0) in
     omega (arith, small .0, small .1)
 
 enum-known-number : tie.Need-enum-known-number
@@ -36,8 +36,7 @@ same-length-2 c = search needs
 returns : tie.Need-returns
 returns c =
     let call = c .before .before .before .before .before .before .before in
-    let h = exchanged-replaced _ (c .before .total .given .1) (call .exchange .ensures .0) in
-    (accepted-status h, (call .exchange .ensures .1 .0, (call .exchange .ensures .1 .1, (first-value _ h, second-value _ h))))
+    exchanged-replaced _ _ _ (c .before .total .given .1) (call .exchange .ensures .0) (call .exchange .ensures .1 .0) (call .exchange .ensures .1 .1)
 
 same-length-3 : tie.Need-same-length-3
 same-length-3 c = search needs
@@ -48,8 +47,7 @@ same-length-4 c = search needs
 returns-2 : tie.Need-returns-2
 returns-2 c =
     let call = c .before .before .before .before .before .before .before in
-    let h = exchanged-refused _ (c .before .number .given .1) (call .exchange .ensures .0) in
-    (refused-status h, (call .exchange .ensures .1 .0, (call .exchange .ensures .1 .1, (refused-value 0 h, refused-value 1 h))))
+    exchanged-refused _ (c .before .number .given .1) (call .exchange .ensures .0) (call .exchange .ensures .1 .0) (call .exchange .ensures .1 .1)
 
 pub haqbylur-exchange-spec : {M : Type 1} → statement M
 haqbylur-exchange-spec =

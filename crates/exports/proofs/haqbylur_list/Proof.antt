@@ -1,5 +1,5 @@
 -- `haqbylur_list` meets its contract: it hands on what List answers and leaves, and each value fits 32 bits. Assumes nothing.
-use Rattle.exports.proofs.StatusLaws.{accepted-status, first-value, refused-status, refused-value, listed-matches, listed-refused}
+use Rattle.exports.proofs.StatusLaws.{listed-matches, listed-refused}
 use Rattle.exports.proofs.ValueLaws.{list-small}
 use native.Mathlib.Omega.{arith}
 use borrow.Author.Needs.{needs}
@@ -15,7 +15,7 @@ enum-known-found c = search needs
 cast-hits : tie.Need-cast-hits
 cast-hits c =
     let call = c .before .before .before .before .before in
-    let small = list-small _ _ _ _ _ _ (listed-matches _ (c .before .found .given .1) (call .list .ensures .0)) in
+    let small = list-small _ _ _ _ _ _ (c .before .found .given .1) (call .list .ensures .0) in
     omega arith
 
 enum-known-number : tie.Need-enum-known-number
@@ -27,8 +27,7 @@ same-length c = search needs
 returns : tie.Need-returns
 returns c =
     let call = c .before .before .before .before .before in
-    let h = listed-matches _ (c .before .found .given .1) (call .list .ensures .0) in
-    (accepted-status h, (call .list .ensures .1, first-value _ h))
+    listed-matches _ _ (c .before .found .given .1) (call .list .ensures .0) (call .list .ensures .1)
 
 same-length-2 : tie.Need-same-length-2
 same-length-2 c = search needs
@@ -36,8 +35,7 @@ same-length-2 c = search needs
 returns-2 : tie.Need-returns-2
 returns-2 c =
     let call = c .before .before .before .before .before in
-    let h = listed-refused _ (c .before .number .given .1) (call .list .ensures .0) in
-    (refused-status h, (call .list .ensures .1, refused-value 0 h))
+    listed-refused _ (c .before .number .given .1) (call .list .ensures .0) (call .list .ensures .1)
 
 pub haqbylur-list-spec : {M : Type 1} → statement M
 haqbylur-list-spec =
