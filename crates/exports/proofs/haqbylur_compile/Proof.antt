@@ -7,7 +7,7 @@ use Rattle.exports.proofs.haqbylur_compile.Statement.{statement}
 use Rattle.exports.proofs.haqbylur_compile.Tie as tie
 
 compile-requires : tie.Need-compile-requires
-compile-requires c κs = search needs
+compile-requires c κs = tt
 
 enum-known-count : tie.Need-enum-known-count
 enum-known-count c = search needs
@@ -22,7 +22,7 @@ enum-known-number : tie.Need-enum-known-number
 enum-known-number c = search needs
 
 same-length : tie.Need-same-length
-same-length c = search needs
+same-length c = c .before .before .before .before .before .compile .kept .1 .1 .0
 
 returns : tie.Need-returns
 returns c =
@@ -30,7 +30,7 @@ returns c =
     compiled-table _ _ (c .before .count .given .1) (call .compile .ensures .0) (call .compile .ensures .1)
 
 same-length-2 : tie.Need-same-length-2
-same-length-2 c = search needs
+same-length-2 c = c .before .before .before .before .before .compile .kept .1 .1 .0
 
 returns-2 : tie.Need-returns-2
 returns-2 c =

@@ -7,7 +7,7 @@ use Rattle.exports.proofs.haqbylur_exchange.Statement.{statement}
 use Rattle.exports.proofs.haqbylur_exchange.Tie as tie
 
 exchange-requires : tie.Need-exchange-requires
-exchange-requires c κs = search needs
+exchange-requires c κs = tt
 
 enum-known-total : tie.Need-enum-known-total
 enum-known-total c = search needs
@@ -28,10 +28,10 @@ enum-known-number : tie.Need-enum-known-number
 enum-known-number c = search needs
 
 same-length : tie.Need-same-length
-same-length c = search needs
+same-length c = c .before .before .before .before .before .before .before .exchange .kept .1 .1 .0
 
 same-length-2 : tie.Need-same-length-2
-same-length-2 c = search needs
+same-length-2 c = c .before .before .before .before .before .before .before .exchange .kept .1 .1 .1 .1 .0
 
 returns : tie.Need-returns
 returns c =
@@ -39,10 +39,10 @@ returns c =
     exchanged-replaced _ _ _ (c .before .total .given .1) (call .exchange .ensures .0) (call .exchange .ensures .1 .0) (call .exchange .ensures .1 .1)
 
 same-length-3 : tie.Need-same-length-3
-same-length-3 c = search needs
+same-length-3 c = c .before .before .before .before .before .before .before .exchange .kept .1 .1 .0
 
 same-length-4 : tie.Need-same-length-4
-same-length-4 c = search needs
+same-length-4 c = c .before .before .before .before .before .before .before .exchange .kept .1 .1 .1 .1 .0
 
 returns-2 : tie.Need-returns-2
 returns-2 c =

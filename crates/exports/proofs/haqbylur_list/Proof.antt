@@ -7,7 +7,7 @@ use Rattle.exports.proofs.haqbylur_list.Statement.{statement}
 use Rattle.exports.proofs.haqbylur_list.Tie as tie
 
 list-requires : tie.Need-list-requires
-list-requires c κs = search needs
+list-requires c κs = tt
 
 enum-known-found : tie.Need-enum-known-found
 enum-known-found c = search needs
@@ -22,7 +22,7 @@ enum-known-number : tie.Need-enum-known-number
 enum-known-number c = search needs
 
 same-length : tie.Need-same-length
-same-length c = search needs
+same-length c = c .before .before .before .before .before .list .kept .1 .1 .1 .1 .0
 
 returns : tie.Need-returns
 returns c =
@@ -30,7 +30,7 @@ returns c =
     listed-matches _ _ (c .before .found .given .1) (call .list .ensures .0) (call .list .ensures .1)
 
 same-length-2 : tie.Need-same-length-2
-same-length-2 c = search needs
+same-length-2 c = c .before .before .before .before .before .list .kept .1 .1 .1 .1 .0
 
 returns-2 : tie.Need-returns-2
 returns-2 c =

@@ -7,7 +7,7 @@ use Rattle.exports.proofs.haqbylur_run.Statement.{statement}
 use Rattle.exports.proofs.haqbylur_run.Tie as tie
 
 run-requires : tie.Need-run-requires
-run-requires c κs = search needs
+run-requires c κs = tt
 
 enum-known-count : tie.Need-enum-known-count
 enum-known-count c = search needs
@@ -28,7 +28,7 @@ enum-known-number : tie.Need-enum-known-number
 enum-known-number c = search needs
 
 same-length : tie.Need-same-length
-same-length c = search needs
+same-length c = c .before .before .before .before .before .run .kept .1 .1 .1 .0
 
 returns : tie.Need-returns
 returns c =
@@ -36,7 +36,7 @@ returns c =
     ran-marked _ _ _ (c .before .count .given .1) (call .run .ensures .0) (call .run .ensures .1)
 
 same-length-2 : tie.Need-same-length-2
-same-length-2 c = search needs
+same-length-2 c = c .before .before .before .before .before .run .kept .1 .1 .1 .0
 
 returns-2 : tie.Need-returns-2
 returns-2 c =

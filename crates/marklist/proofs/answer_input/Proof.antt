@@ -12,7 +12,7 @@ slice-aggregate-read-words : tie.Need-slice-aggregate-read-words
 slice-aggregate-read-words c = search needs
 
 read-words-requires : tie.Need-read-words-requires
-read-words-requires c κs = search needs
+read-words-requires c κs = tt
 
 array-read-symbols : tie.Need-array-read-symbols
 array-read-symbols c = search needs
@@ -27,22 +27,22 @@ slice-aggregate-read-words-2 : tie.Need-slice-aggregate-read-words-2
 slice-aggregate-read-words-2 c = search needs
 
 read-words-requires-2 : tie.Need-read-words-requires-2
-read-words-requires-2 c κs = search needs
+read-words-requires-2 c κs = tt
 
 slice-aggregate-read-words-3 : tie.Need-slice-aggregate-read-words-3
 slice-aggregate-read-words-3 c = search needs
 
 read-words-requires-3 : tie.Need-read-words-requires-3
-read-words-requires-3 c κs = search needs
+read-words-requires-3 c κs = tt
 
 slice-aggregate-read-words-4 : tie.Need-slice-aggregate-read-words-4
 slice-aggregate-read-words-4 c = search needs
 
 read-words-requires-4 : tie.Need-read-words-requires-4
-read-words-requires-4 c κs = search needs
+read-words-requires-4 c κs = tt
 
 kept-requires : tie.Need-kept-requires
-kept-requires c κs = search needs
+kept-requires c κs = tt
 
 array-share-prefix-alphabet : tie.Need-array-share-prefix-alphabet
 array-share-prefix-alphabet c = search needs
@@ -51,7 +51,7 @@ slice-aggregate-report : tie.Need-slice-aggregate-report
 slice-aggregate-report c = sym (length-take-le (c .before .kept .result) (c .before .before .before .before .before .before .before .before .before .read-words2 .last .1 .1 .0) (omega arith))
 
 kept-requires-2 : tie.Need-kept-requires-2
-kept-requires-2 c κs = search needs
+kept-requires-2 c κs = tt
 
 array-share-prefix-rule : tie.Need-array-share-prefix-rule
 array-share-prefix-rule c = search needs
@@ -60,7 +60,7 @@ slice-aggregate-report-2 : tie.Need-slice-aggregate-report-2
 slice-aggregate-report-2 c = sym (length-take-le (c .before .kept2 .result) (c .before .before .before .before .before .before .before .before .read-words3 .last .1 .1 .0) (omega arith))
 
 kept-requires-3 : tie.Need-kept-requires-3
-kept-requires-3 c κs = search needs
+kept-requires-3 c κs = tt
 
 array-share-prefix-chapter : tie.Need-array-share-prefix-chapter
 array-share-prefix-chapter c = search needs

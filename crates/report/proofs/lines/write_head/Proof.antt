@@ -8,28 +8,28 @@ slice-aggregate-write-text : tie.Need-slice-aggregate-write-text
 slice-aggregate-write-text c = search needs
 
 write-text-requires : tie.Need-write-text-requires
-write-text-requires c κs = search needs
+write-text-requires c κs = tt
 
 write-field-requires : tie.Need-write-field-requires
-write-field-requires c κs = search needs
+write-field-requires c κs = tt
 
 slice-aggregate-write-text-2 : tie.Need-slice-aggregate-write-text-2
 slice-aggregate-write-text-2 c = search needs
 
 write-text-requires-2 : tie.Need-write-text-requires-2
-write-text-requires-2 c κs = search needs
+write-text-requires-2 c κs = tt
 
 write-field-requires-2 : tie.Need-write-field-requires-2
-write-field-requires-2 c κs = search needs
+write-field-requires-2 c κs = tt
 
 slice-aggregate-write-text-3 : tie.Need-slice-aggregate-write-text-3
 slice-aggregate-write-text-3 c = search needs
 
 write-text-requires-3 : tie.Need-write-text-requires-3
-write-text-requires-3 c κs = search needs
+write-text-requires-3 c κs = tt
 
 write-field-requires-3 : tie.Need-write-field-requires-3
-write-field-requires-3 c κs = search needs
+write-field-requires-3 c κs = tt
 
 same-length : tie.Need-same-length
 same-length c = search needs

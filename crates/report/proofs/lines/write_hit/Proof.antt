@@ -11,22 +11,22 @@ add-size : tie.Need-add-size
 add-size c = search needs
 
 subtree-start-requires : tie.Need-subtree-start-requires
-subtree-start-requires c κs = search needs
+subtree-start-requires c κs = tt
 
 sub-size : tie.Need-sub-size
 sub-size c = omega (arith, c .subtree-start .ensures, start-le (c .before .before .before .before .args .alphabet .now) (c .before .before .before .before .args .chapter .now) (c .before .before .before .before .args .hit))
 
 write-field-requires : tie.Need-write-field-requires
-write-field-requires c κs = search needs
+write-field-requires c κs = tt
 
 symbol-of-requires : tie.Need-symbol-of-requires
-symbol-of-requires c κs = search needs
+symbol-of-requires c κs = tt
 
 write-field-requires-2 : tie.Need-write-field-requires-2
-write-field-requires-2 c κs = search needs
+write-field-requires-2 c κs = tt
 
 write-field-requires-3 : tie.Need-write-field-requires-3
-write-field-requires-3 c κs = search needs
+write-field-requires-3 c κs = tt
 
 same-length : tie.Need-same-length
 same-length c = search needs

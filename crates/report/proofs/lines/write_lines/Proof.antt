@@ -16,7 +16,7 @@ abbrev μ-loop : tie.MeasureT-loop
 μ-loop out₀ alphabet chapter states hits next₀ i₀ out next i = length hits - i
 
 write-head-requires : tie.Need-write-head-requires Inv-loop μ-loop
-write-head-requires c κs = search needs
+write-head-requires c κs = tt
 
 loop-holds : tie.Need-loop-holds Inv-loop μ-loop
 loop-holds c = hit-none _ _ _ _ _
@@ -28,7 +28,7 @@ shared-slice-read-write-hit : tie.Need-shared-slice-read-write-hit Inv-loop μ-l
 shared-slice-read-write-hit c = search needs
 
 write-hit-requires : tie.Need-write-hit-requires Inv-loop μ-loop
-write-hit-requires c κs = search needs
+write-hit-requires c κs = tt
 
 add-i : tie.Need-add-i Inv-loop μ-loop
 add-i c = search needs

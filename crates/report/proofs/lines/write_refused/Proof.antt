@@ -1,4 +1,5 @@
 -- `lines::write_refused` meets its contract: the parts of the line are written one after the other. Assumes nothing.
+use mathlib.Core.Path.{_∙_}
 use Rattle.report.proofs.LineLaws.{refused-written}
 use borrow.Author.Needs.{needs}
 use Rattle.report.proofs.lines.write_refused.Statement.{statement}
@@ -8,13 +9,15 @@ slice-aggregate-write-text : tie.Need-slice-aggregate-write-text
 slice-aggregate-write-text c = search needs
 
 write-text-requires : tie.Need-write-text-requires
-write-text-requires c κs = search needs
+write-text-requires c κs = tt
 
 write-field-requires : tie.Need-write-field-requires
-write-field-requires c κs = search needs
+write-field-requires c κs = tt
 
 same-length : tie.Need-same-length
-same-length c = search needs
+same-length c =
+    let second = c .before .before in
+    second .write-field .kept .0 ∙ second .before .before .before .before .write-text .kept .0
 
 returns : tie.Need-returns
 returns c =

@@ -1,17 +1,19 @@
 -- `writer::write_field` meets its contract: the byte stands behind the number. Assumes nothing.
+use mathlib.Core.Path.{_∙_}
 use Rattle.report.proofs.WritingLaws.{written-more}
-use borrow.Author.Needs.{needs}
 use Rattle.report.proofs.writer.write_field.Statement.{statement}
 use Rattle.report.proofs.writer.write_field.Tie as tie
 
 write-number-requires : tie.Need-write-number-requires
-write-number-requires c κs = search needs
+write-number-requires c κs = tt
 
 write-byte-requires : tie.Need-write-byte-requires
-write-byte-requires c κs = search needs
+write-byte-requires c κs = tt
 
 same-length : tie.Need-same-length
-same-length c = search needs
+same-length c =
+    let second = c .before .before in
+    second .write-byte .kept .0 ∙ second .before .before .before .before .write-number .kept .0
 
 returns : tie.Need-returns
 returns c =
