@@ -1,9 +1,6 @@
 -- `answer_input` meets its contract: the counts say how many words follow, and what it lends of each slice are the words
 -- that make a difference. Assumes nothing.
-use mathlib.Core.Path.{sym}
-use native.Mathlib.Omega.{arith}
-use lib.Seq.{length-take-le}
-use Rattle.marklist.proofs.PrintedLaws.{answered}
+use Rattle.marklist.proofs.PrintedLaws.{kept-fit, kept-long, answered}
 use borrow.Author.Needs.{needs}
 use Rattle.marklist.proofs.answer_input.Statement.{statement}
 use Rattle.marklist.proofs.answer_input.Tie as tie
@@ -45,28 +42,28 @@ kept-requires : tie.Need-kept-requires
 kept-requires c κs = tt
 
 array-share-prefix-alphabet : tie.Need-array-share-prefix-alphabet
-array-share-prefix-alphabet c = search needs
+array-share-prefix-alphabet c = kept-fit _ (c .kept .ensures) (c .before .before .before .before .before .before .before .alphabet2 .given)
 
 slice-aggregate-report : tie.Need-slice-aggregate-report
-slice-aggregate-report c = sym (length-take-le (c .before .kept .result) (c .before .before .before .before .before .before .before .before .before .read-words2 .last .1 .1 .0) (omega arith))
+slice-aggregate-report c = kept-long _ _ (c .before .kept .ensures) (c .before .before .before .before .before .before .before .before .alphabet2 .given)
 
 kept-requires-2 : tie.Need-kept-requires-2
 kept-requires-2 c κs = tt
 
 array-share-prefix-rule : tie.Need-array-share-prefix-rule
-array-share-prefix-rule c = search needs
+array-share-prefix-rule c = kept-fit _ (c .kept2 .ensures) (c .before .before .before .before .before .before .rule2 .given)
 
 slice-aggregate-report-2 : tie.Need-slice-aggregate-report-2
-slice-aggregate-report-2 c = sym (length-take-le (c .before .kept2 .result) (c .before .before .before .before .before .before .before .before .read-words3 .last .1 .1 .0) (omega arith))
+slice-aggregate-report-2 c = kept-long _ _ (c .before .kept2 .ensures) (c .before .before .before .before .before .before .before .rule2 .given)
 
 kept-requires-3 : tie.Need-kept-requires-3
 kept-requires-3 c κs = tt
 
 array-share-prefix-chapter : tie.Need-array-share-prefix-chapter
-array-share-prefix-chapter c = search needs
+array-share-prefix-chapter c = kept-fit _ (c .kept3 .ensures) (c .before .before .before .before .before .chapter2 .given)
 
 slice-aggregate-report-3 : tie.Need-slice-aggregate-report-3
-slice-aggregate-report-3 c = sym (length-take-le (c .before .kept3 .result) (c .before .before .before .before .before .before .before .read-words4 .last .1 .1 .0) (omega arith))
+slice-aggregate-report-3 c = kept-long _ _ (c .before .kept3 .ensures) (c .before .before .before .before .before .before .chapter2 .given)
 
 report-requires : tie.Need-report-requires
 report-requires c κs = search needs
