@@ -9,8 +9,10 @@ use super::set::WORD_BITS;
 // from state of an epsilon transition.
 pub const STATE_RANGE: u32 = 1024;
 
+// A head's state count is below this.
 pub const COUNT_RANGE: u32 = 2048;
 
+// A symbol transition's symbol is below this.
 pub const SYMBOL_RANGE: u32 = 256;
 
 // The first word, or 0 of a table with none.
@@ -23,12 +25,14 @@ fn head_word(table: &[u32]) -> u32
     0
 }
 
+// How many states there are.
 pub fn state_count(table: &[u32]) -> usize
     ensures { λ r. ⌜ r ≡ automatonOf (now (table .entry)) .states ⌝ }
 {
     (head_word(table) / STATE_RANGE % COUNT_RANGE) as usize
 }
 
+// The final state.
 pub fn final_state(table: &[u32]) -> usize
     ensures { λ r. ⌜ r ≡ finalOf (now (table .entry)) ⌝ }
 {
