@@ -8,10 +8,6 @@ pub record ExactlyOne {A : Type 0} (P : A → Type 0) : Type 0 where
   pub has : P the
   pub only : (x : A) → P x → x ≡ the
 
--- two things with the property are one
-pub one-same : {A : Type 0} {P : A → Type 0} (e : ExactlyOne P) (x y : A) → P x → P y → x ≡ y
-one-same e x y p q = e .only x p ∙ sym (e .only y q)
-
 -- each x with P stands for a y with Q, each y with Q comes from an x with P: where there is one x, there is one y
 pub one-along : {A B : Type 0} {P : A → Type 0} {Q : B → Type 0} (f : A → B) (g : B → A)
     → ((x : A) → P x → Q (f x)) → ((y : B) → Q y → P (g y)) → ((y : B) → Q y → f (g y) ≡ y) → ExactlyOne P → ExactlyOne Q

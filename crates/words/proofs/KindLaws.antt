@@ -4,7 +4,7 @@ use mathlib.Core.Path.{_≡_, refl, ap, _∙_, sym, subst}
 use mathlib.Core.Bool.{true, false}
 use mathlib.Core.List.{List, [], _∷_}
 use mathlib.Core.Logic.{_⊎_, inl, inr, ⊎-elim}
-use Prim.Native.Nat.{ℕ, zero, suc, _+_, _<_, _≤_}
+use Prim.Native.Nat.{ℕ, zero, suc, _<_, _≤_}
 use native.Mathlib.Omega.{arith}
 use lib.Dec.{eqb}
 use borrow.Author.Tests.{eq-eqb, ne-eqb, eqb-true, lt-ltb, le-ltb, ltb-true}
@@ -94,9 +94,6 @@ module _ (k : Kind) (b : ℕ) (h : b < 0x1000_0000) where
 
   pub bodyOf-wordOf : bodyOf (wordOf k b) ≡ b
   bodyOf-wordOf = omega arith
-
-  pub hasKind-wordOf : hasKind k (wordOf k b) ≡ true
-  hasKind-wordOf = eq-eqb _ _ numberOf-wordOf
 
   pub lowByte-wordOf : lowByte (wordOf k b) ≡ lowByte b
   lowByte-wordOf = omega arith

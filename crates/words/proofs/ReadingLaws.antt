@@ -1,33 +1,24 @@
--- Reading the postfix words of a tree with a stack puts one value on it, the tree's fold, and finds every node's value on
--- the way; the words of a tree pass the shape check. Assumes nothing.
+-- Reading the postfix words of a tree with a stack puts one value on it, the tree's fold; the words of a tree pass the shape
+-- check. Assumes nothing.
 use mathlib.Core.Path.{_≡_, refl, ap, ap₂, _∙_, sym}
 use mathlib.Core.Bool.{true}
-use mathlib.Core.List.{List, [], _∷_, _++_, reverse, reverseAux, reverseAux-eq, reverse-reverse}
+use mathlib.Core.List.{List, [], _∷_, reverse, reverseAux, reverseAux-eq, reverse-reverse}
 use Prim.Native.Nat.{ℕ, suc, _+_, _-_}
 use native.Mathlib.Omega.{arith}
 use lib.ListN.{length, take, drop, length-reverse}
 use lib.Seq.{take-at, drop-at}
 use borrow.Author.Tests.{eq-eqb}
 use Rattle.words.specs.Tree.{Tree, Trees, node, none, more, number, postfix, postfixAll}
-use Rattle.words.specs.Postfix.{arity, trees, oneTree, valueOn, values, stackAfter}
+use Rattle.words.specs.Postfix.{arity, trees, oneTree, valueOn, stackAfter}
 use Rattle.words.proofs.RankedTree.{Ranked, RankedAll}
 use Rattle.words.proofs.TreeFold.{fold, foldAll}
 use Rattle.words.proofs.PostfixLaws.{trees-append, trees-snoc}
-use Rattle.words.proofs.StackLaws.{values-append, stack-append}
+use Rattle.words.proofs.StackLaws.{stack-append}
 
 module _ {A : Type 0} (value : ℕ → List A → A) where
   pub length-foldAll : (ts : Trees) → length (foldAll value ts) ≡ number ts
   length-foldAll none = refl
   length-foldAll (more t ts) = ap suc (length-foldAll ts)
-
-  -- the values of a tree's nodes in postfix order
-  abbrev mutual
-    pub nodeValues : Tree → List A
-    nodeValues (node w ts) = nodeValuesAll ts ++ (fold value (node w ts) ∷ [])
-
-    pub nodeValuesAll : Trees → List A
-    nodeValuesAll none = []
-    nodeValuesAll (more t ts) = nodeValues t ++ nodeValuesAll ts
 
 -- values that were put on a stack one by one come off it again, from left to right
 pub take-pushed : {A : Type 0} (vs s : List A) (n : ℕ) → n ≡ length vs → reverse (take n (reverseAux vs s)) ≡ vs
@@ -42,9 +33,6 @@ module _ {A : Type 0} (a : List ℕ) (value : ℕ → List A → A) where
 
   abbrev stk : List ℕ → List A → List A
   stk = stackAfter a value
-
-  abbrev vals : List ℕ → List A → List A
-  vals = values a value
 
   -- a word takes the values of the trees before it
   on-trees : (w : ℕ) (ts : Trees) (s : List A) → arity a w ≡ number ts → on w (reverseAux (foldAll value ts) s) ≡ fold value (node w ts)
@@ -70,31 +58,6 @@ module _ {A : Type 0} (a : List ℕ) (value : ℕ → List A → A) where
         stack-append a value (postfix t) (postfixAll ts) s
         ∙ ap (stk (postfixAll ts)) (stack-tree t s (r .0))
         ∙ stack-trees ts (fold value t ∷ s) (r .1)
-
-  -- and any words may follow
-  pub reading-tree : (t : Tree) (rest : List ℕ) (s : List A) → Ranked a t → stk (postfix t ++ rest) s ≡ stk rest (fold value t ∷ s)
-  reading-tree t rest s r = stack-append a value (postfix t) rest s ∙ ap (stk rest) (stack-tree t s r)
-
-  pub reading-trees : (ts : Trees) (rest : List ℕ) (s : List A) → RankedAll a ts
-      → stk (postfixAll ts ++ rest) s ≡ stk rest (reverseAux (foldAll value ts) s)
-  reading-trees ts rest s r = stack-append a value (postfixAll ts) rest s ∙ ap (stk rest) (stack-trees ts s r)
-
-  -- the value of every node, on any stack
-  mutual
-    unfolding values
-
-    pub values-tree : (t : Tree) (s : List A) → Ranked a t → vals (postfix t) s ≡ nodeValues value t
-    values-tree (node w ts) s r =
-        values-append a value (postfixAll ts) (w ∷ []) s
-        ∙ ap₂ (λ (x y : List A). x ++ y) (values-trees ts s (r .1))
-        (ap (vals (w ∷ [])) (stack-trees ts s (r .1))
-        ∙ ap (λ (x : A). x ∷ []) (on-trees w ts s (r .0)))
-
-    pub values-trees : (ts : Trees) (s : List A) → RankedAll a ts → vals (postfixAll ts) s ≡ nodeValuesAll value ts
-    values-trees none s r = refl
-    values-trees (more t ts) s r =
-        values-append a value (postfix t) (postfixAll ts) s
-        ∙ ap₂ (λ (x y : List A). x ++ y) (values-tree t s (r .0)) (values-trees ts (stk (postfix t) s) (r .1))
 
 -- the shape check passes a tree's words: they make one tree more, and those of a row as many as it has
 module _ (a : List ℕ) where

@@ -44,11 +44,6 @@ pub refusal-behind : (rs ks : Refusals) → NoneHolds rs → refusal (rs ++ ks) 
 refusal-behind [] ks h = refl
 refusal-behind (r ∷ rs) ks h = rw (h .0) (refusal-behind rs ks (h .1))
 
--- "Order is as written": the conditions before do not hold and this one does
-pub refusal-first : (before : Refusals) (n : ℕ) (b : Bool) (behind : Refusals) → NoneHolds before → b ≡ true
-    → refusal (before ++ (n, b) ∷ behind) ≡ n
-refusal-first before n b behind h e = refusal-behind before ((n, b) ∷ behind) h ∙ refusal-here n b behind e
-
 -- where the first list refuses, so does the whole, with the same number
 pub refusal-before : (rs ks : Refusals) → 0 < refusal rs → refusal (rs ++ ks) ≡ refusal rs
 refusal-before [] ks h = absurd (omega arith)

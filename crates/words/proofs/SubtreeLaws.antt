@@ -7,7 +7,7 @@ use Prim.Native.Nat.{ℕ, zero, suc, _+_, _-_, _<_}
 use native.Mathlib.Omega.{arith}
 use native.Mathlib.Numerals.{add-one}
 use lib.ListN.{length, getD, take, drop, take-append-drop}
-use lib.Seq.{slice, length-slice}
+use lib.Seq.{slice}
 use Rattle.words.specs.Tree.{Tree}
 use Rattle.words.specs.Postfix.{arity, oneTree, startOf, subtreeOf, valueOn, values, stackAfter}
 use Rattle.words.proofs.TreeFold.{fold}
@@ -20,9 +20,6 @@ use Rattle.words.proofs.TreeLaws.{TreeOf, exactly-one-tree}
 -- ---- the words of a subtree
 
 module _ (a ws : List ℕ) (i : ℕ) (hi : i < length ws) where
-  pub subtree-length : length (subtreeOf a ws i) ≡ i + 1 - startOf a ws i
-  subtree-length = length-slice (startOf a ws i) (i + 1) ws (omega arith)
-
   -- its last word is the node's
   pub subtree-last : subtreeOf a ws i ≡ slice (startOf a ws i) i ws ++ getD ws i 0 ∷ []
   subtree-last =

@@ -78,7 +78,8 @@ pub fn count_constants(alphabet: &[u32]) -> usize
     count
 }
 
-// Writes the constants among the first 64 symbols in symbol order, as far as the list reaches, and answers how many they are.
+// Writes the constants in symbol order into the first words of the list, as far as it reaches, and answers how many there are.
+// Only the 64 symbols that an alphabet can have are looked at.
 pub fn write_constants(alphabet: &[u32], list: &mut [u32]) -> usize
     ensures answer { λ r. ⌜ r ≡ length (constantsOf (take 64 (now (alphabet .entry)))) ⌝ }
     ensures list { λ _. ⌜ now (list .exit) ≡ sets (now (list .entry)) 0 (constantsOf (take 64 (now (alphabet .entry)))) ⌝ }
