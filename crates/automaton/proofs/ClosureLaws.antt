@@ -9,13 +9,13 @@ use native.Mathlib.Omega.{arith}
 use lib.ListN.{length, replicate, length-replicate}
 use Rattle.words.proofs.TestLaws.{Tested, holds, fails, tested, same-truth}
 use Rattle.automaton.specs.Transition.{Transition, Automaton, onSymbol, epsilon}
-use Rattle.automaton.specs.StateSet.{StateSet, sizeFor, contains, move, stateSet}
+use Rattle.automaton.specs.StateSet.{StateSet, sizeFor, contains, symbolPass, stateSet}
 use Rattle.automaton.specs.Reached.{Reached, bySymbol, byEpsilon}
 use Rattle.automaton.specs.Table.{TransitionOver, TransitionsOver, AutomatonOver}
 use Rattle.automaton.proofs.BitLaws.{Words, words-replicate, words-insert, contains-replicate, contains-determines}
-use Rattle.automaton.proofs.KeepLaws.{move-keeps, sweeps-keeps}
-use Rattle.automaton.proofs.SetLength.{length-move, length-stateSet}
-use Rattle.automaton.proofs.SweepLaws.{Seeded, ClosedUnder, Within, In, sweeps-grows, move-adds, move-within, sweeps-within, sweeps-closed}
+use Rattle.automaton.proofs.KeepLaws.{symbolPass-keeps, epsilonClosure-keeps}
+use Rattle.automaton.proofs.SetLength.{length-symbolPass, length-stateSet}
+use Rattle.automaton.proofs.PassLaws.{Seeded, ClosedUnder, Within, In, epsilonClosure-grows, symbolPass-adds, symbolPass-within, epsilonClosure-within, epsilonClosure-closed}
 
 -- ---- targets
 
@@ -83,8 +83,8 @@ module _ (A : Automaton) (f : ℕ) (rs : List StateSet) where
   pub words-stateSet : Words (stateSet A f rs)
   unfolding stateSet
   words-stateSet =
-      sweeps-keeps Words words-insert _ (A .transitions) (move f rs (A .transitions) (emptySet (A .states)))
-      (move-keeps Words words-insert f rs (A .transitions) (emptySet (A .states)) (words-replicate (sizeFor (A .states))))
+      epsilonClosure-keeps Words words-insert _ (A .transitions) (symbolPass f rs (A .transitions) (emptySet (A .states)))
+      (symbolPass-keeps Words words-insert f rs (A .transitions) (emptySet (A .states)) (words-replicate (sizeFor (A .states))))
 
   -- it holds only what is reached, whatever the targets
   stateSet-within : Within (Reached (A .transitions) f rs) (stateSet A f rs)
@@ -92,8 +92,8 @@ module _ (A : Automaton) (f : ℕ) (rs : List StateSet) where
   stateSet-within =
       let r = emptySet (A .states) in
       let P = Reached (A .transitions) f rs in
-      sweeps-within P _ (A .transitions) (move f rs (A .transitions) r) (λ p q m. byEpsilon m)
-      (move-within P f rs (A .transitions) r (λ ps q m. bySymbol m) (λ q e. absurd (true≢false (sym e ∙ contains-replicate (sizeFor (A .states)) q))))
+      epsilonClosure-within P _ (A .transitions) (symbolPass f rs (A .transitions) r) (λ p q m. byEpsilon m)
+      (symbolPass-within P f rs (A .transitions) r (λ ps q m. bySymbol m) (λ q e. absurd (true≢false (sym e ∙ contains-replicate (sizeFor (A .states)) q))))
 
   module _ (below : TargetsBelow (A .states) (A .transitions)) where
     stateSet-seeded : Seeded (A .transitions) f rs (In (stateSet A f rs))
@@ -101,15 +101,15 @@ module _ (A : Automaton) (f : ℕ) (rs : List StateSet) where
     stateSet-seeded ps q m e =
         let r = emptySet (A .states) in
         let l = below (onSymbol f ps q) m in
-        sweeps-grows _ (A .transitions) (move f rs (A .transitions) r) q
-        (move-adds f rs (A .transitions) r ps q m (rw (length-replicate {A = ℕ} (sizeFor (A .states)) 0) (omega arith)) e)
+        epsilonClosure-grows _ (A .transitions) (symbolPass f rs (A .transitions) r) q
+        (symbolPass-adds f rs (A .transitions) r ps q m (rw (length-replicate {A = ℕ} (sizeFor (A .states)) 0) (omega arith)) e)
 
     stateSet-closed : ClosedUnder (A .transitions) (In (stateSet A f rs))
     unfolding stateSet sizeFor
     stateSet-closed =
         let r = emptySet (A .states) in
-        sweeps-closed (A .states) (A .transitions) (λ p q m. below (epsilon p q) m) (move f rs (A .transitions) r)
-        (rw (length-move f rs (A .transitions) r, length-replicate {A = ℕ} (sizeFor (A .states)) 0) (omega arith))
+        epsilonClosure-closed (A .states) (A .transitions) (λ p q m. below (epsilon p q) m) (symbolPass f rs (A .transitions) r)
+        (rw (length-symbolPass f rs (A .transitions) r, length-replicate {A = ℕ} (sizeFor (A .states)) 0) (omega arith))
 
     pub stateSet-is : IsStateSet A f rs (stateSet A f rs)
     stateSet-is = record { size = length-stateSet A f rs; words = words-stateSet; seeded = stateSet-seeded; closed = stateSet-closed; reached = stateSet-within }

@@ -17,7 +17,7 @@ pub mod LastPort
 pub mod CompiledOver
 pub mod CompiledTable
 pub mod SetLength
-pub mod SweepLaws
+pub mod PassLaws
 pub mod ClosureLaws
 pub mod TreeSets
 pub mod EntryLaws

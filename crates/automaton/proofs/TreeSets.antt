@@ -11,7 +11,7 @@ use Rattle.words.proofs.TestLaws.{and-true, true-and}
 use Rattle.automaton.specs.Transition.{Transition, Automaton}
 use Rattle.automaton.specs.StateSet.{StateSet, contains, allContained, stateSet}
 use Rattle.automaton.specs.Reached.{Reached, bySymbol, byEpsilon, Reaches, ReachesAll, onNode, onEpsilon, onNone, onMore}
-use Rattle.automaton.proofs.SweepLaws.{ClosedUnder, In}
+use Rattle.automaton.proofs.PassLaws.{ClosedUnder, In}
 use Rattle.automaton.proofs.ClosureLaws.{TargetsBelow, stateSet-is, stateSet-reached}
 
 -- the state set of a tree, and those of a node's children

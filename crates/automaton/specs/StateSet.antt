@@ -30,23 +30,24 @@ allContained (p ∷ ps) [] = false
 allContained (p ∷ ps) (r ∷ rs) = contains r p && allContained ps rs
 
 -- the set with the target of a symbol move on f "whose part states are all marked in its parts"
-abbrev pub moved : ℕ → List StateSet → Transition → StateSet → StateSet
-moved f rs (onSymbol g ps q) r = cond (eqb g f && allContained ps rs) (insert r q) r
-moved f rs (epsilon p q) r = r
+abbrev pub symbolStep : ℕ → List StateSet → Transition → StateSet → StateSet
+symbolStep f rs (onSymbol g ps q) r = cond (eqb g f && allContained ps rs) (insert r q) r
+symbolStep f rs (epsilon p q) r = r
 
 -- the set with the target of an empty move from one of its states
-abbrev pub swept : Transition → StateSet → StateSet
-swept (onSymbol g ps q) r = r
-swept (epsilon p q) r = cond (contains r p) (insert r q) r
+abbrev pub epsilonStep : Transition → StateSet → StateSet
+epsilonStep (onSymbol g ps q) r = r
+epsilonStep (epsilon p q) r = cond (contains r p) (insert r q) r
 
-unfoldable pub move : ℕ → List StateSet → List Transition → StateSet → StateSet
-move f rs [] r = r
-move f rs (t ∷ ts) r = move f rs ts (moved f rs t r)
+-- one pass over the symbol moves on f
+unfoldable pub symbolPass : ℕ → List StateSet → List Transition → StateSet → StateSet
+symbolPass f rs [] r = r
+symbolPass f rs (t ∷ ts) r = symbolPass f rs ts (symbolStep f rs t r)
 
 -- one pass over the empty moves
-unfoldable pub sweep : List Transition → StateSet → StateSet
-sweep [] r = r
-sweep (t ∷ ts) r = sweep ts (swept t r)
+unfoldable pub epsilonPass : List Transition → StateSet → StateSet
+epsilonPass [] r = r
+epsilonPass (t ∷ ts) r = epsilonPass ts (epsilonStep t r)
 
 -- an empty move from a state of the set leads to a state of the set
 abbrev pub closedUnder : Transition → StateSet → Bool
@@ -58,13 +59,13 @@ isClosed [] r = true
 isClosed (t ∷ ts) r = closedUnder t r && isClosed ts r
 
 -- passes until the set is closed under the empty moves, at most n
-unfoldable pub sweeps : ℕ → List Transition → StateSet → StateSet
-sweeps zero ts r = r
-sweeps (suc n) ts r = let onward = sweeps n ts (sweep ts r) in cond (isClosed ts r) r onward
+unfoldable pub epsilonClosure : ℕ → List Transition → StateSet → StateSet
+epsilonClosure zero ts r = r
+epsilonClosure (suc n) ts r = let onward = epsilonClosure n ts (epsilonPass ts r) in cond (isClosed ts r) r onward
 
 -- "for every state s, bit s mod 32 of word s / 32 is set exactly if s is reached": by symbol moves, and then by empty
 -- moves. As many passes as there are states close every set: the law `stateSet-reached` says that a state is in this set
 -- exactly if it is `Reached`.
 unfoldable pub stateSet : Automaton → ℕ → List StateSet → StateSet
 stateSet A f rs =
-    sweeps (A .states) (A .transitions) (move f rs (A .transitions) (replicate (sizeFor (A .states)) 0))
+    epsilonClosure (A .states) (A .transitions) (symbolPass f rs (A .transitions) (replicate (sizeFor (A .states)) 0))

@@ -20,7 +20,7 @@ use Rattle.automaton.proofs.CompiledExample.{alphabet, rule}
 use Rattle.automaton.specs.Transition.{transitionsAt, automatonOf, headWord}
 use Rattle.automaton.specs.Numbering.{hasEntries, statesOf, portOf, ownTransitions, portsFrom, statesAfter, transitionsFrom, compiled}
 use Rattle.automaton.specs.Table.{isHead, isTableWord, sourcesLeft, areTransitions, isTable, noTable}
-use Rattle.automaton.specs.StateSet.{sizeFor, contains, insert, allContained, move, sweep, sweeps, stateSet}
+use Rattle.automaton.specs.StateSet.{sizeFor, contains, insert, allContained, symbolPass, epsilonPass, epsilonClosure, stateSet}
 use Rattle.operations.specs.Answer.{Answer, refused, accepted, firstValue}
 use Rattle.operations.specs.Compile.{compiledTable, compileFault, tooManyStates, tableTooLong}
 use Rattle.operations.specs.Marks.{sizeOf, finalOf, nodeSet, nodeSets, storedSet, sameWords, refit}
@@ -209,7 +209,7 @@ pub examples : AllHold rows
 unfolding kindAt spareBitsClear isOf isEntry rankOf isConstant constantsFrom constantsOf noAlphabet wrongConstants arity trees
     notOneTree isExpressionWord wrongLength noExpressionWords hasEntries statesOf portOf ownTransitions portsFrom statesAfter transitionsFrom compiled
     tooManyStates tableTooLong flatMap flatten isNode noNodes isHead isTableWord sourcesLeft areTransitions isTable noTable wrongCount fewMarks transitionsAt
-    automatonOf sizeFor contains insert allContained move sweep sweeps stateSet sizeOf finalOf nodeSet nodeSets values valueOn runMarks cellsIn runAnswer runExit storedSet startFrom
+    automatonOf sizeFor contains insert allContained symbolPass epsilonPass epsilonClosure stateSet sizeOf finalOf nodeSet nodeSets values valueOn runMarks cellsIn runAnswer runExit storedSet startFrom
     matchesIn matchesOf splice isAncestor stackAfter stackGiven sameWords refit wrongUse noElement noReplacement resultTooLong recomputedIn climb rootSet
     outcomesBehind outcomesAfter fault newTree outcomes exchangeAnswer exchangeChapter exchangeMarks
 examples = (
