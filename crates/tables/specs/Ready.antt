@@ -9,6 +9,7 @@ use Rattle.words.specs.Alphabet.{rankOf}
 use Rattle.automaton.specs.Table.{isTable}
 use Rattle.automaton.specs.StateSet.{StateSet}
 use Rattle.operations.specs.Marks.{sizeOf, storedSet}
+use Rattle.tables.specs.Index.{indexOf}
 
 -- each child's words lie inside the marks; the children are node numbers
 abbrev pub RowsInside : ℕ → List ℕ → List ℕ → Type 0
@@ -20,6 +21,11 @@ pub record Ready (table : List ℕ) (symbol : ℕ) (marks children : List ℕ) :
   pub checked : isTable alphabet table ≡ true
   pub rank : rankOf alphabet symbol ≡ length children
   pub rows : RowsInside (sizeOf table) marks children
+
+-- the same, and the table's index
+pub record Prepared (table index : List ℕ) (symbol : ℕ) (marks children : List ℕ) : Type 0 where
+  pub ready : Ready table symbol marks children
+  pub indexed : index ≡ indexOf table
 
 -- the children's state sets, from left to right
 abbrev pub childSets : ℕ → List ℕ → List ℕ → List StateSet

@@ -6,7 +6,7 @@ ghost use lib.ListN.{drop, replicate};
 ghost use Rattle.automaton.specs.Transition.{automatonOf, sourcesAt};
 ghost use Rattle.automaton.specs.StateSet.{allContained, stateSet};
 ghost use Rattle.operations.specs.Marks.{sizeOf};
-ghost use Rattle.tables.specs.Ready.{Ready, childSets};
+ghost use Rattle.tables.specs.Ready.{Prepared, childSets};
 ghost use Rattle.tables.specs.Growth.{Put, Sources, Firing, Given, GivenAt, Followed, Passed, indexAt};
 ghost use Rattle.tables.specs.Growth.{fires as Growth·fires};
 use super::head::STATE_RANGE;
@@ -156,8 +156,14 @@ fn pass(
 // The state set of a node with this symbol over the children with these node numbers, and zeros behind it. The passes change
 // direction, since a compiled table's transitions lead from its later words' entries to those of earlier words and from the
 // earlier words' exits to those of later words.
-pub fn node_set(table: &[u32], symbol: u32, marks: &[u32], children: &[u32]) -> [u32; 32]
-    requires { ⌜ Ready (now table) symbol (now marks) (now children) ⌝ }
+pub fn node_set(
+    table: &[u32],
+    index: &[u32],
+    symbol: u32,
+    marks: &[u32],
+    children: &[u32],
+) -> [u32; 32]
+    requires { ⌜ Prepared (now table) (now index) symbol (now marks) (now children) ⌝ }
     ensures { λ r. ⌜
         r
         ≡ stateSet (automatonOf (now (table .entry))) symbol

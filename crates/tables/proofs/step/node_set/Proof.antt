@@ -8,10 +8,10 @@ use Rattle.tables.proofs.step.node_set.Statement.{statement}
 use Rattle.tables.proofs.step.node_set.Tie as tie
 
 abbrev Inv-loop : tie.InvT-loop
-Inv-loop table symbol marks children size set₀ down₀ changed₀ set down changed = Growing table symbol (childSets size marks children) set changed
+Inv-loop table index symbol marks children size set₀ down₀ changed₀ set down changed = Growing table symbol (childSets size marks children) set changed
 
 abbrev μ-loop : tie.MeasureT-loop
-μ-loop table symbol marks children size set₀ down₀ changed₀ set down changed = measure table set changed
+μ-loop table index symbol marks children size set₀ down₀ changed₀ set down changed = measure table set changed
 
 set-size-requires : tie.Need-set-size-requires Inv-loop μ-loop
 set-size-requires c κs = search needs
@@ -25,7 +25,7 @@ slice-aggregate-pass c = sym (c .before .before .loop .inv .size)
 pass-requires : tie.Need-pass-requires Inv-loop μ-loop
 pass-requires c κs =
     let l = c .before .before in
-    growing-given (l .before .before .before .before .before .pre) (l .before .set-size .ensures) (l .loop .inv)
+    growing-given (l .before .before .before .before .before .before .pre .ready) (l .before .set-size .ensures) (l .loop .inv)
 
 loop-less : tie.Need-loop-less Inv-loop μ-loop
 loop-less c =
@@ -38,7 +38,7 @@ loop-again c = growing-more (c .before .before .before .before .loop .inv) (c .b
 returns : tie.Need-returns Inv-loop μ-loop
 returns c =
     let l = c .before in
-    growing-end (l .before .before .before .before .before .pre) (l .before .set-size .ensures) (l .loop .inv) (c .loop-test .left)
+    growing-end (l .before .before .before .before .before .before .pre .ready) (l .before .set-size .ensures) (l .loop .inv) (c .loop-test .left)
 
 pub node-set-spec : {M : Type 1} → statement M
 node-set-spec =
