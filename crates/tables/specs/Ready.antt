@@ -1,5 +1,5 @@
--- What the node step asks of its caller: a checked table, as many children as the symbol's rank, and each child's state set
--- inside the marks. Assumes nothing.
+-- What the node step asks of its caller: a checked table, a symbol of eight bits, as many children as its rank, and each
+-- child's state set inside the marks. Assumes nothing.
 use Prim.Native.Nat.{ℕ, _+_, _*_, _<_, _≤_}
 use mathlib.Core.Path.{_≡_}
 use mathlib.Core.Bool.{true}
@@ -19,6 +19,7 @@ pub record Ready (table : List ℕ) (symbol : ℕ) (marks children : List ℕ) :
   pub alphabet : List ℕ
   pub short : length alphabet ≤ 64
   pub checked : isTable alphabet table ≡ true
+  pub symbol-below : symbol < 256
   pub rank : rankOf alphabet symbol ≡ length children
   pub rows : RowsInside (sizeOf table) marks children
 
