@@ -7,3 +7,4 @@ pub mod GrowthLaws
 pub mod StartLaws
 pub mod PassLaws
 pub mod NodeLaws
+pub mod IndexLaws

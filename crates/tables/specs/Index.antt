@@ -15,7 +15,7 @@ keyOf w = cond (hasKind transitionKind w) (symbolAbove w) (cond (hasKind epsilon
 
 -- The first 1,280 words are the first word of each key's chain. The word of the table with number i has behind them the
 -- next word of its chain. A chain ends with 0: the head is in none.
-abbrev pub indexedAt : List ℕ → ℕ → List ℕ → List ℕ
+unfoldable pub indexedAt : List ℕ → ℕ → List ℕ → List ℕ
 indexedAt table i index =
     let key = keyOf (getD table i 0) in
     cond (ltb key 1280) (set (set index (1280 + i) (getD index key 0)) key i) index
