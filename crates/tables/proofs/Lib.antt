@@ -7,4 +7,5 @@ pub mod GrowthLaws
 pub mod StartLaws
 pub mod PassLaws
 pub mod NodeLaws
+pub mod ChainLaws
 pub mod IndexLaws
