@@ -1,6 +1,6 @@
 -- The key of a word, and the words of a table that have a key, in ascending order. Assumes nothing.
-use mathlib.Core.Path.{_≡_, refl, ap, ap₂, _∙_, sym}
-use mathlib.Core.Bool.{Bool, true, false, cond, _&&_, false≢true}
+use mathlib.Core.Path.{_≡_, refl, ap, _∙_, sym}
+use mathlib.Core.Bool.{true, cond, _&&_, false≢true}
 use mathlib.Core.List.{List, [], _∷_}
 use Prim.Native.Nat.{ℕ, zero, suc, _+_, _-_, _<_, _≤_}
 use native.Mathlib.Omega.{arith}
@@ -8,7 +8,7 @@ use native.Mathlib.Decide.{ℕ-discrete}
 use lib.ListN.{length, getD}
 use lib.Dec.{ltb, leb, eqb}
 use borrow.Author.Tests.{eq-eqb, ne-eqb, eqb-true, eqb-false, leb-true}
-use Rattle.words.specs.Word.{headKind, transitionKind, epsilonKind, numberOf, hasKind, isOf, spareBitsClear, symbolAbove, countAbove, stateAbove, stateBelow}
+use Rattle.words.specs.Word.{headKind, transitionKind, epsilonKind, numberOf, hasKind, isOf, symbolAbove, countAbove, stateAbove, stateBelow}
 use Rattle.words.proofs.TestLaws.{Tested, holds, fails, tested, and-true}
 use Rattle.words.proofs.KindLaws.{isOf-facts}
 use Rattle.automaton.specs.Table.{isHead, areTransitions, isTable}

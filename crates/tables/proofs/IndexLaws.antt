@@ -1,4 +1,5 @@
--- The index of a table, word by word from the last one backwards. Assumes nothing.
+-- The index of a table is made word by word from the last one backwards, and its chains hold the words of each key in
+-- ascending order. Assumes nothing.
 use mathlib.Core.Path.{_≡_, refl, ap, _∙_, sym}
 use mathlib.Core.Bool.{Bool, true, false, cond}
 use mathlib.Core.List.{List}
@@ -8,8 +9,7 @@ use native.Mathlib.Decide.{ℕ-discrete, decLt}
 use lib.ListN.{length, getD, set, replicate, length-set, length-replicate, getD-replicate, List·getD-eq-default}
 use lib.Seq.{getD-set-same, getD-set-other, set-out}
 use lib.Dec.{ltb}
-use borrow.Author.Tests.{eq-eqb, ne-eqb, lt-ltb, le-ltb}
-use Rattle.words.specs.Word.{numberOf, symbolAbove, stateAbove}
+use borrow.Author.Tests.{lt-ltb, le-ltb}
 use Rattle.tables.proofs.ChainLaws.{nextWith, next-over, next-here, next-past, Keyed}
 use Rattle.tables.specs.Index.{keyOf, indexedAt, indexBack, indexOf, Insertable}
 
@@ -24,7 +24,7 @@ module _ (table : List ℕ) (i : ℕ) (index : List ℕ) (k : ℕ) (e : k ≡ ke
   unfolding indexedAt
   put-none h = sym (rw (← e, le-ltb k 1280 h))
 
-pub indexed-length : (table : List ℕ) (i : ℕ) (index : List ℕ) → length (indexedAt table i index) ≡ length index
+indexed-length : (table : List ℕ) (i : ℕ) (index : List ℕ) → length (indexedAt table i index) ≡ length index
 unfolding indexedAt
 indexed-length table i index = go (ltb (keyOf (getD table i 0)) 1280)
   where
@@ -39,6 +39,42 @@ back-none table = refl
 back-more : (table : List ℕ) (n j : ℕ) → length table - suc n ≡ j → indexBack table (suc n) ≡ indexedAt table j (indexBack table n)
 unfolding indexBack
 back-more table n j e = ap (λ (x : ℕ). indexedAt table x (indexBack table n)) e
+
+-- ---- the words from i on are indexed
+
+pub record Indexed (table index : List ℕ) (i : ℕ) : Type 0 where
+  pub few : i ≤ length table
+  pub size : length index ≡ 3328
+  pub chains : index ≡ indexBack table (length table - i)
+
+pub indexed-none : (table : List ℕ) → Indexed table (replicate 3328 0) (length table)
+indexed-none table =
+    let e : length table - length table ≡ 0 = omega arith in
+    record {
+      few = omega arith;
+      size = length-replicate {A = ℕ} 3328 0;
+      chains = back-none table ∙ ap (indexBack table) (sym e);
+    }
+
+module _ {table index : List ℕ} {i : ℕ} (s : Indexed table index i) where
+  pub indexed-insertable : (j : ℕ) → j + 1 ≡ i → length table ≤ 2048 → Insertable table j index
+  indexed-insertable j e h = record { inside = omega arith; few = h; size = s .size }
+
+  pub indexed-more : (j : ℕ) → j + 1 ≡ i → {after : List ℕ} → after ≡ indexedAt table j index → Indexed table after j
+  indexed-more j e {after} h =
+      let f : length table - j ≡ suc (length table - i) = omega arith in
+      let g : length table - suc (length table - i) ≡ j = omega arith in
+      record {
+        few = omega arith;
+        size = ap length h ∙ indexed-length table j index ∙ s .size;
+        chains = h ∙ ap (indexedAt table j) (s .chains) ∙ sym (rw f (back-more table (length table - i) j g));
+      }
+
+  pub indexed-end : i ≤ 0 → index ≡ indexOf table
+  unfolding indexOf
+  indexed-end h =
+      let e : length table - i ≡ length table = omega arith in
+      s .chains ∙ ap (indexBack table) e
 
 -- ---- what the chains hold
 
@@ -98,7 +134,6 @@ module _ (table : List ℕ) where
   module _ (few : length table ≤ 2048) where
     back-chains : (n : ℕ) → n ≤ length table → Chains table (indexBack table n) (length table - n)
     back-chains zero h =
-        let e : length table - 0 ≡ length table = omega arith in
         rw (← back-none table) (record {
           first = λ key s. getD-replicate {A = ℕ} 3328 key 0 0 (omega arith) ∙ sym (next-over table key (length table - 0) (omega arith));
           next = λ m key l g f s. absurd (omega arith);
@@ -156,39 +191,3 @@ module _ (table : List ℕ) (few : length table ≤ 2048) where
   pub index-below : (k : ℕ) → getD (indexOf table) k 0 < 2048
   unfolding indexOf
   index-below = back-below (length table) (omega arith)
-
--- ---- the words from i on are indexed
-
-pub record Indexed (table index : List ℕ) (i : ℕ) : Type 0 where
-  pub few : i ≤ length table
-  pub size : length index ≡ 3328
-  pub chains : index ≡ indexBack table (length table - i)
-
-pub indexed-none : (table : List ℕ) → Indexed table (replicate 3328 0) (length table)
-indexed-none table =
-    let e : length table - length table ≡ 0 = omega arith in
-    record {
-      few = omega arith;
-      size = length-replicate {A = ℕ} 3328 0;
-      chains = back-none table ∙ ap (indexBack table) (sym e);
-    }
-
-module _ {table index : List ℕ} {i : ℕ} (s : Indexed table index i) where
-  pub indexed-insertable : (j : ℕ) → j + 1 ≡ i → length table ≤ 2048 → Insertable table j index
-  indexed-insertable j e h = record { inside = omega arith; few = h; size = s .size }
-
-  pub indexed-more : (j : ℕ) → j + 1 ≡ i → {after : List ℕ} → after ≡ indexedAt table j index → Indexed table after j
-  indexed-more j e {after} h =
-      let f : length table - j ≡ suc (length table - i) = omega arith in
-      let g : length table - suc (length table - i) ≡ j = omega arith in
-      record {
-        few = omega arith;
-        size = ap length h ∙ indexed-length table j index ∙ s .size;
-        chains = h ∙ ap (indexedAt table j) (s .chains) ∙ sym (rw f (back-more table (length table - i) j g));
-      }
-
-  pub indexed-end : i ≤ 0 → index ≡ indexOf table
-  unfolding indexOf
-  indexed-end h =
-      let e : length table - i ≡ length table = omega arith in
-      s .chains ∙ ap (indexBack table) e
