@@ -23,7 +23,14 @@ pub record Ready (table : List ℕ) (symbol : ℕ) (marks children : List ℕ) :
   pub rank : rankOf alphabet symbol ≡ length children
   pub rows : RowsInside (sizeOf table) marks children
 
--- the same, and the table's index
+-- a checked table with its index
+pub record Checked (table index : List ℕ) : Type 0 where
+  pub alphabet : List ℕ
+  pub short : length alphabet ≤ 64
+  pub checked : isTable alphabet table ≡ true
+  pub indexed : index ≡ indexOf table
+
+-- what the node step asks, and the table's index
 pub record Prepared (table index : List ℕ) (symbol : ℕ) (marks children : List ℕ) : Type 0 where
   pub ready : Ready table symbol marks children
   pub indexed : index ≡ indexOf table

@@ -1,55 +1,50 @@
--- `tables::step::node_set` meets its contract: each pass that is not the last adds a state, and what the last pass leaves
--- holds the seeds, is closed under the epsilon transitions and holds reached states only. Assumes nothing.
-use mathlib.Core.Path.{sym}
+-- `tables::step::node_set` meets its contract: the symbol's transitions are followed and then the epsilon transitions of
+-- every state that is reached, so that no transition adds anything to the set. Assumes nothing.
 use borrow.Author.Needs.{needs}
-use Rattle.tables.specs.Ready.{childSets}
-use Rattle.tables.proofs.NodeLaws.{Growing, growing-none, growing-given, growing-more, growing-end, measure, measure-falls}
+use Rattle.tables.proofs.SymbolLaws.{prepared-checked}
+use Rattle.tables.proofs.NodeLaws.{node-seeding, settled-end}
 use Rattle.tables.proofs.step.node_set.Statement.{statement}
 use Rattle.tables.proofs.step.node_set.Tie as tie
 
-abbrev Inv-loop : tie.InvT-loop
-Inv-loop table index symbol marks children size set₀ down₀ changed₀ set down changed = Growing table symbol (childSets size marks children) set changed
-
-abbrev μ-loop : tie.MeasureT-loop
-μ-loop table index symbol marks children size set₀ down₀ changed₀ set down changed = measure table set changed
-
-set-size-requires : tie.Need-set-size-requires Inv-loop μ-loop
+set-size-requires : tie.Need-set-size-requires
 set-size-requires c κs = search needs
 
-loop-holds : tie.Need-loop-holds Inv-loop μ-loop
-loop-holds c = growing-none _ _ _
+slice-aggregate-follow-symbol : tie.Need-slice-aggregate-follow-symbol
+slice-aggregate-follow-symbol c = search needs
 
-slice-aggregate-pass : tie.Need-slice-aggregate-pass Inv-loop μ-loop
-slice-aggregate-pass c = sym (c .before .before .loop .inv .size)
+slice-aggregate-follow-symbol-2 : tie.Need-slice-aggregate-follow-symbol-2
+slice-aggregate-follow-symbol-2 c = search needs
 
-pass-requires : tie.Need-pass-requires Inv-loop μ-loop
-pass-requires c κs =
-    let l = c .before .before in
-    growing-given (l .before .before .before .before .before .before .pre .ready) (l .before .set-size .ensures) (l .loop .inv)
+follow-symbol-requires : tie.Need-follow-symbol-requires
+follow-symbol-requires c κs = node-seeding (c .before .before .before .before .before .before .before .pre) (c .before .before .set-size .ensures)
 
-loop-less : tie.Need-loop-less Inv-loop μ-loop
-loop-less c =
-    let t = c .before .before .before in
-    measure-falls (t .loop-test .taken) (c .before .pass .ensures)
+slice-aggregate-follow-pending : tie.Need-slice-aggregate-follow-pending
+slice-aggregate-follow-pending c = search needs
 
-loop-again : tie.Need-loop-again Inv-loop μ-loop
-loop-again c = growing-more (c .before .before .before .before .loop .inv) (c .before .pass .ensures)
+slice-aggregate-follow-pending-2 : tie.Need-slice-aggregate-follow-pending-2
+slice-aggregate-follow-pending-2 c = search needs
 
-returns : tie.Need-returns Inv-loop μ-loop
+follow-pending-requires : tie.Need-follow-pending-requires
+follow-pending-requires c κs =
+    let d = c .before .before .before .before in
+    record { checked = prepared-checked (d .before .before .before .before .before .before .before .before .pre); stack = d .follow-symbol .ensures .stack }
+
+returns : tie.Need-returns
 returns c =
-    let l = c .before in
-    growing-end (l .before .before .before .before .before .before .pre .ready) (l .before .set-size .ensures) (l .loop .inv) (c .loop-test .left)
+    let d = c .before .before in
+    let s = d .before .before .before .before .before in
+    let g = s .before .before .before in
+    settled-end (g .before .before .before .before .before .pre .ready) (g .set-size .ensures) (d .follow-pending .ensures) (s .follow-symbol .ensures .settled)
 
 pub node-set-spec : {M : Type 1} → statement M
 node-set-spec =
     tie.close
     (tie.spec
-    Inv-loop
-    μ-loop
     set-size-requires
-    loop-holds
-    slice-aggregate-pass
-    pass-requires
-    loop-less
-    loop-again
+    slice-aggregate-follow-symbol
+    slice-aggregate-follow-symbol-2
+    follow-symbol-requires
+    slice-aggregate-follow-pending
+    slice-aggregate-follow-pending-2
+    follow-pending-requires
     returns)
