@@ -35,16 +35,22 @@ stack-none table pending room =
       inside = λ k l. absurd (omega arith);
     }
 
-pub node-seeding : {table index : List ℕ} {f size : ℕ} {marks children : List ℕ} → Prepared table index f marks children → size ≡ sizeOf table
-    → Seeding table index f size marks children (replicate 32 0) (replicate 1024 0)
-node-seeding {table} {f = f} {size = size} {marks = marks} {children = children} p e =
-    let most = states-most (prepared-checked p) in
-    record {
-      prepared = p;
-      words = e;
-      stack = stack-none table (replicate 1024 0) (rw (length-replicate {A = ℕ} 1024 0) most);
-      search = search-none table f (childSets size marks children) (replicate 1024 0);
-    }
+module _ {table index : List ℕ} {f size : ℕ} {marks children : List ℕ} (p : Prepared table index f marks children) (e : size ≡ sizeOf table) where
+  seeding : (n : ℕ) → automatonOf table .states ≤ n → Seeding table index f size marks children (replicate 32 0) (replicate n 0)
+  seeding n h =
+      record {
+        prepared = p;
+        words = e;
+        stack = stack-none table (replicate n 0) (rw (length-replicate {A = ℕ} n 0) h);
+        search = search-none table f (childSets size marks children) (replicate n 0);
+      }
+
+  pub node-seeding : Seeding table index f size marks children (replicate 32 0) (replicate 1024 0)
+  node-seeding = seeding 1024 (states-most (prepared-checked p))
+
+  pub node-seeding-few : size ≤ 2 → Seeding table index f size marks children (replicate 32 0) (replicate 64 0)
+  unfolding sizeOf sizeFor
+  node-seeding-few h = seeding 64 (omega arith)
 
 -- ---- zeros behind a set add no state
 

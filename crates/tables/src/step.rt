@@ -15,6 +15,9 @@ use super::index::STATE_KEYS;
 use super::set::contains;
 use super::set::insert;
 
+// Sets of at most so many words are those of at most 64 states, for which a short stack is enough.
+const FEW_WORDS: usize = 2;
+
 // Whether the part states from word `at` on are all in the children's sets.
 fn sources_contained(table: &[u32], at: usize, size: usize, marks: &[u32], children: &[u32]) -> bool
     requires { ⌜ Sources (now table) at size (now marks) (now children) ⌝ }
@@ -116,7 +119,31 @@ fn follow_pending(table: &[u32], index: &[u32], set: &mut [u32], pending: &mut [
     }
 }
 
-// The state set of a node with this symbol over the children with these node numbers, and zeros behind it.
+// Works out the state set of a node into a set of zeros, with a stack for the pending states.
+fn work_out(
+    table: &[u32],
+    index: &[u32],
+    symbol: u32,
+    size: usize,
+    marks: &[u32],
+    children: &[u32],
+    set: &mut [u32],
+    pending: &mut [u32],
+)
+    requires { ⌜ Seeding (now table) (now index) symbol size (now marks) (now children) (now set) (now pending) ⌝ }
+    ensures { λ _. ⌜
+        now (set .exit)
+        ≡ stateSet (automatonOf (now (table .entry))) symbol
+        (childSets (sizeOf (now (table .entry))) (now (marks .entry)) (now (children .entry)))
+        ++ replicate (32 - sizeOf (now (table .entry))) 0
+        ⌝ }
+{
+    let top = follow_symbol(table, index, symbol, size, marks, children, set, pending);
+    follow_pending(table, index, set, pending, top);
+}
+
+// The state set of a node with this symbol over the children with these node numbers, and zeros behind it. The stack has
+// room for every state, and a short one is sooner cleared.
 pub fn node_set(
     table: &[u32],
     index: &[u32],
@@ -134,8 +161,22 @@ pub fn node_set(
 {
     let size = set_size(table);
     let mut set = [0u32; 32];
+    if size <= FEW_WORDS {
+        let mut pending = [0u32; 64];
+        work_out(
+            table,
+            index,
+            symbol,
+            size,
+            marks,
+            children,
+            &mut set,
+            &mut pending,
+        );
+        return set;
+    }
     let mut pending = [0u32; 1024];
-    let top = follow_symbol(
+    work_out(
         table,
         index,
         symbol,
@@ -145,6 +186,5 @@ pub fn node_set(
         &mut set,
         &mut pending,
     );
-    follow_pending(table, index, &mut set, &mut pending, top);
     set
 }
