@@ -37,26 +37,26 @@ module _ (a table ch marks : List ℕ) (h : runFault a table ch (length marks) �
     stacked = stacked-none array;
   }
 
-  pub run-left : (marks′ : List ℕ) → marks′ ≡ markedFrom a table ch 0 (length ch - 0) marks → marks′ ≡ runMarks a table ch marks
-  run-left marks′ e =
-      let z : length ch - 0 ≡ length ch = omega arith in
-      e ∙ ap (λ (n : ℕ). markedFrom a table ch 0 n marks) z ∙ marked-run a table ch marks (workable .marks-room)
+  module _ (marks′ : List ℕ) (e : marks′ ≡ markedFrom a table ch 0 (length ch - 0) marks) where
+    pub run-left : marks′ ≡ runMarks a table ch marks
+    run-left =
+        let z : length ch - 0 ≡ length ch = omega arith in
+        e ∙ ap (λ (n : ℕ). markedFrom a table ch 0 n marks) z ∙ marked-run a table ch marks (workable .marks-room)
 
-  -- the marks of the chapter, once its nodes are worked out
-  module _ (marks′ : List ℕ) (e : marks′ ≡ runMarks a table ch marks) (size : ℕ) (s : size ≡ sizeOf table) where
-    pub run-room : length ch * size ≤ length marks′
-    run-room = rw (e, run-length a table ch marks (workable .marks-room), s) (workable .marks-room)
+    module _ (size : ℕ) (s : size ≡ sizeOf table) where
+      pub run-room : length ch * size ≤ length marks′
+      run-room = rw (run-left, run-length a table ch marks (workable .marks-room), s) (workable .marks-room)
 
-    pub run-few : length ch * size ≤ 131072
-    run-few = words-few (length ch) size (workable .few) (rw s (size-few workable))
+      pub run-few : length ch * size ≤ 131072
+      run-few = words-few (length ch) size (workable .few) (rw s (size-few workable))
 
-    pub run-part : length (take (length ch * size) marks′) ≡ length ch * size
-    run-part = length-take-le (length ch * size) marks′ run-room
+      pub run-part : length (take (length ch * size) marks′) ≡ length ch * size
+      run-part = length-take-le (length ch * size) marks′ run-room
 
-    pub run-cells : (r : ℕ) → r ≡ cellsIn (take (length ch * size) marks′) → r ≡ cellsIn (flatten (nodeSets a table ch))
-    run-cells r q =
-        q ∙ ap (λ (n : ℕ). cellsIn (take (length ch * n) marks′)) s
-        ∙ ap (λ (m : List ℕ). cellsIn (take (length ch * sizeOf table) m)) e ∙ ap cellsIn (run-writes a table ch marks)
+      pub run-cells : (r : ℕ) → r ≡ cellsIn (take (length ch * size) marks′) → r ≡ cellsIn (flatten (nodeSets a table ch))
+      run-cells r q =
+          q ∙ ap (λ (n : ℕ). cellsIn (take (length ch * n) marks′)) s
+          ∙ ap (λ (m : List ℕ). cellsIn (take (length ch * sizeOf table) m)) run-left ∙ ap cellsIn (run-writes a table ch marks)
 
 -- ---- the answer and the marks at exit
 

@@ -36,10 +36,11 @@ fn run_fault(alphabet: &[u32], table: &[u32], chapter: &[u32], room: usize) -> u
     0
 }
 
-// Works out all nodes of a call that is not refused.
-fn mark_chapter(alphabet: &[u32], table: &[u32], chapter: &[u32], marks: &mut [u32])
+// Marks the chapter of a call that is not refused, and answers the number of ones.
+fn run_accepted(alphabet: &[u32], table: &[u32], chapter: &[u32], marks: &mut [u32]) -> usize
     requires { ⌜ runFault (now alphabet) (now table) (now chapter) (length (now marks)) ≡ 0 ⌝ }
-    ensures { λ _. ⌜
+    ensures answer { λ r. ⌜ r ≡ cellsIn (flatten (nodeSets (now (alphabet .entry)) (now (table .entry)) (now (chapter .entry)))) ⌝ }
+    ensures marks { λ _. ⌜
         now (marks .exit) ≡ runMarks (now (alphabet .entry)) (now (table .entry)) (now (chapter .entry)) (now (marks .entry))
         ⌝ }
 {
@@ -57,18 +58,7 @@ fn mark_chapter(alphabet: &[u32], table: &[u32], chapter: &[u32], marks: &mut [u
         &mut stack,
         0,
     );
-}
-
-// Marks the chapter of a call that is not refused, and answers the number of ones.
-fn run_accepted(alphabet: &[u32], table: &[u32], chapter: &[u32], marks: &mut [u32]) -> usize
-    requires { ⌜ runFault (now alphabet) (now table) (now chapter) (length (now marks)) ≡ 0 ⌝ }
-    ensures answer { λ r. ⌜ r ≡ cellsIn (flatten (nodeSets (now (alphabet .entry)) (now (table .entry)) (now (chapter .entry)))) ⌝ }
-    ensures marks { λ _. ⌜
-        now (marks .exit) ≡ runMarks (now (alphabet .entry)) (now (table .entry)) (now (chapter .entry)) (now (marks .entry))
-        ⌝ }
-{
-    mark_chapter(alphabet, table, chapter, marks);
-    count_cells(&marks[..chapter.len() * set_size(table)])
+    count_cells(&marks[..count * set_size(table)])
 }
 
 // Document 01's Run: marks the chapter, or refuses.
