@@ -10,7 +10,7 @@ use Rattle.words.specs.Word.{stateBelow}
 use Rattle.automaton.specs.Transition.{automatonOf, sourcesAt}
 use Rattle.automaton.specs.StateSet.{StateSet, allContained}
 use Rattle.tables.specs.Ready.{Prepared, Checked, RowsInside, childSets}
-use Rattle.tables.specs.Growth.{Stack, Search, Room, Put, Sources, Seeding, Seeded}
+use Rattle.tables.specs.Growth.{Stack, Search, Room, Put, Sources, Seeding, Searched}
 use Rattle.tables.proofs.ChainLaws.{Next, SymbolWord, nextWith, next-some, next-none, symbol-word}
 use Rattle.tables.proofs.WordLaws.{satisfied-symbol, symbol-below, symbol-reached, symbol-sources}
 use Rattle.tables.proofs.StackLaws.{stack-room, stack-put, put-length, put-present}
@@ -44,7 +44,7 @@ module _ {table index : List ℕ} {f : ℕ} {rs : List StateSet} {room i : ℕ} 
   key-below : f < 1280
   key-below = let small = s .small in omega arith
 
-  pub symbol-end : i ≤ 0 → Seeded table f rs r pending top
+  pub symbol-end : i ≤ 0 → Searched table f rs r pending top
   symbol-end h = record { stack = s .stack; settled = search-end (s .search) (next-none (s .at) (keyed (s .checked)) key-below (omega arith)) }
 
   module _ (h : 0 < i) where

@@ -86,15 +86,17 @@ pub record Seeding (table index : List ℕ) (symbol size : ℕ) (marks children 
   pub stack : Stack table r pending 0
   pub search : Search table symbol (childSets size marks children) symbol 0 r pending 0
 
-pub record Seeded (table : List ℕ) (f : ℕ) (rs : List StateSet) (r : StateSet) (pending : List ℕ) (top : ℕ) : Type 0 where
+-- after they were followed
+pub record Searched (table : List ℕ) (f : ℕ) (rs : List StateSet) (r : StateSet) (pending : List ℕ) (top : ℕ) : Type 0 where
   pub stack : Stack table r pending top
   pub settled : Settled table f rs r pending top
 
+-- a checked table with its index, and a set with its stack
 pub record Closing (table index : List ℕ) (r : StateSet) (pending : List ℕ) (top : ℕ) : Type 0 where
   pub checked : Checked table index
   pub stack : Stack table r pending top
 
--- the same with a state of the set
+-- the same, and a state of the set
 pub record ClosingAt (table index : List ℕ) (p : ℕ) (r : StateSet) (pending : List ℕ) (top : ℕ) : Type 0 where
   pub closing : Closing table index r pending top
   pub present : contains r p ≡ true
@@ -103,7 +105,7 @@ pub record ClosingAt (table index : List ℕ) (p : ℕ) (r : StateSet) (pending 
 abbrev pub work : List ℕ → StateSet → ℕ → ℕ
 work table r top = missing (automatonOf table .states) r + missing (automatonOf table .states) r + top
 
--- The words with this key from word `from` on were followed, and at every node where no other word was left none is now.
+-- Of whatever node the set is: where only the words with this key from word `from` on were left, none is left now.
 pub record Followed (table : List ℕ) (key from : ℕ) (r : StateSet) (pending : List ℕ) (top : ℕ) (t : StateSet) (pushed : List ℕ) (height : ℕ) : Type 0 where
   pub stack : Stack table t pushed height
   pub less : work table t height ≤ work table r top

@@ -7,7 +7,7 @@ ghost use Rattle.automaton.specs.Transition.{automatonOf, sourcesAt};
 ghost use Rattle.automaton.specs.StateSet.{allContained, stateSet};
 ghost use Rattle.operations.specs.Marks.{sizeOf};
 ghost use Rattle.tables.specs.Ready.{Prepared, childSets};
-ghost use Rattle.tables.specs.Growth.{Sources, Room, Put, Seeding, Seeded, Closing, ClosingAt, Followed};
+ghost use Rattle.tables.specs.Growth.{Sources, Room, Put, Seeding, Searched, Closing, ClosingAt, Followed};
 use super::head::STATE_RANGE;
 use super::head::set_size;
 use super::index::KEYS;
@@ -65,7 +65,7 @@ fn follow_symbol(
 ) -> usize
     requires { ⌜ Seeding (now table) (now index) symbol size (now marks) (now children) (now set) (now pending) ⌝ }
     ensures { λ r. ⌜
-        Seeded (now (table .entry)) symbol (childSets size (now (marks .entry)) (now (children .entry))) (now (set .exit)) (now (pending .exit)) r
+        Searched (now (table .entry)) symbol (childSets size (now (marks .entry)) (now (children .entry))) (now (set .exit)) (now (pending .exit)) r
         ⌝ }
 {
     let mut top = 0;
