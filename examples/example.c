@@ -25,7 +25,8 @@ static uint32_t list[7];
 static void print_hits(const char *name, uint32_t words, uint32_t elements)
 {
     uint32_t hits;
-    uint32_t status = haqbylur_list(alphabet, LENGTH(alphabet), table, words, elements, marks, LENGTH(marks), list, LENGTH(list), &hits);
+    uint32_t status = haqbylur_list(alphabet, LENGTH(alphabet), table, words, elements, marks, LENGTH(marks),
+                                    list, LENGTH(list), &hits);
     if (status != 0) {
         printf("%s refused %u\n", name, (unsigned)status);
         return;
@@ -44,7 +45,8 @@ int main(void)
         return 1;
     printf("compile words %u head 0x%08x\n", (unsigned)words, (unsigned)table[0]);
 
-    status = haqbylur_run(alphabet, LENGTH(alphabet), table, words, chapter, LENGTH(chapter), marks, LENGTH(marks), &elements, &cells);
+    status = haqbylur_run(alphabet, LENGTH(alphabet), table, words, chapter, LENGTH(chapter), marks, LENGTH(marks),
+                          &elements, &cells);
     if (status != 0)
         return 1;
     print_hits("run", words, elements);

@@ -18,10 +18,7 @@ pub struct Automaton {
 impl Automaton {
     /// Arranges a table that is known to be well-formed.
     pub fn arrange(alphabet: &[u32], table: &[u32]) -> Automaton {
-        let arities: Vec<usize> = alphabet
-            .iter()
-            .map(|word| words::read_entry(*word).expect("an alphabet entry"))
-            .collect();
+        let arities = words::arities(alphabet);
         let Some(TableWord::Head { states, .. }) = TableWord::read(table[0]) else {
             panic!("a table has a head");
         };
@@ -50,6 +47,19 @@ impl Automaton {
             }
         }
         arranged
+    }
+
+    /// Document 000's Algorithm 1, Skip-Epsilon: adds what epsilon transitions reach from the states of the front, which
+    /// are in the set, until there is no new state.
+    pub fn skip_epsilon(&self, set: &mut [u32], front: &mut Vec<usize>) {
+        while let Some(state) = front.pop() {
+            for to in &self.epsilons[state] {
+                if !has(set, *to) {
+                    put(set, *to);
+                    front.push(*to);
+                }
+            }
+        }
     }
 }
 

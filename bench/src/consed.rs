@@ -3,12 +3,13 @@
 //! each target at hand. The marks written are the same.
 
 use crate::automaton::{has, put, Automaton};
+use peer::words::count_ones;
 use std::collections::HashMap;
 use std::hash::{BuildHasherDefault, Hasher};
 
 /// Multiplies and turns; short keys need no more.
 #[derive(Default)]
-pub struct Fold(u64);
+struct Fold(u64);
 
 impl Hasher for Fold {
     fn finish(&self) -> u64 {
@@ -60,7 +61,7 @@ impl Sets {
         }
         let number = self.ones.len() as u32;
         self.words.extend_from_slice(set);
-        self.ones.push(set.iter().map(|word| word.count_ones()).sum());
+        self.ones.push(count_ones(set));
         self.numbers.insert(set.into(), number);
         number
     }
@@ -72,7 +73,8 @@ struct Step {
     closure: Vec<u32>,
 }
 
-/// A symbol and its children's set numbers, 13 bits each: a tree has at most 4,096 sets, and a symbol four children.
+/// A symbol and its children's set numbers, 13 bits each: a tree has at most 4,096 sets, and a symbol four children. All
+/// are counted from 1, so that keys of different lengths differ.
 type Key = u64;
 
 /// Marks a tree that is known to be well-formed; answers the number of marked states.
@@ -93,9 +95,9 @@ pub fn run(alphabet: &[u32], table: &[u32], tree: &[u32], sets: &mut [u32]) -> u
     for (word, own) in tree.iter().zip(sets.chunks_mut(width)) {
         let symbol = (word & 0xff) as usize;
         let first = roots.len() - automaton.arities[symbol];
-        let key = roots[first..]
-            .iter()
-            .fold(symbol as u64, |key, child| (key << 13) | (u64::from(*child) + 1));
+        let key = roots[first..].iter().fold(symbol as Key + 1, |key, child| {
+            key << 13 | (Key::from(*child) + 1)
+        });
         let number = match memo.get(&key) {
             Some(number) => *number,
             None => {
@@ -130,15 +132,7 @@ fn closures(automaton: &Automaton) -> Vec<Vec<Step>> {
     let closed = |target: usize| {
         let mut closure = vec![0; automaton.width];
         put(&mut closure, target);
-        let mut front = vec![target];
-        while let Some(state) = front.pop() {
-            for to in &automaton.epsilons[state] {
-                if !has(&closure, *to) {
-                    put(&mut closure, *to);
-                    front.push(*to);
-                }
-            }
-        }
+        automaton.skip_epsilon(&mut closure, &mut vec![target]);
         closure
     };
     automaton

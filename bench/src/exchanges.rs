@@ -1,42 +1,35 @@
 //! Exchange against a fresh Run: a leaf for another leaf and back, at places spread over the chapter, and a subtree of
 //! about 100 elements for another and back. After each pair the chapter and its marks are as before.
 
-use crate::library_run;
 use crate::measure::Measure;
 use crate::workloads::Workload;
-use peer::call::{Call, Matcher};
+use crate::{compare_accepted, library_run};
+use peer::call::Call;
 use peer::chance::Random;
 use peer::compare::Comparison;
 use peer::generate;
+use peer::library;
 use peer::marks::Table;
 use peer::model;
 use peer::postfix;
 use peer::words;
-use peer::{library, refusals};
 
-/// Two exchanges of which the second takes back the first.
+/// Two exchanges of which the second takes back the first: the element and the replacement of each.
 struct Pair {
-    node: usize,
-    there: Vec<u32>,
-    after: usize,
-    back: Vec<u32>,
+    there: (usize, Vec<u32>),
+    back: (usize, Vec<u32>),
 }
 
 fn sizes(work: &Workload) -> Vec<usize> {
-    let arities = model::arities(&work.alphabet);
-    let own: Vec<usize> = model::symbols(&work.tree)
-        .iter()
-        .map(|symbol| arities[*symbol])
-        .collect();
-    postfix::sizes(&postfix::children(&own).expect("one tree"))
+    let symbols = words::symbols(&work.tree);
+    postfix::sizes(&postfix::tree_children(&symbols, &words::arities(&work.alphabet)))
 }
 
-fn pair(work: &Workload, sizes: &[usize], node: usize, there: Vec<u32>) -> Pair {
+fn pair(work: &Workload, sizes: &[usize], node: usize, replacement: Vec<u32>) -> Pair {
+    let start = node + 1 - sizes[node];
     Pair {
-        node,
-        after: node + there.len() - sizes[node],
-        there,
-        back: work.tree[node + 1 - sizes[node]..=node].to_vec(),
+        back: (start + replacement.len() - 1, work.tree[start..=node].to_vec()),
+        there: (node, replacement),
     }
 }
 
@@ -64,60 +57,33 @@ fn subtree(work: &Workload) -> Vec<Pair> {
     let node = (0..sizes.len())
         .min_by_key(|node| sizes[*node].abs_diff(100))
         .expect("a node");
-    let there = generate::tree(&mut Random::new(100), &work.alphabet, sizes[node]);
-    vec![pair(work, &sizes, node, generate::tree_words(&there))]
+    let replacement = generate::tree(&mut Random::new(100), &work.alphabet, sizes[node]);
+    vec![pair(work, &sizes, node, words::node_words(&replacement))]
 }
 
-/// The chapter and its marks as Run leaves them.
-#[derive(Clone, PartialEq)]
-struct Held {
-    tree: Vec<u32>,
-    sets: Vec<u32>,
-}
-
-fn held(work: &Workload) -> Held {
+/// An Exchange on the chapter as Run leaves it; the element and the replacement are to be set.
+fn exchange(work: &Workload) -> Call {
     let read = Table::read(&work.alphabet, &work.table).expect("a table");
-    Held {
-        tree: work.tree.clone(),
-        sets: model::state_sets(&work.alphabet, &read, &work.tree),
-    }
-}
-
-fn call(work: &Workload, held: Held, count: usize, node: usize, replacement: &[u32]) -> Call {
-    Call::exchange(
-        &work.alphabet,
-        &work.table,
-        held.tree,
-        count,
-        held.sets,
-        node,
-        replacement,
-    )
+    let sets = model::state_sets(&work.alphabet, &read, &work.tree);
+    let tree = work.tree.clone();
+    Call::exchange(&work.alphabet, &work.table, tree, work.tree.len(), sets, 0, &[])
 }
 
 /// Compares both exchanges of every pair, and that the second takes back the first.
 pub fn compare(comparison: &mut Comparison, work: &Workload) {
-    let start = held(work);
-    for pair in leaves(work).iter().chain(&subtree(work)) {
-        let there = call(work, start.clone(), work.tree.len(), pair.node, &pair.there);
-        let accepted = refusals::faults(&there).is_empty();
-        comparison.check("a timed exchange is refused", accepted, || {
-            there.lent().to_string()
-        });
-        let answer = comparison.call(work.name, &there);
-        let between = Held {
-            tree: answer.lent.tree,
-            sets: answer.lent.sets,
-        };
-        let back = call(work, between, answer.values[0] as usize, pair.after, &pair.back);
-        let answer = comparison.call(work.name, &back);
-        let after = Held {
-            tree: answer.lent.tree,
-            sets: answer.lent.sets,
-        };
-        let as_before = after == start;
+    let start = exchange(work);
+    for pair in leaves(work).into_iter().chain(subtree(work)) {
+        let mut call = start.clone();
+        for (node, replacement) in [pair.there, pair.back] {
+            call.node = node;
+            call.replacement = replacement;
+            let answer = compare_accepted(comparison, work, &call);
+            call = answer.after;
+            call.count = answer.values[0] as usize;
+        }
+        let as_before = call.tree == start.tree && call.sets == start.sets;
         comparison.check("a timed exchange is not taken back", as_before, || {
-            back.lent().to_string()
+            call.to_string()
         });
     }
 }
@@ -129,53 +95,31 @@ struct Cost {
 }
 
 fn cost(measure: &Measure, work: &Workload, pairs: &[Pair]) -> Cost {
-    let mut matcher = library::matcher();
-    let mut held = held(work);
-    let calls = (2 * pairs.len()) as f64;
+    let mut call = exchange(work);
     let mut recomputed = 0;
     let seconds = measure.seconds(|| {
         recomputed = 0;
-        for pair in pairs {
-            let (count, there) = one(
-                &mut *matcher,
-                work,
-                &mut held,
-                work.tree.len(),
-                pair.node,
-                &pair.there,
-            );
-            let (_, back) = one(&mut *matcher, work, &mut held, count, pair.after, &pair.back);
-            recomputed += there + back;
+        for (node, replacement) in pairs.iter().flat_map(|pair| [&pair.there, &pair.back]) {
+            recomputed += perform(&mut call, *node, replacement);
         }
     });
+    let calls = (2 * pairs.len()) as f64;
     Cost {
         seconds: seconds / calls,
         recomputed: f64::from(recomputed) / calls,
     }
 }
 
-/// One exchange; answers the new count and the number worked out.
-fn one(
-    matcher: &mut dyn Matcher,
-    work: &Workload,
-    held: &mut Held,
-    count: usize,
-    node: usize,
-    replacement: &[u32],
-) -> (usize, u32) {
-    let (mut nodes, mut recomputed) = (0, 0);
-    matcher.exchange(
-        &work.alphabet,
-        &work.table,
-        &mut held.tree,
-        count,
-        &mut held.sets,
-        node,
-        replacement,
-        &mut nodes,
-        &mut recomputed,
-    );
-    (nodes as usize, recomputed)
+/// One exchange by the library; answers the number worked out.
+fn perform(call: &mut Call, node: usize, replacement: &[u32]) -> u32 {
+    call.node = node;
+    call.replacement.clear();
+    call.replacement.extend_from_slice(replacement);
+    let mut values = [0; 2];
+    library::perform(call, &mut values);
+    let [count, recomputed] = values;
+    call.count = count as usize;
+    recomputed
 }
 
 pub fn print(measure: &Measure, workloads: &[Workload]) {
@@ -187,9 +131,7 @@ pub fn print(measure: &Measure, workloads: &[Workload]) {
     );
     println!("|---|---|---|---|---|---|---|---|");
     for work in workloads {
-        let Some(run) = library_run(measure, work, &work.tree) else {
-            return;
-        };
+        let run = library_run(measure, work, &work.tree);
         let leaf = cost(measure, work, &leaves(work));
         let subtree = cost(measure, work, &subtree(work));
         println!(

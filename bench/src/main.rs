@@ -1,6 +1,6 @@
 //! Times Run, Exchange and Compile of the library beside two other simulations on the same inputs, after checking that
 //! all results are equal: `bench [MILLISECONDS]`, the length of one batch. Prints tables of times and ratios.
-//! Without the library (HAQBYLUR_LIB_DIR) the two simulations alone are timed.
+//! HAQBYLUR_LIB_DIR names the folder of the static library when this is built.
 
 mod automaton;
 mod consed;
@@ -10,11 +10,13 @@ mod textbook;
 mod workloads;
 
 use measure::Measure;
-use peer::call::{Call, Matcher};
+use peer::call::{Answer, Call};
 use peer::compare::Comparison;
 use peer::library;
 use peer::marks::Table;
 use peer::model;
+use peer::words;
+use std::hint::black_box;
 use std::process::ExitCode;
 use std::time::Duration;
 use workloads::Workload;
@@ -28,6 +30,10 @@ fn main() -> ExitCode {
             return ExitCode::from(2);
         }
     };
+    if !library::LINKED {
+        eprintln!("bench: the library is not linked (HAQBYLUR_LIB_DIR)");
+        return ExitCode::from(2);
+    }
     let measure = Measure {
         batch: Duration::from_millis(milliseconds),
         batches: 5,
@@ -41,14 +47,10 @@ fn main() -> ExitCode {
         measure.batches
     );
     runs(&measure, &workloads);
-    if library::LINKED {
-        println!();
-        exchanges::print(&measure, &workloads);
-        println!();
-        compiles(&measure, &workloads);
-    } else {
-        println!("\nThe library is not linked (HAQBYLUR_LIB_DIR): its columns are empty.");
-    }
+    println!();
+    exchanges::print(&measure, &workloads);
+    println!();
+    compiles(&measure, &workloads);
     ExitCode::SUCCESS
 }
 
@@ -61,7 +63,7 @@ fn results_are_equal(work: &Workload) -> bool {
     for tree in [&work.tree, &work.eighth] {
         let read = Table::read(&work.alphabet, &work.table).expect("a table");
         let expected = model::state_sets(&work.alphabet, &read, tree);
-        let cells: u32 = expected.iter().map(|word| word.count_ones()).sum();
+        let cells = words::count_ones(&expected);
         for (name, run) in SIMULATIONS {
             let mut sets = vec![u32::MAX; expected.len()];
             if run(&work.alphabet, &work.table, tree, &mut sets) != cells || sets != expected {
@@ -70,12 +72,21 @@ fn results_are_equal(work: &Workload) -> bool {
             }
         }
         let lent = vec![0; expected.len()];
-        comparison.call(work.name, &Call::run(&work.alphabet, &work.table, tree, lent));
+        let call = Call::run(&work.alphabet, &work.table, tree, lent);
+        compare_accepted(&mut comparison, work, &call);
     }
     let lent = vec![0; work.table.len()];
-    comparison.call(work.name, &Call::compile(&work.alphabet, &work.expression, lent));
+    let call = Call::compile(&work.alphabet, &work.expression, lent);
+    compare_accepted(&mut comparison, work, &call);
     exchanges::compare(&mut comparison, work);
     simulations_agree && comparison.differences == 0
+}
+
+/// Compares a call that is to be timed: a refusal would be timed for nothing.
+pub fn compare_accepted(comparison: &mut Comparison, work: &Workload, call: &Call) -> Answer {
+    let answer = comparison.call(work.name, call);
+    comparison.check("a timed call is refused", answer.number == 0, || call.to_string());
+    answer
 }
 
 type Simulation = fn(&[u32], &[u32], &[u32], &mut [u32]) -> u32;
@@ -84,33 +95,20 @@ const SIMULATIONS: [(&str, Simulation); 2] = [("textbook", textbook::run), ("has
 
 // Run.
 
-/// Seconds of one Run of the library; None where it is not linked.
-pub fn library_run(measure: &Measure, work: &Workload, tree: &[u32]) -> Option<f64> {
-    let mut matcher: Box<dyn Matcher> = library::LINKED.then(library::matcher)?;
-    let mut sets = vec![0; tree.len() * work.width()];
-    let (mut nodes, mut cells) = (0, 0);
-    Some(measure.seconds(|| {
-        matcher.run(
-            &work.alphabet,
-            &work.table,
-            tree,
-            &mut sets,
-            &mut nodes,
-            &mut cells,
-        );
-    }))
+/// Seconds of one call of the library.
+fn library_call(measure: &Measure, mut call: Call) -> f64 {
+    let mut values = [0; 2];
+    measure.seconds(|| library::perform(&mut call, &mut values))
 }
 
-fn simulated_run(measure: &Measure, work: &Workload, tree: &[u32], run: Simulation) -> f64 {
-    let mut sets = vec![0; tree.len() * work.width()];
-    measure.seconds(|| {
-        run(&work.alphabet, &work.table, tree, &mut sets);
-    })
+pub fn library_run(measure: &Measure, work: &Workload, tree: &[u32]) -> f64 {
+    let sets = vec![0; tree.len() * work.width()];
+    library_call(measure, Call::run(&work.alphabet, &work.table, tree, sets))
 }
 
-/// A figure, or a dash where the library is not linked.
-fn shown(figure: Option<f64>, places: usize) -> String {
-    figure.map_or("-".to_string(), |figure| format!("{figure:.places$}"))
+fn simulated_run(measure: &Measure, work: &Workload, run: Simulation) -> f64 {
+    let mut sets = vec![0; work.tree.len() * work.width()];
+    measure.seconds(|| run(&work.alphabet, &work.table, &work.tree, black_box(&mut sets)))
 }
 
 fn runs(measure: &Measure, workloads: &[Workload]) {
@@ -122,24 +120,21 @@ fn runs(measure: &Measure, workloads: &[Workload]) {
         let each = |seconds: f64| seconds * 1e9 / work.tree.len() as f64;
         let library = library_run(measure, work, &work.tree);
         let eighth = library_run(measure, work, &work.eighth);
-        let textbook = simulated_run(measure, work, &work.tree, textbook::run);
-        let consed = simulated_run(measure, work, &work.tree, consed::run);
+        let textbook = simulated_run(measure, work, textbook::run);
+        let consed = simulated_run(measure, work, consed::run);
         let elements = work.tree.len() as f64 / work.eighth.len() as f64;
-        let growth = library
-            .zip(eighth)
-            .map(|(whole, eighth)| whole / eighth * 8.0 / elements);
         println!(
-            "| {} | {} | {} | {} | {} | {:.0} | {} | {:.0} | {} | {} |",
+            "| {} | {} | {} | {} | {:.0} | {:.0} | {:.2} | {:.0} | {:.2} | {:.1} |",
             work.name,
             work.tree.len(),
             work.states(),
             work.table.len(),
-            shown(library.map(each), 0),
+            each(library),
             each(textbook),
-            shown(library.map(|own| own / textbook), 2),
+            library / textbook,
             each(consed),
-            shown(library.map(|own| own / consed), 2),
-            shown(growth, 1),
+            library / consed,
+            library / eighth * 8.0 / elements,
         );
     }
 }
@@ -150,13 +145,9 @@ fn compiles(measure: &Measure, workloads: &[Workload]) {
     println!("Compile: microseconds a call.\n");
     println!("| workload | rule words | table words | library |");
     println!("|---|---|---|---|");
-    let mut matcher = library::matcher();
     for work in workloads {
-        let mut table = vec![0; work.table.len()];
-        let mut words = 0;
-        let seconds = measure.seconds(|| {
-            matcher.compile(&work.alphabet, &work.expression, &mut table, &mut words);
-        });
+        let table = vec![0; work.table.len()];
+        let seconds = library_call(measure, Call::compile(&work.alphabet, &work.expression, table));
         println!(
             "| {} | {} | {} | {:.1} |",
             work.name,

@@ -1,5 +1,6 @@
 //! Time for one call: the best of several batches, each long enough for the clock.
 
+use std::hint::black_box;
 use std::time::{Duration, Instant};
 
 pub struct Measure {
@@ -8,14 +9,14 @@ pub struct Measure {
 }
 
 impl Measure {
-    /// Seconds for one call of `work`.
-    pub fn seconds(&self, mut work: impl FnMut()) -> f64 {
+    /// Seconds for one call of `work`, whose answer counts as used.
+    pub fn seconds<T>(&self, mut work: impl FnMut() -> T) -> f64 {
         let calls = self.calls(&mut work);
         let mut best = f64::INFINITY;
         for _ in 0..self.batches {
             let start = Instant::now();
             for _ in 0..calls {
-                work();
+                black_box(work());
             }
             best = best.min(start.elapsed().as_secs_f64() / f64::from(calls));
         }
@@ -23,12 +24,12 @@ impl Measure {
     }
 
     /// How many calls fill a batch.
-    fn calls(&self, work: &mut impl FnMut()) -> u32 {
+    fn calls<T>(&self, work: &mut impl FnMut() -> T) -> u32 {
         let mut calls = 1;
         loop {
             let start = Instant::now();
             for _ in 0..calls {
-                work();
+                black_box(work());
             }
             if start.elapsed() >= self.batch / 2 {
                 return calls;

@@ -3,6 +3,7 @@
 //! passed on the way and the final state stay in the set. Sets are bit vectors, written where the marks belong.
 
 use crate::automaton::{has, put, Automaton};
+use peer::words::count_ones;
 
 /// Marks a tree that is known to be well-formed; answers the number of marked states.
 pub fn run(alphabet: &[u32], table: &[u32], tree: &[u32], sets: &mut [u32]) -> u32 {
@@ -18,8 +19,8 @@ pub fn run(alphabet: &[u32], table: &[u32], tree: &[u32], sets: &mut [u32]) -> u
         let set = &mut rest[..width];
         set.fill(0);
         step(&automaton, symbol, &roots[first..], done, set, &mut front);
-        skip_epsilon(&automaton, set, &mut front);
-        cells += set.iter().map(|word| word.count_ones()).sum::<u32>();
+        automaton.skip_epsilon(set, &mut front);
+        cells += count_ones(set);
         roots.truncate(first);
         roots.push(node);
     }
@@ -40,18 +41,6 @@ fn step(
         if transition.children.iter().zip(children).all(fits) && !has(set, transition.target) {
             put(set, transition.target);
             front.push(transition.target);
-        }
-    }
-}
-
-/// Algorithm 1, Skip-Epsilon: follows epsilon transitions until there is no new state.
-fn skip_epsilon(automaton: &Automaton, set: &mut [u32], front: &mut Vec<usize>) {
-    while let Some(state) = front.pop() {
-        for to in &automaton.epsilons[state] {
-            if !has(set, *to) {
-                put(set, *to);
-                front.push(*to);
-            }
         }
     }
 }

@@ -4,6 +4,7 @@ use peer::automaton;
 use peer::cases::{examples, largest};
 use peer::chance::Random;
 use peer::generate;
+use peer::postfix;
 use peer::words::{self, entry_word, Operator, NODE_LIMIT};
 
 pub struct Workload {
@@ -25,8 +26,8 @@ impl Workload {
         let table = automaton::table(&alphabet, &expression).expect("an expression");
         Workload {
             name,
-            tree: generate::tree_words(&tree(&alphabet, NODE_LIMIT)),
-            eighth: generate::tree_words(&tree(&alphabet, NODE_LIMIT / 8)),
+            tree: words::node_words(&tree(&alphabet, NODE_LIMIT)),
+            eighth: words::node_words(&tree(&alphabet, NODE_LIMIT / 8)),
             alphabet,
             expression,
             table,
@@ -60,9 +61,7 @@ fn random_tree(alphabet: &[u32], nodes: usize) -> Vec<usize> {
 
 /// One g above the other, a d at the foot.
 fn comb(_: &[u32], nodes: usize) -> Vec<usize> {
-    let mut symbols = vec![examples::D];
-    symbols.resize(nodes, examples::G);
-    symbols
+    postfix::chain(examples::D, examples::G, nodes)
 }
 
 /// 60 words with entries and 4 constants over 16 constants, with every operator among them.
@@ -78,7 +77,7 @@ fn full() -> (Vec<u32>, Vec<u32>) {
             _ => Operator::Closure(place % words::CONSTANT_LIMIT),
         });
     }
-    (alphabet, examples::words(&operators))
+    (alphabet, words::operator_words(&operators))
 }
 
 // A book: sections with a title and a list of paragraphs, a paragraph being a list of runs.
@@ -109,7 +108,7 @@ fn book() -> (Vec<u32>, Vec<u32>) {
         Product(END),
         Symbol(PARAGRAPH),
     ];
-    (alphabet, examples::words(&operators))
+    (alphabet, words::operator_words(&operators))
 }
 
 fn book_tree(_: &[u32], nodes: usize) -> Vec<usize> {

@@ -1,7 +1,7 @@
-//! One call of an operation with all that is lent to it, and what the call leaves. Each slice is lent from the middle
-//! of a longer run of words, so a write outside it is seen.
+//! One call of an operation: all that is given to it, and what it answers and leaves. Every matcher takes calls in this
+//! form, so that they differ in what they do and in nothing else.
 
-use crate::guard::{Guarded, Hex};
+use crate::words::Hex;
 use std::fmt;
 
 #[derive(Clone, Copy, Debug, PartialEq, Eq, PartialOrd, Ord)]
@@ -21,47 +21,8 @@ impl Operation {
     ];
 }
 
-/// The operations as the library exports them: 0 is accepted, any other number is document 01's refusal.
-pub trait Matcher {
-    fn compile(&mut self, alphabet: &[u32], expression: &[u32], table: &mut [u32], words: &mut u32) -> u32;
-
-    fn run(
-        &mut self,
-        alphabet: &[u32],
-        table: &[u32],
-        tree: &[u32],
-        sets: &mut [u32],
-        nodes: &mut u32,
-        cells: &mut u32,
-    ) -> u32;
-
-    fn list(
-        &mut self,
-        alphabet: &[u32],
-        table: &[u32],
-        count: usize,
-        sets: &[u32],
-        list: &mut [u32],
-        matches: &mut u32,
-    ) -> u32;
-
-    #[allow(clippy::too_many_arguments)]
-    fn exchange(
-        &mut self,
-        alphabet: &[u32],
-        table: &[u32],
-        tree: &mut [u32],
-        count: usize,
-        sets: &mut [u32],
-        node: usize,
-        replacement: &[u32],
-        nodes: &mut u32,
-        recomputed: &mut u32,
-    ) -> u32;
-}
-
-/// The arguments of a call; those that its operation does not take are empty.
-#[derive(Clone)]
+/// The arguments of a call; those that its operation does not take are empty or 0.
+#[derive(Clone, PartialEq, Eq)]
 pub struct Call {
     pub operation: Operation,
     pub alphabet: Vec<u32>,
@@ -75,30 +36,26 @@ pub struct Call {
     pub list: Vec<u32>,
 }
 
-/// The number answered, the values written behind the out-parameters, and every lent slice afterwards.
+/// What a call answers and leaves.
 #[derive(Clone, PartialEq, Eq)]
 pub struct Answer {
+    /// 0 where the call is accepted, otherwise document 01's number of the refusal.
     pub number: u32,
+    /// What stands behind the out-parameters.
     pub values: [u32; 2],
-    pub lent: Lent,
-}
-
-/// The lent slices of a call, in document 01's order.
-#[derive(Clone, PartialEq, Eq)]
-pub struct Lent {
-    pub alphabet: Vec<u32>,
-    pub expression: Vec<u32>,
-    pub table: Vec<u32>,
-    pub tree: Vec<u32>,
-    pub sets: Vec<u32>,
-    pub replacement: Vec<u32>,
-    pub list: Vec<u32>,
+    /// The call with its slices as they are afterwards.
+    pub after: Call,
     /// Whether the words around each slice are as they were.
     pub surroundings_kept: bool,
 }
 
 /// What stands behind an out-parameter before a call.
-pub const UNWRITTEN: [u32; 2] = [0xcafe_0001, 0xcafe_0002];
+const UNWRITTEN: [u32; 2] = [0xcafe_0001, 0xcafe_0002];
+
+pub trait Matcher {
+    /// Performs the call on copies of its slices.
+    fn answer(&mut self, call: &Call) -> Answer;
+}
 
 impl Call {
     fn empty(operation: Operation, alphabet: &[u32]) -> Call {
@@ -163,83 +120,9 @@ impl Call {
         }
     }
 
-    /// Performs the call on copies of its slices.
-    pub fn perform(&self, matcher: &mut dyn Matcher) -> Answer {
-        let mut alphabet = Guarded::around(&self.alphabet);
-        let mut expression = Guarded::around(&self.expression);
-        let mut table = Guarded::around(&self.table);
-        let mut tree = Guarded::around(&self.tree);
-        let mut sets = Guarded::around(&self.sets);
-        let mut replacement = Guarded::around(&self.replacement);
-        let mut list = Guarded::around(&self.list);
-        let mut values = UNWRITTEN;
-        let [first, second] = &mut values;
-        let number = match self.operation {
-            Operation::Compile => matcher.compile(alphabet.slice(), expression.slice(), table.slice(), first),
-            Operation::Run => matcher.run(
-                alphabet.slice(),
-                table.slice(),
-                tree.slice(),
-                sets.slice(),
-                first,
-                second,
-            ),
-            Operation::List => matcher.list(
-                alphabet.slice(),
-                table.slice(),
-                self.count,
-                sets.slice(),
-                list.slice(),
-                first,
-            ),
-            Operation::Exchange => matcher.exchange(
-                alphabet.slice(),
-                table.slice(),
-                tree.slice(),
-                self.count,
-                sets.slice(),
-                self.node,
-                replacement.slice(),
-                first,
-                second,
-            ),
-        };
-        let all = [&alphabet, &expression, &table, &tree, &sets, &replacement, &list];
-        let surroundings_kept = all.iter().all(|slice| slice.surroundings_kept());
-        Answer {
-            number,
-            values,
-            lent: Lent {
-                alphabet: alphabet.content(),
-                expression: expression.content(),
-                table: table.content(),
-                tree: tree.content(),
-                sets: sets.content(),
-                replacement: replacement.content(),
-                list: list.content(),
-                surroundings_kept,
-            },
-        }
-    }
-
-    /// The lent slices before the call.
-    pub fn lent(&self) -> Lent {
-        Lent {
-            alphabet: self.alphabet.clone(),
-            expression: self.expression.clone(),
-            table: self.table.clone(),
-            tree: self.tree.clone(),
-            sets: self.sets.clone(),
-            replacement: self.replacement.clone(),
-            list: self.list.clone(),
-            surroundings_kept: true,
-        }
-    }
-}
-
-impl fmt::Display for Lent {
-    fn fmt(&self, f: &mut fmt::Formatter<'_>) -> fmt::Result {
-        let slices = [
+    /// The slices with document 01's names, in its order.
+    pub fn slices(&self) -> [(&'static str, &Vec<u32>); 7] {
+        [
             ("alphabet", &self.alphabet),
             ("rule", &self.expression),
             ("table", &self.table),
@@ -247,12 +130,58 @@ impl fmt::Display for Lent {
             ("marks", &self.sets),
             ("replacement", &self.replacement),
             ("list", &self.list),
-        ];
-        for (name, words) in slices {
+        ]
+    }
+
+    /// The same slices to be lent.
+    pub fn slices_mut(&mut self) -> [&mut Vec<u32>; 7] {
+        [
+            &mut self.alphabet,
+            &mut self.expression,
+            &mut self.table,
+            &mut self.tree,
+            &mut self.sets,
+            &mut self.replacement,
+            &mut self.list,
+        ]
+    }
+}
+
+/// The whole call in hexadecimal, so that it can be replayed.
+impl fmt::Display for Call {
+    fn fmt(&self, f: &mut fmt::Formatter<'_>) -> fmt::Result {
+        write!(
+            f,
+            "    {:?} count {} element {}",
+            self.operation, self.count, self.node
+        )?;
+        for (name, words) in self.slices() {
             if !words.is_empty() {
-                writeln!(f, "    {name} {}", Hex(words))?;
+                write!(f, "\n    {name} {}", Hex(words))?;
             }
         }
         Ok(())
+    }
+}
+
+impl Answer {
+    /// The answer with this number of a call that writes nothing.
+    pub fn unwritten(number: u32, call: &Call) -> Answer {
+        Answer {
+            number,
+            values: UNWRITTEN,
+            after: call.clone(),
+            surroundings_kept: true,
+        }
+    }
+
+    /// The table that an accepted Compile wrote.
+    pub fn table(&self) -> &[u32] {
+        &self.after.table[..self.values[0] as usize]
+    }
+
+    /// The hits that an accepted List wrote.
+    pub fn hits(&self) -> &[u32] {
+        &self.after.list[..self.values[0] as usize]
     }
 }

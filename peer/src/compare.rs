@@ -1,7 +1,7 @@
 //! The comparison: each call is made of the model and of the compared matcher, and everything the two leave must be
 //! equal. A difference is printed with the whole input in hexadecimal, so that it can be replayed.
 
-use crate::call::{Answer, Call, Lent, Matcher, Operation, UNWRITTEN};
+use crate::call::{Answer, Call, Matcher, Operation};
 use crate::chance::Random;
 use crate::model::Model;
 use crate::refusals;
@@ -58,26 +58,29 @@ impl Comparison {
 
     /// Compares one call. `wrong` says what would be wrong if they differed. Answers what the model answers.
     pub fn call(&mut self, wrong: &str, call: &Call) -> Answer {
-        self.cases += 1;
-        let expected = call.perform(&mut Model);
-        let found = call.perform(&mut *self.matcher);
+        let expected = Model.answer(call);
+        let found = self.matcher.answer(call);
         let counts = self.numbers.entry(call.operation).or_default();
         *counts.entry(expected.number).or_default() += 1;
-        let before = call.lent();
-        if found != expected {
-            let what = difference(&expected, &found);
-            self.differ(wrong, call, &before, &what);
-        } else if found.number != 0 && (found.lent != before || found.values != UNWRITTEN) {
-            self.differ(wrong, call, &before, "a refused call changed a lent word");
-        }
+        self.check(wrong, found == expected, || {
+            format!("    {}\n{call}", difference(&expected, &found))
+        });
         expected
     }
 
-    /// Checks a statement that needs no call, or that follows calls already compared.
+    /// Checks a statement. `wrong` says what would be wrong if it did not hold, `input` of what it was said.
     pub fn check(&mut self, wrong: &str, holds: bool, input: impl FnOnce() -> String) {
         self.cases += 1;
         if !holds {
-            self.report(&format!("{wrong}\n{}", input()));
+            self.differences += 1;
+            if !self.quiet && self.differences <= PRINTED {
+                println!(
+                    "difference {}: {}{wrong}\n{}",
+                    self.differences,
+                    self.case,
+                    input()
+                );
+            }
         }
     }
 
@@ -91,21 +94,6 @@ impl Comparison {
             }
         }
     }
-
-    fn differ(&mut self, wrong: &str, call: &Call, before: &Lent, what: &str) {
-        let text = format!(
-            "{wrong}: {:?} count {} element {}: {what}\n{before}",
-            call.operation, call.count, call.node
-        );
-        self.report(&text);
-    }
-
-    fn report(&mut self, text: &str) {
-        self.differences += 1;
-        if !self.quiet && self.differences <= PRINTED {
-            println!("difference {}: {}{text}", self.differences, self.case);
-        }
-    }
 }
 
 /// The first thing in which two answers differ.
@@ -116,19 +104,7 @@ fn difference(expected: &Answer, found: &Answer) -> String {
     if expected.values != found.values {
         return format!("values {:x?} instead of {:x?}", found.values, expected.values);
     }
-    if !found.lent.surroundings_kept {
-        return "a word outside the lent slices changed".to_string();
-    }
-    let slices = [
-        ("alphabet", &expected.lent.alphabet, &found.lent.alphabet),
-        ("rule", &expected.lent.expression, &found.lent.expression),
-        ("table", &expected.lent.table, &found.lent.table),
-        ("chapter", &expected.lent.tree, &found.lent.tree),
-        ("marks", &expected.lent.sets, &found.lent.sets),
-        ("replacement", &expected.lent.replacement, &found.lent.replacement),
-        ("list", &expected.lent.list, &found.lent.list),
-    ];
-    for (name, expected, found) in slices {
+    for ((name, expected), (_, found)) in expected.after.slices().into_iter().zip(found.after.slices()) {
         if let Some(place) = (0..expected.len()).find(|place| expected[*place] != found[*place]) {
             return format!(
                 "{name} word {place} is {:08x} instead of {:08x}",
@@ -136,5 +112,5 @@ fn difference(expected: &Answer, found: &Answer) -> String {
             );
         }
     }
-    "no difference in any slice".to_string()
+    "a word outside the lent slices changed".to_string()
 }

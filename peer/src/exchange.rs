@@ -17,14 +17,10 @@ pub struct Exchanged {
     pub recomputed: usize,
 }
 
-/// The symbols before and behind the subtree of `node` stay in order around the replacement.
-pub fn splice<T: Clone>(words: &[T], node: usize, size: usize, replacement: &[T]) -> Vec<T> {
-    [
-        &words[..=node][..node + 1 - size],
-        replacement,
-        &words[node + 1..],
-    ]
-    .concat()
+/// What stands before and behind the subtree of `node`, which has this size, stays in order around the replacement.
+pub fn splice<T: Clone>(all: &[T], node: usize, size: usize, replacement: &[T]) -> Vec<T> {
+    let end = node + 1;
+    [&all[..end - size], replacement, &all[end..]].concat()
 }
 
 pub fn exchange(
@@ -34,13 +30,10 @@ pub fn exchange(
     node: usize,
     replacement: &[usize],
 ) -> Exchanged {
-    let arities_of =
-        |symbols: &[usize]| -> Vec<usize> { symbols.iter().map(|symbol| arities[*symbol]).collect() };
-    let old_children = postfix::children(&arities_of(&old.symbols)).expect("one tree");
-    let size = postfix::sizes(&old_children)[node];
+    let size = postfix::sizes(&postfix::tree_children(&old.symbols, arities))[node];
 
     let symbols = splice(&old.symbols, node, size, replacement);
-    let children = postfix::children(&arities_of(&symbols)).expect("one tree");
+    let children = postfix::tree_children(&symbols, arities);
     let fresh: Vec<Vec<u32>> = table
         .reached_by_all(replacement, arities)
         .iter()

@@ -1,11 +1,8 @@
-//! Slices lent from the middle of a longer run of words, so that a write outside them is seen; and words in
-//! hexadecimal, so that a call can be replayed.
+//! Slices lent from the middle of a longer run of words, so that a write outside them is seen.
 
-use std::fmt;
-
-/// A slice of words within a longer run of words.
+/// A slice of words within a longer run of words, which begins and ends with guard words.
 pub struct Guarded {
-    words: Vec<u32>,
+    pub words: Vec<u32>,
 }
 
 const GUARD: usize = 8;
@@ -36,18 +33,5 @@ impl Guarded {
         (0..GUARD).all(|place| {
             self.words[place] == Guarded::guard(place) && self.words[end + place] == Guarded::guard(place)
         })
-    }
-}
-
-/// Words in hexadecimal, for replaying a difference.
-pub struct Hex<'a>(pub &'a [u32]);
-
-impl fmt::Display for Hex<'_> {
-    fn fmt(&self, f: &mut fmt::Formatter<'_>) -> fmt::Result {
-        write!(f, "({})", self.0.len())?;
-        for word in self.0 {
-            write!(f, " {word:08x}")?;
-        }
-        Ok(())
     }
 }

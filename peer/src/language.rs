@@ -34,7 +34,8 @@ impl Expression {
         })
     }
 
-    fn whole(&self) -> usize {
+    /// The place of the whole expression.
+    pub fn whole(&self) -> usize {
         self.operators.len() - 1
     }
 }

@@ -2,13 +2,16 @@
 //!
 //! The model is written from document 01 alone: `language` decides membership by substitution, without an automaton;
 //! `refusals` has every refusal in order; `automaton`, `marks` and `exchange` recompute the words that the operations
-//! write. `compare` makes each call of the model and of the library, and `cases` has the inputs.
+//! write, and `marklist` the text that the program prints. `compare` makes each call of the model and of the library,
+//! `driver` runs the program, and `cases` has the inputs.
 
 pub mod automaton;
 pub mod call;
 pub mod cases;
 pub mod chance;
 pub mod compare;
+pub mod draw;
+pub mod driver;
 pub mod exchange;
 pub mod generate;
 pub mod guard;

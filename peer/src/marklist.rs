@@ -1,12 +1,13 @@
 //! The program `marklist` as document 01 gives it: the bytes it reads, and the text it prints for them.
 
-use crate::call::Matcher;
-use crate::model::{self, Model};
+use crate::automaton;
+use crate::call::{Answer, Call, Matcher};
+use crate::model::Model;
 use crate::postfix;
 use crate::words;
 
 /// The most elements that the program takes.
-pub const PROGRAM_NODES: usize = 256;
+const PROGRAM_NODES: usize = 256;
 
 /// The three counts, then alphabet, rule and chapter.
 pub fn encode(alphabet: &[u32], expression: &[u32], tree: &[u32]) -> Vec<u8> {
@@ -33,37 +34,49 @@ fn decode(bytes: &[u8]) -> Option<[Vec<u32>; 3]> {
 
 /// What the program prints for these bytes.
 pub fn expected(bytes: &[u8]) -> String {
-    match decode(bytes) {
-        None => "refused 0\n".to_string(),
-        Some([alphabet, expression, tree]) => match matched(&alphabet, &expression, &tree) {
-            Err(number) => format!("refused {number}\n"),
-            Ok(text) => text,
-        },
-    }
+    let printed = match decode(bytes) {
+        None => Err(0),
+        Some([alphabet, expression, tree]) => matched(&alphabet, &expression, &tree),
+    };
+    printed.unwrap_or_else(|number| format!("refused {number}\n"))
 }
 
+/// The text for a rule and a chapter that are accepted, otherwise the refusal.
 fn matched(alphabet: &[u32], expression: &[u32], tree: &[u32]) -> Result<String, u32> {
-    let accepted = |number: u32| if number == 0 { Ok(()) } else { Err(number) };
-    let [mut length, mut nodes, mut cells, mut matches] = [0; 4];
-    let mut table = vec![0; words::TABLE_LIMIT];
-    accepted(Model.compile(alphabet, expression, &mut table, &mut length))?;
-    table.truncate(length as usize);
+    let compiled = accepted(&Call::compile(alphabet, expression, vec![0; words::TABLE_LIMIT]))?;
     if tree.len() > PROGRAM_NODES {
         return Err(9);
     }
-    let mut sets = vec![0; PROGRAM_NODES * 32];
-    accepted(Model.run(alphabet, &table, tree, &mut sets, &mut nodes, &mut cells))?;
-    let mut list = vec![0; PROGRAM_NODES];
-    accepted(Model.list(alphabet, &table, tree.len(), &sets, &mut list, &mut matches))?;
-    let symbols = model::symbols(tree);
-    let arities = model::arities(alphabet);
-    let own: Vec<usize> = symbols.iter().map(|symbol| arities[*symbol]).collect();
-    let sizes = postfix::sizes(&postfix::children(&own).expect("one tree"));
-    let states = table[0] >> 10 & 0x7ff;
-    let mut text = format!("nodes {nodes} states {states} hits {matches}\n");
-    for node in &list[..matches as usize] {
-        let node = *node as usize;
+    let table = compiled.table();
+    let marked = accepted(&Call::run(alphabet, table, tree, vec![0; PROGRAM_NODES * 32]))?;
+    let sets = &marked.after.sets;
+    let listed = accepted(&Call::list(
+        alphabet,
+        table,
+        tree.len(),
+        sets,
+        vec![0; tree.len()],
+    ))?;
+
+    let symbols = words::symbols(tree);
+    let sizes = postfix::sizes(&postfix::tree_children(&symbols, &words::arities(alphabet)));
+    let states = automaton::states(alphabet, expression);
+    let mut text = format!(
+        "nodes {} states {states} hits {}\n",
+        tree.len(),
+        listed.hits().len()
+    );
+    for node in listed.hits().iter().map(|node| *node as usize) {
         text += &format!("{node} {} {}\n", symbols[node], sizes[node]);
     }
     Ok(text)
+}
+
+/// What the model answers of a call, or the number by which it refuses.
+fn accepted(call: &Call) -> Result<Answer, u32> {
+    let answer = Model.answer(call);
+    match answer.number {
+        0 => Ok(answer),
+        number => Err(number),
+    }
 }

@@ -92,11 +92,9 @@ impl Table {
 
     /// The state sets of all nodes of a tree of symbols.
     pub fn reached_by_all(&self, tree: &[usize], arities: &[usize]) -> Vec<StateSet> {
-        let tree_arities: Vec<usize> = tree.iter().map(|symbol| arities[*symbol]).collect();
-        let children = postfix::children(&tree_arities).expect("one tree");
         let mut sets: Vec<StateSet> = Vec::with_capacity(tree.len());
-        for (node, symbol) in tree.iter().enumerate() {
-            let below: Vec<&StateSet> = children[node].iter().map(|child| &sets[*child]).collect();
+        for (symbol, children) in tree.iter().zip(postfix::tree_children(tree, arities)) {
+            let below: Vec<&StateSet> = children.iter().map(|child| &sets[*child]).collect();
             let set = self.reached(*symbol, &below);
             sets.push(set);
         }
@@ -116,5 +114,10 @@ impl Table {
         (0..self.states)
             .map(|state| words[state / 32] >> (state % 32) & 1 == 1)
             .collect()
+    }
+
+    /// Whether stored words mark the final state (document 01: a hit).
+    pub fn is_match(&self, words: &[u32]) -> bool {
+        self.stored_set(words)[self.accepting]
     }
 }

@@ -1,7 +1,7 @@
 //! The four operations as document 01 gives them: the first fault, or else what the definitions write.
 
 use crate::automaton;
-use crate::call::{Call, Matcher};
+use crate::call::{Answer, Call, Matcher, Operation};
 use crate::exchange::{exchange, MarkedTree};
 use crate::marks::Table;
 use crate::refusals;
@@ -9,145 +9,85 @@ use crate::words;
 
 pub struct Model;
 
-/// The arities of an alphabet's symbols.
-pub fn arities(alphabet: &[u32]) -> Vec<usize> {
-    (0..alphabet.len())
-        .map(|symbol| words::arity(alphabet, symbol).expect("an alphabet entry"))
-        .collect()
-}
-
-/// The symbols of a tree's words.
-pub fn symbols(tree: &[u32]) -> Vec<usize> {
-    tree.iter()
-        .map(|word| words::read_node(*word).expect("an element"))
-        .collect()
-}
-
-fn refusal(call: &Call) -> Option<u32> {
-    refusals::faults(call).first().copied()
-}
-
-fn count_ones(words: &[u32]) -> u32 {
-    words.iter().map(|word| word.count_ones()).sum()
+impl Matcher for Model {
+    fn answer(&mut self, call: &Call) -> Answer {
+        if let Some(number) = refusals::faults(call).first() {
+            return Answer::unwritten(*number, call);
+        }
+        let mut answer = Answer::unwritten(0, call);
+        match call.operation {
+            Operation::Compile => write_table(&mut answer),
+            Operation::Run => write_sets(&mut answer),
+            Operation::List => write_matches(&mut answer),
+            Operation::Exchange => write_exchange(&mut answer),
+        }
+        answer
+    }
 }
 
 /// The state set words that Run writes for a tree, those of the first node first.
 pub fn state_sets(alphabet: &[u32], table: &Table, tree: &[u32]) -> Vec<u32> {
     table
-        .reached_by_all(&symbols(tree), &arities(alphabet))
+        .reached_by_all(&words::symbols(tree), &words::arities(alphabet))
         .iter()
         .flat_map(|set| table.set_words(set))
         .collect()
 }
 
-impl Matcher for Model {
-    fn compile(&mut self, alphabet: &[u32], expression: &[u32], table: &mut [u32], words: &mut u32) -> u32 {
-        let call = Call::compile(alphabet, expression, table.to_vec());
-        if let Some(number) = refusal(&call) {
-            return number;
-        }
-        let written = automaton::table(alphabet, expression).expect("an expression");
-        table[..written.len()].copy_from_slice(&written);
-        *words = written.len() as u32;
-        0
-    }
+fn write_table(answer: &mut Answer) {
+    let call = &mut answer.after;
+    let table = automaton::table(&call.alphabet, &call.expression).expect("an expression");
+    call.table[..table.len()].copy_from_slice(&table);
+    answer.values[0] = table.len() as u32;
+}
 
-    fn run(
-        &mut self,
-        alphabet: &[u32],
-        table: &[u32],
-        tree: &[u32],
-        sets: &mut [u32],
-        nodes: &mut u32,
-        cells: &mut u32,
-    ) -> u32 {
-        let call = Call::run(alphabet, table, tree, sets.to_vec());
-        if let Some(number) = refusal(&call) {
-            return number;
-        }
-        let table = Table::read(alphabet, table).expect("a table");
-        let written = state_sets(alphabet, &table, tree);
-        sets[..written.len()].copy_from_slice(&written);
-        *nodes = tree.len() as u32;
-        *cells = count_ones(&written);
-        0
-    }
+fn write_sets(answer: &mut Answer) {
+    let call = &mut answer.after;
+    let table = Table::read(&call.alphabet, &call.table).expect("a table");
+    let sets = state_sets(&call.alphabet, &table, &call.tree);
+    call.sets[..sets.len()].copy_from_slice(&sets);
+    answer.values = [call.tree.len() as u32, words::count_ones(&sets)];
+}
 
-    fn list(
-        &mut self,
-        alphabet: &[u32],
-        table: &[u32],
-        count: usize,
-        sets: &[u32],
-        list: &mut [u32],
-        matches: &mut u32,
-    ) -> u32 {
-        let call = Call::list(alphabet, table, count, sets, list.to_vec());
-        if let Some(number) = refusal(&call) {
-            return number;
-        }
-        let table = Table::read(alphabet, table).expect("a table");
-        let hits: Vec<u32> = (0..count)
-            .filter(|node| {
-                let own = &sets[node * table.width()..(node + 1) * table.width()];
-                table.stored_set(own)[table.accepting]
-            })
-            .map(|node| node as u32)
-            .collect();
-        list[..hits.len()].copy_from_slice(&hits);
-        *matches = hits.len() as u32;
-        0
-    }
+fn write_matches(answer: &mut Answer) {
+    let call = &mut answer.after;
+    let table = Table::read(&call.alphabet, &call.table).expect("a table");
+    let sets = call.sets.chunks(table.width());
+    let matches: Vec<u32> = (0..call.count as u32)
+        .zip(sets)
+        .filter(|(_, own)| table.is_match(own))
+        .map(|(node, _)| node)
+        .collect();
+    call.list[..matches.len()].copy_from_slice(&matches);
+    answer.values[0] = matches.len() as u32;
+}
 
-    fn exchange(
-        &mut self,
-        alphabet: &[u32],
-        table: &[u32],
-        tree: &mut [u32],
-        count: usize,
-        sets: &mut [u32],
-        node: usize,
-        replacement: &[u32],
-        nodes: &mut u32,
-        recomputed: &mut u32,
-    ) -> u32 {
-        let call = Call::exchange(
-            alphabet,
-            table,
-            tree.to_vec(),
-            count,
-            sets.to_vec(),
-            node,
-            replacement,
-        );
-        if let Some(number) = refusal(&call) {
-            return number;
-        }
-        let table = Table::read(alphabet, table).expect("a table");
-        let width = table.width();
-        let old = MarkedTree {
-            symbols: symbols(&tree[..count]),
-            rows: sets[..count * width].chunks(width).map(<[u32]>::to_vec).collect(),
-        };
-        let new = exchange(&table, &arities(alphabet), &old, node, &symbols(replacement));
-        let new_tree: Vec<u32> = new
-            .tree
-            .symbols
-            .iter()
-            .map(|own| words::node_word(*own))
-            .collect();
-        write_used(tree, count, &new_tree);
-        write_used(sets, count * width, &new.tree.rows.concat());
-        *nodes = new_tree.len() as u32;
-        *recomputed = new.recomputed as u32;
-        0
-    }
+fn write_exchange(answer: &mut Answer) {
+    let call = &mut answer.after;
+    let table = Table::read(&call.alphabet, &call.table).expect("a table");
+    let (used, used_sets) = (call.count, call.count * table.width());
+    let rows = call.sets[..used_sets].chunks(table.width());
+    let old = MarkedTree {
+        symbols: words::symbols(&call.tree[..used]),
+        rows: rows.map(<[u32]>::to_vec).collect(),
+    };
+    let replacement = words::symbols(&call.replacement);
+    let new = exchange(
+        &table,
+        &words::arities(&call.alphabet),
+        &old,
+        call.node,
+        &replacement,
+    );
+    overwrite(&mut call.tree, used, &words::node_words(&new.tree.symbols));
+    overwrite(&mut call.sets, used_sets, &new.tree.rows.concat());
+    answer.values = [new.tree.symbols.len() as u32, new.recomputed as u32];
 }
 
 /// Words that fall out of use become zero; words beyond both lengths are untouched.
-fn write_used(slice: &mut [u32], old: usize, words: &[u32]) {
+fn overwrite(slice: &mut [u32], used: usize, words: &[u32]) {
     slice[..words.len()].copy_from_slice(words);
-    if words.len() < old {
-        slice[words.len()..old].fill(0);
+    if words.len() < used {
+        slice[words.len()..used].fill(0);
     }
 }

@@ -13,6 +13,12 @@ pub fn children(arities: &[usize]) -> Option<Vec<Vec<usize>>> {
     (roots.len() == 1).then_some(all)
 }
 
+/// The children of every node of one tree of symbols that have these arities.
+pub fn tree_children(tree: &[usize], arities: &[usize]) -> Vec<Vec<usize>> {
+    let own: Vec<usize> = tree.iter().map(|symbol| arities[*symbol]).collect();
+    children(&own).expect("one tree")
+}
+
 /// How many words the subtree of each word has.
 pub fn sizes(children: &[Vec<usize>]) -> Vec<usize> {
     let mut sizes: Vec<usize> = Vec::with_capacity(children.len());
@@ -29,4 +35,13 @@ pub fn ancestors(children: &[Vec<usize>], word: usize) -> Vec<usize> {
     (word + 1..children.len())
         .filter(|above| above + 1 - sizes[*above] <= word)
         .collect()
+}
+
+/// One word above the other, each with one child, over a leaf.
+pub fn chain<T: Clone>(leaf: T, above: T, length: usize) -> Vec<T> {
+    let mut words = vec![above; length];
+    if let Some(first) = words.first_mut() {
+        *first = leaf;
+    }
+    words
 }

@@ -1,6 +1,8 @@
 //! The 32-bit words of document 01: the kind in bits 31..28, named fields below it, every other bit zero.
 //! A word is of a kind exactly if writing what was read from it gives the same word again.
 
+use std::fmt;
+
 pub const SYMBOL_LIMIT: usize = 64;
 pub const CONSTANT_LIMIT: usize = 16;
 pub const ARITY_LIMIT: usize = 4;
@@ -109,7 +111,7 @@ pub fn read_node(word: u32) -> Option<usize> {
     (node_word(symbol) == word).then_some(symbol)
 }
 
-/// The arity of a symbol, None for an unknown one.
+/// The arity of a symbol; None for an unknown one.
 pub fn arity(alphabet: &[u32], symbol: usize) -> Option<usize> {
     read_entry(*alphabet.get(symbol)?)
 }
@@ -121,6 +123,31 @@ pub fn constants(alphabet: &[u32]) -> Vec<usize> {
         .collect()
 }
 
+/// The arities of an alphabet's symbols.
+pub fn arities(alphabet: &[u32]) -> Vec<usize> {
+    alphabet
+        .iter()
+        .map(|word| read_entry(*word).expect("an alphabet entry"))
+        .collect()
+}
+
+/// The symbols of a tree's words.
+pub fn symbols(tree: &[u32]) -> Vec<usize> {
+    tree.iter()
+        .map(|word| read_node(*word).expect("an element"))
+        .collect()
+}
+
+/// The words of a tree of symbols.
+pub fn node_words(tree: &[usize]) -> Vec<u32> {
+    tree.iter().map(|symbol| node_word(*symbol)).collect()
+}
+
+/// The words of an expression.
+pub fn operator_words(expression: &[Operator]) -> Vec<u32> {
+    expression.iter().map(|operator| operator.word()).collect()
+}
+
 /// How many sub-expressions an expression word takes; None where the alphabet does not say.
 pub fn operands(alphabet: &[u32], word: u32) -> Option<usize> {
     match Operator::read(word)? {
@@ -128,5 +155,22 @@ pub fn operands(alphabet: &[u32], word: u32) -> Option<usize> {
         Operator::Empty => Some(0),
         Operator::Union | Operator::Product(_) => Some(2),
         Operator::Closure(_) => Some(1),
+    }
+}
+
+pub fn count_ones(words: &[u32]) -> u32 {
+    words.iter().map(|word| word.count_ones()).sum()
+}
+
+/// Words in hexadecimal, for replaying a difference.
+pub struct Hex<'a>(pub &'a [u32]);
+
+impl fmt::Display for Hex<'_> {
+    fn fmt(&self, f: &mut fmt::Formatter<'_>) -> fmt::Result {
+        write!(f, "({})", self.0.len())?;
+        for word in self.0 {
+            write!(f, " {word:08x}")?;
+        }
+        Ok(())
     }
 }

@@ -2,14 +2,16 @@
 //! wrong in one respect.
 
 use peer::automaton;
-use peer::call::Matcher;
+use peer::call::{Answer, Call, Matcher, Operation};
 use peer::cases::{damage, examples, faults, histories, largest, lengths, limits, random};
 use peer::chance::Random;
 use peer::compare::Comparison;
+use peer::exchange::splice;
 use peer::generate;
+use peer::guard::Guarded;
 use peer::marks::Table;
-use peer::model::{self, Model};
-use peer::words;
+use peer::model::{state_sets, Model};
+use peer::words::Operator;
 
 /// One respect in which a matcher can be wrong.
 #[derive(Clone, Copy, PartialEq, Debug)]
@@ -27,6 +29,7 @@ enum Fault {
     RefusedCallWritesAnAnswer,
     RunWritesOneWordMore,
     TreeJudgedBeforeItsWords,
+    WordOutsideASliceChanges,
 }
 
 struct Wrong {
@@ -34,141 +37,106 @@ struct Wrong {
     exchanges: usize,
 }
 
-fn afresh(alphabet: &[u32], table: &[u32], tree: &[u32]) -> Vec<u32> {
-    model::state_sets(alphabet, &Table::read(alphabet, table).expect("a table"), tree)
+impl Matcher for Wrong {
+    fn answer(&mut self, call: &Call) -> Answer {
+        let mut answer = Model.answer(call);
+        match call.operation {
+            _ if answer.number != 0 => self.spoil_refusal(call, &mut answer),
+            Operation::Compile => self.spoil_compile(call, &mut answer),
+            Operation::Run => self.spoil_run(call, &mut answer),
+            Operation::List => self.spoil_list(call, &mut answer),
+            Operation::Exchange => self.spoil_exchange(call, &mut answer),
+        }
+        answer
+    }
 }
 
-impl Matcher for Wrong {
-    fn compile(&mut self, alphabet: &[u32], expression: &[u32], table: &mut [u32], words: &mut u32) -> u32 {
-        let number = Model.compile(alphabet, expression, table, words);
-        if self.fault == Fault::OneTableForAllRules && number == 0 {
-            let one = automaton::table(alphabet, &[words::Operator::Empty.word()]).expect("an expression");
-            table[..one.len()].copy_from_slice(&one);
-            *words = one.len() as u32;
+impl Wrong {
+    fn spoil_refusal(&self, call: &Call, answer: &mut Answer) {
+        match self.fault {
+            Fault::RefusedCallWritesAnAnswer if call.operation == Operation::Compile => answer.values[0] = 0,
+            Fault::TreeJudgedBeforeItsWords if answer.number == 10 => answer.number = 11,
+            _ => {}
         }
-        if self.fault == Fault::RefusedCallWritesAnAnswer && number != 0 {
-            *words = 0;
-        }
-        number
     }
 
-    fn run(
-        &mut self,
-        alphabet: &[u32],
-        table: &[u32],
-        tree: &[u32],
-        sets: &mut [u32],
-        nodes: &mut u32,
-        cells: &mut u32,
-    ) -> u32 {
-        let before = sets.to_vec();
-        let number = Model.run(alphabet, table, tree, sets, nodes, cells);
+    fn spoil_compile(&self, call: &Call, answer: &mut Answer) {
+        if self.fault == Fault::OneTableForAllRules {
+            let one = automaton::table(&call.alphabet, &[Operator::Empty.word()]).expect("an expression");
+            answer.after.table[..one.len()].copy_from_slice(&one);
+            answer.values[0] = one.len() as u32;
+        }
+    }
+
+    fn spoil_run(&self, call: &Call, answer: &mut Answer) {
+        let sets = &mut answer.after.sets;
         match self.fault {
-            Fault::RunLeavesMarksAlone => sets.copy_from_slice(&before),
-            Fault::RunWritesOneWordMore if number == 0 => {
-                let used = afresh(alphabet, table, tree).len();
-                if let Some(word) = sets.get_mut(used) {
+            Fault::RunLeavesMarksAlone => sets.clone_from(&call.sets),
+            Fault::RunWritesOneWordMore => {
+                if let Some(word) = sets.get_mut(call.tree.len() * table(call).width()) {
                     *word = 0;
                 }
             }
-            Fault::TreeJudgedBeforeItsWords if number == 10 => return 11,
+            Fault::WordOutsideASliceChanges => answer.surroundings_kept = false,
             _ => {}
         }
-        number
     }
 
-    fn list(
-        &mut self,
-        alphabet: &[u32],
-        table: &[u32],
-        count: usize,
-        sets: &[u32],
-        list: &mut [u32],
-        matches: &mut u32,
-    ) -> u32 {
-        let before = list.to_vec();
-        let number = Model.list(alphabet, table, count, sets, list, matches);
-        if self.fault == Fault::ListNamesNone && number == 0 {
-            list.copy_from_slice(&before);
-            *matches = 0;
+    fn spoil_list(&self, call: &Call, answer: &mut Answer) {
+        if self.fault == Fault::ListNamesNone {
+            answer.after.list.clone_from(&call.list);
+            answer.values[0] = 0;
         }
-        number
     }
 
-    fn exchange(
-        &mut self,
-        alphabet: &[u32],
-        table: &[u32],
-        tree: &mut [u32],
-        count: usize,
-        sets: &mut [u32],
-        node: usize,
-        replacement: &[u32],
-        nodes: &mut u32,
-        recomputed: &mut u32,
-    ) -> u32 {
-        let (old_tree, old_sets, old_values) = (tree.to_vec(), sets.to_vec(), [*nodes, *recomputed]);
-        if self.fault == Fault::ExchangeIgnoresSpareBits {
-            if let Some(read) = Table::read(alphabet, table) {
-                let spare = 32 * read.width() - read.states;
-                for word in sets.chunks_mut(read.width()).filter_map(<[u32]>::last_mut) {
-                    *word = *word << spare >> spare;
-                }
-            }
-        }
-        let number = Model.exchange(
-            alphabet,
-            table,
-            tree,
-            count,
-            sets,
-            node,
-            replacement,
-            nodes,
-            recomputed,
-        );
-        if number != 0 {
-            sets.copy_from_slice(&old_sets);
-            return number;
-        }
+    fn spoil_exchange(&mut self, call: &Call, answer: &mut Answer) {
         self.exchanges += 1;
-        let read = Table::read(alphabet, table).expect("a table");
-        let used = *nodes as usize;
+        let table = table(call);
+        let width = table.width();
+        let afresh = |tree: &[u32]| state_sets(&call.alphabet, &table, tree);
+        let used = answer.values[0] as usize;
+        let replaced = call.replacement.len();
+        let Call { tree, sets, .. } = &mut answer.after;
         match self.fault {
             Fault::ExchangeMarksAfresh => {
-                let fresh = afresh(alphabet, table, &tree[..used]);
+                let fresh = afresh(&tree[..used]);
                 sets[..fresh.len()].copy_from_slice(&fresh);
             }
             Fault::ExchangeWorksOnce if self.exchanges > 1 => {
-                let size = replacement.len() + count - used;
-                let rows: Vec<&[u32]> = old_sets[..count * read.width()].chunks(read.width()).collect();
-                let fresh = afresh(alphabet, table, replacement);
-                let mine: Vec<&[u32]> = fresh.chunks(read.width()).collect();
-                let moved = peer::exchange::splice(&rows, node, size, &mine).concat();
+                let size = replaced + call.count - used;
+                let rows: Vec<&[u32]> = call.sets.chunks(width).take(call.count).collect();
+                let fresh = afresh(&call.replacement);
+                let mine: Vec<&[u32]> = fresh.chunks(width).collect();
+                let moved = splice(&rows, call.node, size, &mine).concat();
                 sets[..moved.len()].copy_from_slice(&moved);
             }
-            Fault::ExchangeStopsAtTheSameHit if *recomputed as usize > replacement.len() => {
-                let root = node + used - count;
-                let hit = |words: &[u32], place: usize| {
-                    read.stored_set(&words[place * read.width()..][..read.width()])[read.accepting]
-                };
-                if hit(&old_sets, node) == hit(sets, root) {
-                    *recomputed = replacement.len() as u32;
+            Fault::ExchangeStopsAtTheSameHit if answer.values[1] as usize > replaced => {
+                let is_hit = |sets: &[u32], node: usize| table.is_match(&sets[node * width..][..width]);
+                if is_hit(&call.sets, call.node) == is_hit(sets, call.node + used - call.count) {
+                    answer.values[1] = replaced as u32;
                 }
             }
-            Fault::ExchangeLeavesOldWords if used < count => {
-                tree[used..count].copy_from_slice(&old_tree[used..count]);
+            Fault::ExchangeIgnoresSpareBits => {
+                let mut masked = call.clone();
+                let spare = 32 * width - table.states;
+                for word in masked.sets.chunks_mut(width).filter_map(<[u32]>::last_mut) {
+                    *word = *word << spare >> spare;
+                }
+                *answer = Model.answer(&masked);
             }
-            Fault::ResultJudgedWithoutTheSubtree if count + replacement.len() > old_tree.len() => {
-                tree.copy_from_slice(&old_tree);
-                sets.copy_from_slice(&old_sets);
-                [*nodes, *recomputed] = old_values;
-                return 16;
+            Fault::ExchangeLeavesOldWords if used < call.count => {
+                tree[used..call.count].copy_from_slice(&call.tree[used..call.count]);
+            }
+            Fault::ResultJudgedWithoutTheSubtree if call.count + replaced > call.tree.len() => {
+                *answer = Answer::unwritten(16, call);
             }
             _ => {}
         }
-        number
     }
+}
+
+fn table(call: &Call) -> Table {
+    Table::read(&call.alphabet, &call.table).expect("a table")
 }
 
 /// How many differences the whole comparison finds in a matcher with this fault.
@@ -207,8 +175,22 @@ fn a_wrong_matcher_is_not_found() {
         Fault::RefusedCallWritesAnAnswer,
         Fault::RunWritesOneWordMore,
         Fault::TreeJudgedBeforeItsWords,
+        Fault::WordOutsideASliceChanges,
     ] {
         assert!(differences(fault) > 0, "{fault:?} is not found");
+    }
+}
+
+#[test]
+fn a_write_outside_a_slice_is_not_seen() {
+    let words = [1, 2, 3];
+    let mut inside = Guarded::around(&words);
+    inside.slice().fill(9);
+    assert!(inside.surroundings_kept() && inside.content() == [9, 9, 9]);
+    for place in (0..8).chain(11..19) {
+        let mut outside = Guarded::around(&words);
+        outside.words[place] ^= 1;
+        assert!(!outside.surroundings_kept() && outside.content() == words);
     }
 }
 

@@ -4,13 +4,13 @@
 use peer::automaton;
 use peer::cases::random::pattern;
 use peer::chance::Random;
+use peer::draw;
 use peer::exchange::{exchange, MarkedTree};
-use peer::generate;
 use peer::language::membership::Membership;
 use peer::language::Expression;
 use peer::marks::Table;
-use peer::model::arities;
 use peer::postfix;
+use peer::words::arities;
 
 #[test]
 fn random_trees_match_nearly_never_or_nearly_always() {
@@ -20,7 +20,7 @@ fn random_trees_match_nearly_never_or_nearly_always() {
         let own = pattern(&mut random);
         let arities = arities(&own.alphabet);
         let read = Expression::read(&own.alphabet, &own.expression).expect("an expression");
-        let tree = generate::planted_tree(&mut random, &own.alphabet, &read, 24);
+        let tree = draw::planted_tree(&mut random, &own.alphabet, &read, 24);
         let matches = Membership::new(&read, arities.len()).subtrees(&tree, &arities);
         let inner = |node: &usize| arities[tree[*node]] > 0;
         let found = (0..tree.len())
@@ -46,7 +46,7 @@ fn random_exchanges_all_end_at_the_same_place() {
         let read = Expression::read(&own.alphabet, &own.expression).expect("an expression");
         let words = automaton::table(&own.alphabet, &own.expression).expect("an expression");
         let table = Table::read(&own.alphabet, &words).expect("a table");
-        let symbols = generate::planted_tree(&mut random, &own.alphabet, &read, 40);
+        let symbols = draw::planted_tree(&mut random, &own.alphabet, &read, 40);
         let rows = table
             .reached_by_all(&symbols, &arities)
             .iter()
@@ -54,10 +54,9 @@ fn random_exchanges_all_end_at_the_same_place() {
             .collect();
         let old = MarkedTree { symbols, rows };
         let node = random.below(old.symbols.len());
-        let replacement = generate::planted_tree(&mut random, &own.alphabet, &read, 10);
+        let replacement = draw::planted_tree(&mut random, &own.alphabet, &read, 10);
         let new = exchange(&table, &arities, &old, node, &replacement);
-        let own_arities: Vec<usize> = old.symbols.iter().map(|symbol| arities[*symbol]).collect();
-        let depth = postfix::ancestors(&postfix::children(&own_arities).expect("one tree"), node).len();
+        let depth = postfix::ancestors(&postfix::tree_children(&old.symbols, &arities), node).len();
         match new.recomputed - replacement.len() {
             _ if depth < 2 => {}
             0 => at_once += 1,

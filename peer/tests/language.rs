@@ -1,29 +1,18 @@
 //! The two readings of a language against each other and against document 01's examples.
 
+use peer::cases::examples::{alphabet, A, B, C, F, G};
 use peer::cases::random::pattern;
 use peer::chance::Random;
-use peer::generate;
+use peer::draw;
 use peer::language::literal::{self, members};
 use peer::language::membership::Membership;
 use peer::language::{Expression, Tree};
-use peer::model::arities;
-use peer::words::{entry_word, Operator};
+use peer::words::{arities, operator_words, Operator};
 use std::collections::BTreeSet;
 use Operator::{Closure, Empty, Product, Symbol, Union};
 
-const A: usize = 0;
-const B: usize = 1;
-const C: usize = 2;
-const F: usize = 3;
-const G: usize = 4;
-
-fn alphabet() -> Vec<u32> {
-    [0, 0, 0, 2, 1].map(entry_word).to_vec()
-}
-
 fn expression(operators: &[Operator]) -> Expression {
-    let words: Vec<u32> = operators.iter().map(|operator| operator.word()).collect();
-    Expression::read(&alphabet(), &words).expect("an expression")
+    Expression::read(&alphabet(), &operator_words(operators)).expect("an expression")
 }
 
 fn literal(operators: &[Operator], limit: usize) -> BTreeSet<Tree> {
@@ -32,7 +21,7 @@ fn literal(operators: &[Operator], limit: usize) -> BTreeSet<Tree> {
 
 fn decided(operators: &[Operator], tree: &[usize]) -> bool {
     let read = expression(operators);
-    let root = Membership::new(&read, 5)
+    let root = Membership::new(&read, alphabet().len())
         .subtrees(tree, &arities(&alphabet()))
         .pop();
     root == Some(true)
@@ -134,7 +123,7 @@ fn a_drawn_member_is_no_member() {
         let pattern = pattern(&mut random);
         let arities = arities(&pattern.alphabet);
         let read = Expression::read(&pattern.alphabet, &pattern.expression).expect("an expression");
-        if let Some(tree) = generate::member(&mut random, &read, 60) {
+        if let Some(tree) = draw::member(&mut random, &read, 60) {
             drawn += 1;
             let decided = Membership::new(&read, arities.len()).subtrees(&tree, &arities);
             assert_eq!(decided.last(), Some(&true), "case {case}: {tree:?}");

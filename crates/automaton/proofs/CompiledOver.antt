@@ -15,9 +15,9 @@ use Rattle.words.proofs.AllLaws.{All, all-append, all-map, all-both, all-self}
 use Rattle.words.proofs.AlphabetLaws.{constantsOf-isConstant, isConstant-zero}
 use Rattle.words.proofs.Ascending.{Ascending, end, next, ascending-le, ascending-append, ascending-one}
 use Rattle.automaton.specs.Transition.{Transition, onSymbol, epsilon}
-use Rattle.automaton.specs.Numbering.{Port, statesOf, portOf, entryFor, epsilons, fan, statesAfter, ownTransitions, transitionsFrom, lastPort, compiled}
+use Rattle.automaton.specs.Numbering.{Port, statesOf, portOf, entryFor, epsilons, fan, statesAfter, ownTransitions, transitionsFrom, constantTransitions, lastPort, compiled}
 use Rattle.automaton.specs.Table.{AllBelow, TransitionOver, TransitionsOver, AutomatonOver}
-use Rattle.automaton.proofs.EntryLaws.{to-epsilons, to-fan, to-constants, numbered-all, constantTransitions}
+use Rattle.automaton.proofs.EntryLaws.{to-epsilons, to-fan, to-constants, numbered-all}
 use Rattle.automaton.proofs.Ports.{statesIn, Entries, every, own, missing, PortIn, Children, noChild, child, children-le}
 use Rattle.automaton.proofs.OwnTransitions.{Own, leaf, ofSymbol, ofUnion, ofProduct, ofClosure}
 use Rattle.automaton.proofs.Reading.{Reading, ended, word, childrenOn, expression-reading}

@@ -11,8 +11,7 @@ use Rattle.words.proofs.AllLaws.{All, all-append, all-map}
 use Rattle.words.proofs.Ascending.{Ascending, next}
 use Rattle.words.proofs.DistinctLaws.{Distinct, distinct-append}
 use Rattle.automaton.specs.Transition.{Transition, onSymbol, epsilon}
-use Rattle.automaton.specs.Numbering.{Port, statesOf, portOf, ownTransitions, transitionsFrom, lastPort, compiled}
-use Rattle.automaton.proofs.EntryLaws.{constantTransitions}
+use Rattle.automaton.specs.Numbering.{Port, statesOf, portOf, ownTransitions, transitionsFrom, constantTransitions, lastPort, compiled}
 use Rattle.automaton.proofs.Ports.{statesIn}
 use Rattle.automaton.proofs.Reading.{Reading, ended, word, childrenOn, expression-reading}
 use Rattle.automaton.proofs.TransitionOrder.{own-ordered}

@@ -7,11 +7,7 @@ use lib.Dec.{eqb}
 use borrow.Author.Tests.{eqb-true, eqb-false}
 use Rattle.words.proofs.AllLaws.{All, all-append, all-left, all-right}
 use Rattle.automaton.specs.Transition.{Transition, onSymbol, epsilon}
-use Rattle.automaton.specs.Numbering.{numbered, lookup, epsilons, fan}
-
--- the transition of each constant into its entry
-abbrev pub constantTransitions : List (ℕ × ℕ) → List Transition
-constantTransitions es = map (λ e. onSymbol (e .0) [] (e .1)) es
+use Rattle.automaton.specs.Numbering.{numbered, lookup, epsilons, fan, constantTransitions}
 
 -- a property of a constant and a state
 module _ (P : ℕ → ℕ → Type 0) where

@@ -1,6 +1,6 @@
 -- Laws of the passes that make a state set: what a pass keeps and adds, that it adds nothing else, and that as many passes
 -- over the epsilon transitions as there are states leave a set that is closed under them. Assumes nothing.
-use mathlib.Core.Path.{_≡_, refl, ap, _∙_, sym}
+use mathlib.Core.Path.{_≡_, refl, ap, _∙_, sym, subst⁻¹}
 use mathlib.Core.Bool.{Bool, true, false, cond, _&&_}
 use mathlib.Core.List.{List, [], _∷_, List·Memᴰ, List·Memᴰ·head, List·Memᴰ·tail}
 use Prim.Native.Nat.{ℕ, zero, suc, _+_, _*_, _<_, _≤_, _/_}
@@ -14,7 +14,7 @@ use Rattle.words.proofs.TestLaws.{Tested, holds, fails, tested, and-true, true-
 use Rattle.words.proofs.ListLaws.{length-listFrom}
 use Rattle.words.proofs.CountLaws.{count-all, count-more, listFrom-member}
 use Rattle.automaton.specs.Transition.{Transition, onSymbol, epsilon}
-use Rattle.automaton.specs.StateSet.{StateSet, contains, insert, allContained, moved, swept, move, sweep, sweeps}
+use Rattle.automaton.specs.StateSet.{StateSet, contains, insert, allContained, moved, swept, move, sweep, closedUnder, isClosed, sweeps}
 use Rattle.automaton.proofs.BitLaws.{insert-same, insert-other, insert-keeps}
 use Rattle.automaton.proofs.KeepLaws.{swept-keeps, sweep-keeps, sweeps-keeps, move-keeps}
 use Rattle.automaton.proofs.SetLength.{length-swept, length-sweep, length-moved}
@@ -78,6 +78,10 @@ module _ (P : ℕ → Type 0) where
       go (yes i) = rw i (h refl)
       go (no i) = w s (sym (insert-other r q s i) ∙ e)
 
+  within-either : (b : Bool) (r s : StateSet) → Within P r → Within P s → Within P (cond b r s)
+  within-either true r s w v = w
+  within-either false r s w v = v
+
   swept-within : (t : Transition) (r : StateSet) → ((p q : ℕ) → epsilon p q ≡ t → P p → P q) → Within P r → Within P (swept t r)
   swept-within (onSymbol g ps q) r c w = w
   swept-within (epsilon p q) r c w = within-if (contains r p) r q (λ e. c p q refl (w p e)) w
@@ -91,7 +95,8 @@ module _ (P : ℕ → Type 0) where
   pub sweeps-within : (n : ℕ) (ts : List Transition) (r : StateSet) → ClosedUnder ts P → Within P r → Within P (sweeps n ts r)
   unfolding sweeps
   sweeps-within zero ts r c w = w
-  sweeps-within (suc n) ts r c w = sweeps-within n ts (sweep ts r) c (sweep-within ts r c w)
+  sweeps-within (suc n) ts r c w =
+      within-either (isClosed ts r) r (sweeps n ts (sweep ts r)) w (sweeps-within n ts (sweep ts r) c (sweep-within ts r c w))
 
   moved-within : (f : ℕ) (rs : List StateSet) (t : Transition) (r : StateSet)
       → ((ps : List ℕ) (q : ℕ) → onSymbol f ps q ≡ t → allContained ps rs ≡ true → P q) → Within P r → Within P (moved f rs t r)
@@ -106,6 +111,16 @@ module _ (P : ℕ → Type 0) where
   move-within f rs (t ∷ ts) r c w =
       move-within f rs ts (moved f rs t r) (λ ps q m. c ps q (List·Memᴰ·tail m))
       (moved-within f rs t r (λ ps q e. c ps q (List·Memᴰ·head e)) w)
+
+-- ---- the test of a closed set
+
+under : (p q : ℕ) (r : StateSet) → closedUnder (epsilon p q) r ≡ true → In r p → In r q
+under p q r h i = rw i at h
+
+closed-test : (ts : List Transition) (r : StateSet) → isClosed ts r ≡ true → ClosedUnder ts (In r)
+closed-test (t ∷ ts) r h p q (List·Memᴰ·head e) i =
+    under p q r (subst⁻¹ (λ (u : Transition). closedUnder u r ≡ true) e (and-true (closedUnder t r) (isClosed ts r) h .0)) i
+closed-test (t ∷ ts) r h p q (List·Memᴰ·tail m) i = closed-test ts r (and-true (closedUnder t r) (isClosed ts r) h .1) p q m i
 
 -- ---- as many passes as there are states
 
@@ -138,12 +153,17 @@ module _ (n : ℕ) (ts : List Transition) (below : (p q : ℕ) → List·Memᴰ 
   saturated : (k : ℕ) (r : StateSet) → n ≤ length r * 32 → n ≤ k + present r → ClosedUnder ts (In (sweeps k ts r))
   unfolding sweeps
   saturated zero r s h = full-closed r (omega arith)
-  saturated (suc k) r s h = go (decLt (present r) (present (sweep ts r))) (saturated k (sweep ts r))
+  saturated (suc k) r s h = go (tested (isClosed ts r)) (decLt (present r) (present (sweep ts r))) (saturated k (sweep ts r))
     where
-      go : Dec (present r < present (sweep ts r)) → (n ≤ length (sweep ts r) * 32 → n ≤ k + present (sweep ts r) → ClosedUnder ts (In (sweeps k ts (sweep ts r))))
-          → ClosedUnder ts (In (sweeps k ts (sweep ts r)))
-      go (yes l) below = below (rw (length-sweep ts r) s) (omega arith)
-      go (no l) below = closed-stays (suc k) r (still-closed r s (omega arith))
+      onward : StateSet
+      onward = sweeps k ts (sweep ts r)
+
+      go : Tested (isClosed ts r) → Dec (present r < present (sweep ts r))
+          → (n ≤ length (sweep ts r) * 32 → n ≤ k + present (sweep ts r) → ClosedUnder ts (In onward))
+          → ClosedUnder ts (In (cond (isClosed ts r) r onward))
+      go (holds e) grows onward-closed = rw e (closed-test ts r e)
+      go (fails e) (yes l) onward-closed = rw e (onward-closed (rw (length-sweep ts r) s) (omega arith))
+      go (fails e) (no l) onward-closed = closed-stays (suc k) r (still-closed r s (omega arith))
 
   pub sweeps-closed : (r : StateSet) → n ≤ length r * 32 → ClosedUnder ts (In (sweeps n ts r))
   sweeps-closed r s = saturated n r s (omega arith)

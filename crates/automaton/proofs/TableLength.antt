@@ -13,8 +13,7 @@ use Rattle.words.specs.Lists.{count}
 use Rattle.words.specs.Postfix.{arity}
 use Rattle.words.specs.Expression.{expressionFault}
 use Rattle.automaton.specs.Transition.{Transition, onSymbol, transitionWords, transitionsWords, tableWords}
-use Rattle.automaton.specs.Numbering.{Port, hasEntries, statesOf, portOf, entryFor, epsilons, fan, statesAfter, ownTransitions, transitionsFrom, lastPort, compiled}
-use Rattle.automaton.proofs.EntryLaws.{constantTransitions}
+use Rattle.automaton.specs.Numbering.{Port, hasEntries, statesOf, portOf, entryFor, epsilons, fan, statesAfter, ownTransitions, transitionsFrom, constantTransitions, lastPort, compiled}
 use Rattle.automaton.proofs.Ports.{constantsIn, PortIn, Children, child}
 use Rattle.automaton.proofs.OwnTransitions.{Own, leaf, ofSymbol, ofUnion, ofProduct, ofClosure}
 use Rattle.automaton.proofs.Reading.{WordRead, Reading, word, childrenOn, expression-reading, expression-length}

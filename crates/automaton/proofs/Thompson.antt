@@ -13,9 +13,9 @@ use Rattle.language.specs.Expression.{Expression, Expressions, symbol, empty, u
 use Rattle.language.specs.Membership.{Member}
 use Rattle.language.proofs.SubstitutionLaws.{itself, substitution-same, substitution-itself}
 use Rattle.automaton.specs.Transition.{Transition, Automaton, onSymbol}
-use Rattle.automaton.specs.Numbering.{compiled}
+use Rattle.automaton.specs.Numbering.{constantTransitions, compiled}
 use Rattle.automaton.specs.Reached.{Reaches, onNode, onNone}
-use Rattle.automaton.proofs.EntryLaws.{constantTransitions, of-constants}
+use Rattle.automaton.proofs.EntryLaws.{of-constants}
 use Rattle.automaton.proofs.TreeNumbering.{exitState, entryStates, transitionsOf, treeTransitions, Listed, ConstantsListed, ConstantsListedAll}
 use Rattle.automaton.proofs.ReachedBy.{Present, ReachedBy}
 use Rattle.automaton.proofs.Completeness.{complete}

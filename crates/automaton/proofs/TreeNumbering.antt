@@ -5,8 +5,7 @@ use mathlib.Core.List.{List, [], _∷_, _++_, map, flatMap, List·Memᴰ}
 use lib.ListN.{length}
 use Rattle.language.specs.Expression.{Expression, Expressions, symbol, empty, union, product, closure, noneᵉ, moreᵉ}
 use Rattle.automaton.specs.Transition.{Transition}
-use Rattle.automaton.specs.Numbering.{Port, numbered, lookup, entryFor, symbolTransitions, unionTransitions, productTransitions, closureTransitions}
-use Rattle.automaton.proofs.EntryLaws.{constantTransitions}
+use Rattle.automaton.specs.Numbering.{Port, numbered, lookup, entryFor, symbolTransitions, unionTransitions, productTransitions, closureTransitions, constantTransitions}
 
 module _ (cs : List ℕ) where
   -- ---- states

@@ -5,7 +5,8 @@ use mathlib.Core.Logic.{_↔_}
 use mathlib.Core.Bool.{true, false≢true}
 use mathlib.Core.List.{List, [], _∷_}
 use Prim.Native.Nat.{ℕ}
-use Rattle.words.specs.Tree.{Tree, Trees, node, none, more, fold, foldAll}
+use Rattle.words.specs.Tree.{Tree, Trees, node, none, more}
+use Rattle.words.proofs.TreeFold.{fold, foldAll}
 use Rattle.words.proofs.TestLaws.{and-true, true-and}
 use Rattle.automaton.specs.Transition.{Transition, Automaton}
 use Rattle.automaton.specs.StateSet.{StateSet, contains, allContained, stateSet}

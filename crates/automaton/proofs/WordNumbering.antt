@@ -12,8 +12,7 @@ use Rattle.words.specs.Postfix.{arity}
 use Rattle.words.proofs.ReadingLaws.{take-pushed, drop-pushed}
 use Rattle.language.specs.Expression.{Expression, Expressions, symbol, empty, union, product, closure, noneᵉ, moreᵉ, syntaxTrees, expressionWords, numberᵉ, ExpressionOver, ExpressionsOver}
 use Rattle.automaton.specs.Transition.{Transition, Automaton}
-use Rattle.automaton.specs.Numbering.{Port, statesOf, portOf, childPort, ownTransitions, portsFrom, statesAfter, transitionsFrom, lastPort, compiled}
-use Rattle.automaton.proofs.EntryLaws.{constantTransitions}
+use Rattle.automaton.specs.Numbering.{Port, statesOf, portOf, childPort, ownTransitions, portsFrom, statesAfter, transitionsFrom, constantTransitions, lastPort, compiled}
 use Rattle.automaton.proofs.TreeNumbering.{next, nextAll, exitState, port, ports, own, transitionsOf, transitionsOfAll, treeTransitions}
 use Rattle.automaton.proofs.LastWord.{lastWord, parts, LastWord, last-word}
 

@@ -110,6 +110,10 @@ transitionsFrom a n (w ∷ ws) stack =
     ownTransitions w (portOf a n w) (reverse (take (arity a w) stack))
     ++ transitionsFrom a (n + statesOf a w) ws (portOf a n w ∷ drop (arity a w) stack)
 
+-- the symbol moves of constants into entries, in the order of the entries
+abbrev pub constantTransitions : List (ℕ × ℕ) → List Transition
+constantTransitions es = map (λ e. onSymbol (e .0) [] (e .1)) es
+
 -- the states of the last word
 abbrev pub lastPort : List ℕ → List ℕ → Port
 lastPort a e = childPort (portsFrom a 0 e) (length e - 1)
@@ -120,5 +124,5 @@ unfoldable pub compiled : List ℕ → List ℕ → Automaton
 compiled a e = record {
   states = statesAfter a 0 e;
   final = lastPort a e .exit;
-  transitions = map (λ c. onSymbol (c .0) [] (c .1)) (lastPort a e .entries) ++ transitionsFrom a 0 e [];
+  transitions = constantTransitions (lastPort a e .entries) ++ transitionsFrom a 0 e [];
 }

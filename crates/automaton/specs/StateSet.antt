@@ -1,7 +1,7 @@
 -- State sets (document 01's marks of one element): a node's set from its children's. Assumes nothing.
 use Prim.Native.Nat.{ℕ, zero, suc, _+_, _/_, _%_, _^_}
 use mathlib.Core.List.{List, [], _∷_}
-use mathlib.Core.Bool.{Bool, true, false, cond, _&&_}
+use mathlib.Core.Bool.{Bool, true, false, not, cond, _&&_, _||_}
 use lib.ListN.{getD, set, replicate}
 use lib.Dec.{eqb}
 use lib.Bits.{bitOr}
@@ -48,13 +48,23 @@ unfoldable pub sweep : List Transition → StateSet → StateSet
 sweep [] r = r
 sweep (t ∷ ts) r = sweep ts (swept t r)
 
+-- an empty move from a state of the set leads to a state of the set
+abbrev pub closedUnder : Transition → StateSet → Bool
+closedUnder (onSymbol g ps q) r = true
+closedUnder (epsilon p q) r = not (contains r p) || contains r q
+
+abbrev pub isClosed : List Transition → StateSet → Bool
+isClosed [] r = true
+isClosed (t ∷ ts) r = closedUnder t r && isClosed ts r
+
+-- passes until the set is closed under the empty moves, at most n
 unfoldable pub sweeps : ℕ → List Transition → StateSet → StateSet
 sweeps zero ts r = r
-sweeps (suc n) ts r = sweeps n ts (sweep ts r)
+sweeps (suc n) ts r = let onward = sweeps n ts (sweep ts r) in cond (isClosed ts r) r onward
 
 -- "for every state s, bit s mod 32 of word s / 32 is set exactly if s is reached": by symbol moves, and then by empty
--- moves. As many passes as there are states reach every state: the law `stateSet-reached` says that a state is in this
--- set exactly if it is `Reached`.
+-- moves. As many passes as there are states close every set: the law `stateSet-reached` says that a state is in this set
+-- exactly if it is `Reached`.
 unfoldable pub stateSet : Automaton → ℕ → List StateSet → StateSet
 stateSet A f rs =
     sweeps (A .states) (A .transitions) (move f rs (A .transitions) (replicate (sizeFor (A .states)) 0))

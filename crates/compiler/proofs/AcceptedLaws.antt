@@ -4,14 +4,15 @@ use mathlib.Core.Bool.{true}
 use mathlib.Core.List.{List, [], _∷_, _++_}
 use Prim.Native.Nat.{ℕ, zero, suc, _*_, _<_, _≤_}
 use native.Mathlib.Omega.{arith}
-use lib.ListN.{length, take, length-append}
-use lib.Seq.{take-at}
+use lib.ListN.{length, take, drop, length-append}
+use lib.Seq.{sets, take-all, take-at}
 use borrow.Author.Tests.{not-false}
 use Rattle.words.specs.Lists.{all}
 use Rattle.words.specs.Alphabet.{constantsOf, alphabetFault}
 use Rattle.words.specs.Postfix.{oneTree, notOneTree}
 use Rattle.words.specs.Expression.{isExpressionWord, noExpressionWords, expressionRefusals, expressionFault}
 use Rattle.words.proofs.RefusalLaws.{refusal-none}
+use Rattle.words.proofs.ListLaws.{sets-whole}
 use Rattle.words.proofs.AcceptedAlphabet.{alphabet-accepted}
 use Rattle.automaton.proofs.Reading.{expression-length}
 use Rattle.compiler.specs.Compiling.{Counted}
@@ -50,10 +51,20 @@ length-take-most (w ∷ e) (suc n) = omega (arith, length-take-most e n)
 pub states-few : (e : List ℕ) (n x : ℕ) → length e ≤ 64 → x ≤ 17 * length (take n e) → x ≤ 1088
 states-few e n x few h = omega (arith, length-take-most e n)
 
--- a list that begins with the constants
-module _ (a l rest : List ℕ) (r : ℕ) (count : r ≡ length (constantsOf a)) (begins : l ≡ constantsOf a ++ rest) where
-  pub constants-first : take r l ≡ constantsOf a
-  constants-first = ap (take r) begins ∙ take-at (constantsOf a) rest r (sym count)
+-- the constants of an accepted alphabet in a list of 16 words: none is left out
+module _ (a l l′ : List ℕ) (r : ℕ) (accepted : alphabetFault a ≡ 0) (room : length l ≡ 16)
+    (count : r ≡ length (constantsOf (take 64 a))) (stored : l′ ≡ sets l 0 (constantsOf (take 64 a))) where
+  whole : take 64 a ≡ a
+  whole = take-all 64 a (alphabet-accepted a accepted .few)
 
-  pub constants-within : r ≤ length l
-  constants-within = rw (begins, length-append) (omega arith)
+  begins : l′ ≡ constantsOf a ++ drop (length (constantsOf a)) l
+  begins = stored ∙ rw whole (sets-whole (constantsOf a) l (omega (arith, alphabet-accepted a accepted .fewConstants)))
+
+  number : r ≡ length (constantsOf a)
+  number = count ∙ rw whole
+
+  pub constants-first : take r l′ ≡ constantsOf a
+  constants-first = ap (take r) begins ∙ take-at (constantsOf a) _ r (sym number)
+
+  pub constants-within : r ≤ length l′
+  constants-within = rw (begins, length-append) (omega (arith, number))

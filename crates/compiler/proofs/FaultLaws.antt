@@ -10,11 +10,11 @@ use borrow.Author.Tests.{lt-ltb, le-ltb, ltb-false, eq-eqb, ne-eqb}
 use Rattle.words.specs.Refusal.{Refusals, refusal}
 use Rattle.words.specs.Alphabet.{alphabetRefusals, alphabetFault}
 use Rattle.words.specs.Expression.{expressionRefusals, expressionFault}
+use Rattle.words.proofs.ListLaws.{sets-whole}
 use Rattle.words.proofs.RefusalLaws.{NoneHolds, none-refusal, refusal-rest, refusal-none, part-refuses}
 use Rattle.automaton.specs.Numbering.{statesAfter, compiled}
 use Rattle.operations.specs.Answer.{refused, accepted}
 use Rattle.operations.specs.Compile.{compiledTable, tooManyStates, tableTooLong, compileRefusals, compileFault, compileAnswer, compileExit}
-use Rattle.emitter.proofs.WritingLaws.{sets-whole}
 use Rattle.compiler.specs.Compiling.{Accepted}
 
 module _ (a e : List ℕ) (room : ℕ) where

@@ -9,8 +9,8 @@ use words::alphabet::count_constants;
 use words::expression::expression_fault;
 use words::word::STATES_MOST;
 
-pub mod states;
-pub mod table;
+mod states;
+mod table;
 
 // The answer: the table's word count, or document 01's number of a refusal.
 pub enum Compiled {

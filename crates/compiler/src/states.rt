@@ -25,7 +25,7 @@ use words::word::TRANSITION;
 use words::word::UNION;
 
 // How many states a word has, where `count` is the number of constants.
-pub fn states_of(alphabet: &[u32], count: usize, w: u32) -> u32
+pub(crate) fn states_of(alphabet: &[u32], count: usize, w: u32) -> u32
     requires { ⌜ Counted (now alphabet) count ⌝ }
     ensures { λ r. ⌜ (r ≡ statesOf (now (alphabet .entry)) w) × (r ≤ 17) ⌝ }
 {
@@ -36,7 +36,7 @@ pub fn states_of(alphabet: &[u32], count: usize, w: u32) -> u32
 }
 
 // The first state behind those of the words.
-pub fn states_after(alphabet: &[u32], count: usize, expression: &[u32]) -> u32
+pub(crate) fn states_after(alphabet: &[u32], count: usize, expression: &[u32]) -> u32
     requires { ⌜ Counted (now alphabet) count ⌝ }
     requires { ⌜ length (now expression) ≤ 64 ⌝ }
     ensures { λ r. ⌜ (r ≡ statesAfter (now (alphabet .entry)) 0 (now (expression .entry))) × (r ≤ 17 * length (now (expression .entry))) ⌝ }
@@ -51,7 +51,7 @@ pub fn states_after(alphabet: &[u32], count: usize, expression: &[u32]) -> u32
 }
 
 // The port of a word with this exit.
-pub fn word_port(alphabet: &[u32], exit: u32, w: u32) -> u32
+pub(crate) fn word_port(alphabet: &[u32], exit: u32, w: u32) -> u32
     requires { ⌜ Exited (now alphabet) exit w ⌝ }
     ensures { λ r. ⌜ portIn (constantsOf (now (alphabet .entry))) r ≡ portOf (now (alphabet .entry)) exit w ⌝ }
 {

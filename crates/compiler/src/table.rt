@@ -69,7 +69,7 @@ fn write_parts(alphabet: &[u32], constants: &[u32], expression: &[u32], out: &mu
 }
 
 // Writes the table of a rule, as far as the slice reaches, and answers its word count in both cases.
-pub fn write_table(alphabet: &[u32], expression: &[u32], out: &mut [u32]) -> usize
+pub(crate) fn write_table(alphabet: &[u32], expression: &[u32], out: &mut [u32]) -> usize
     requires { ⌜ Accepted (now alphabet) (now expression) ⌝ }
     ensures { λ r. ⌜
         Wrote 5457 0 (compiledTable (now (alphabet .entry)) (now (expression .entry)))

@@ -8,11 +8,10 @@ use lib.ListN.{length, getD, take}
 use lib.Seq.{take-suc, take-all, length-take-le}
 use Rattle.words.proofs.ListLaws.{map-append}
 use Rattle.automaton.specs.Transition.{onSymbol, transitionWords, transitionsWords}
-use Rattle.automaton.specs.Numbering.{numbered}
+use Rattle.automaton.specs.Numbering.{numbered, constantTransitions}
 use Rattle.automaton.proofs.TransitionLaws.{transitionsWords-append, numbered-append}
 use Rattle.emitter.specs.Writing.{Wrote}
 use Rattle.emitter.specs.Ports.{exitIn, portIn}
-use Rattle.emitter.specs.Emission.{constantTransitions}
 use Rattle.emitter.proofs.WritingLaws.{wrote-none, wrote-more, wrote-same}
 use Rattle.emitter.proofs.PortLaws.{entries-every, entries-none, entries-own}
 

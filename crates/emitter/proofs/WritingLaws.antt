@@ -1,27 +1,12 @@
 -- Laws of words written one after the other. Assumes nothing.
 use mathlib.Core.Path.{_≡_, refl, ap, _∙_, sym}
 use mathlib.Core.List.{List, [], _∷_, _++_}
-use Prim.Native.Nat.{ℕ, suc, _+_, _≤_}
+use Prim.Native.Nat.{ℕ, _+_, _≤_}
 use native.Mathlib.Omega.{arith}
-use native.Mathlib.Nat.{add-zero, add-suc, suc-add, add-assoc}
-use lib.ListN.{length, drop, set, length-append}
-use lib.Seq.{sets, sets-eq}
+use native.Mathlib.Nat.{add-zero, add-assoc}
+use lib.ListN.{length, set, length-append}
+use Rattle.words.proofs.ListLaws.{sets-append}
 use Rattle.emitter.specs.Writing.{Wrote}
-
--- ---- runs of stores
-
--- a run of stores in two parts
-pub sets-append : (vs us l : List ℕ) (i : ℕ) → sets l i (vs ++ us) ≡ sets (sets l i vs) (i + length vs) us
-sets-append [] us l i = rw (add-zero i)
-sets-append (v ∷ vs) us l i = rw (add-suc, ← suc-add) (sets-append vs us _ (suc i))
-
--- a run of stores from the first place on, where there is room
-pub sets-whole : (vs l : List ℕ) → length vs ≤ length l → sets l 0 vs ≡ vs ++ drop (length vs) l
-sets-whole vs l h =
-    let e : 0 + length vs ≡ length vs = omega arith in
-    sets-eq vs l 0 (omega arith) ∙ ap (λ (n : ℕ). vs ++ drop n l) e
-
--- ---- writers
 
 pub wrote-none : (at : ℕ) (out : List ℕ) → Wrote 0 at [] out out at
 wrote-none at out = record { words = refl; next = sym (add-zero at); short = omega arith }

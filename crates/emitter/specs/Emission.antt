@@ -7,8 +7,8 @@ use mathlib.Core.Bool.{cond}
 use lib.ListN.{length, getD, drop}
 use lib.Dec.{eqb}
 use Rattle.words.specs.Word.{sourceKind, numberOf, wordOf, lowByte}
-use Rattle.automaton.specs.Transition.{Transition, onSymbol}
 use Rattle.automaton.specs.Numbering.{entryFor}
+pub use Rattle.automaton.specs.Numbering.{constantTransitions}
 use Rattle.emitter.specs.Writing.{lastIndex}
 use Rattle.emitter.specs.Ports.{EachOnce, exitIn, portsIn}
 
@@ -45,10 +45,6 @@ pub record Takes (cs ps : List ℕ) (w : ℕ) : Type 0 where
   pub union : numberOf w ≡ 4 → length ps ≡ 2
   pub product : numberOf w ≡ 5 → (length ps ≡ 2) × Listed cs (lowByte w)
   pub closure : numberOf w ≡ 6 → (length ps ≡ 1) × Listed cs (lowByte w)
-
--- the symbol moves of constants into entries
-abbrev pub constantTransitions : List (ℕ × ℕ) → List Transition
-constantTransitions es = map (λ e. onSymbol (e .0) [] (e .1)) es
 
 -- the constants are few and symbols, and their moves may be written from index `at` on
 pub record Symbols (cs : List ℕ) (at : ℕ) : Type 0 where

@@ -63,6 +63,7 @@ fn push_sources(ports: &[u32], out: &mut [u32], at: usize) -> usize
     next
 }
 
+// A symbol over its children.
 fn push_symbol(
     constants: &[u32],
     ports: &[u32],
@@ -98,6 +99,7 @@ fn push_both(out: &mut [u32], at: usize, first: u32, second: u32, to: u32) -> us
     push_epsilon(out, next, second, to)
 }
 
+// A union of two children.
 fn push_union(constants: &[u32], ports: &[u32], out: &mut [u32], at: usize, exit: u32) -> usize
     requires { ⌜ Emits (now constants) (now ports) exit at 85 ⌝ }
     requires { ⌜ length (now ports) ≡ 2 ⌝ }

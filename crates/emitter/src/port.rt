@@ -10,8 +10,10 @@ pub const EVERY: u32 = 64;
 // No entry. Any other number is the constant whose entry is the exit.
 pub const NONE: u32 = 65;
 
+// The exit stands above bits 6..0.
 pub const EXIT_UNIT: u32 = 128;
 
+// An exit has 11 bits.
 const EXIT_RANGE: u32 = 2048;
 
 // A port's entry for a constant.
@@ -20,6 +22,7 @@ pub enum Entry {
     State(u32),
 }
 
+// The port with this exit and these entries.
 pub fn port_of(exit: u32, entries: u32) -> u32
     requires { ⌜ (exit < 2048) × (entries < 128) ⌝ }
     ensures { λ r. ⌜ r ≡ exit * 128 + entries ⌝ }
@@ -27,6 +30,7 @@ pub fn port_of(exit: u32, entries: u32) -> u32
     exit * EXIT_UNIT + entries
 }
 
+// The exit of a port.
 pub fn exit_of(port: u32) -> u32
     ensures { λ r. ⌜ (r ≡ exitIn port) × (r < 2048) ⌝ }
 {

@@ -5,14 +5,16 @@ ghost use Prim.Native.Nat.{_+_, _*_, _<_};
 ghost use Rattle.automaton.specs.Transition.{transitionWords, onSymbol, epsilon};
 ghost use Rattle.emitter.specs.Writing.{Wrote, lastIndex};
 
-// The words of symbol moves and empty moves, kinds 9 and 10, over the numbers in their lower bits.
+// The word of a symbol move, kind 9, over the numbers in its lower bits.
 const TRANSITION_WORD: u32 = 2415919104;
 
+// The word of an empty move, kind 10, over the numbers in its lower bits.
 const EPSILON_WORD: u32 = 2684354560;
 
 // A from state, a symbol or a state count stands above bits 9..0.
 pub const ABOVE: u32 = 1024;
 
+// One word.
 pub fn push(out: &mut [u32], at: usize, w: u32) -> usize
     requires { ⌜ at < lastIndex ⌝ }
     ensures { λ r. ⌜ Wrote 1 at (w ∷ []) (now (out .entry)) (now (out .exit)) r ⌝ }

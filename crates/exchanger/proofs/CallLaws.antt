@@ -25,6 +25,10 @@ use Rattle.matcher.proofs.ReadyLaws.{words-few}
 use Rattle.exchanger.specs.Tail.{TailFits}
 use Rattle.exchanger.proofs.FaultLaws.{result-length}
 
+split-words : (i k size : ℕ) → (i + 1 + k) * size ≡ i * size + size + k * size
+split-words i k size =
+    add-mul (i + 1) k size ∙ ap (λ (j : ℕ). j + k * size) (add-mul i 1 size ∙ ap (λ (j : ℕ). i * size + j) (one-mul size))
+
 -- s is where the element's subtree begins, and a state set has `size` words
 pub record Numbers (a table chapter marks : List ℕ) (n e : ℕ) (xs : List ℕ) (s size : ℕ) : Type 0 where
   pub low : s ≤ e
@@ -38,9 +42,9 @@ pub record Numbers (a table chapter marks : List ℕ) (n e : ℕ) (xs : List ℕ
   pub total : s + length xs + (n - e - 1) ≡ length (splice a (take n chapter) e xs)
   pub total-few : s + length xs + (n - e - 1) ≤ 4096
   pub total-within : s + length xs + (n - e - 1) ≤ length chapter
-  -- the words of the marks: those up to the element's, those of the result, and how many move
+  -- the words of the marks: those up to the element's, the element's or its replacement's root's, and those behind
   pub old-words : n * size ≡ e * size + size + (n - e - 1) * size
-  pub new-words : (s + length xs + (n - e - 1)) * size ≡ (s + length xs) * size + (n - e - 1) * size
+  pub new-words : (s + length xs + (n - e - 1)) * size ≡ (s + length xs - 1) * size + size + (n - e - 1) * size
   pub old-room : n * size ≤ length marks
   pub new-room : (s + length xs + (n - e - 1)) * size ≤ length marks
   pub old-few : n * size ≤ 131072
@@ -73,22 +77,22 @@ module _ (a table chapter marks : List ℕ) (n e : ℕ) (xs : List ℕ) (ok : fa
         let total : s + m + k ≡ length (splice a used e xs) =
         ap (λ (i : ℕ). s + m + (i - e - 1)) (sym length-used) ∙ result-length a used e s xs (rw length-used inside) qs in
         let few : s + m + k ≤ 4096 = rw total (g .fits .few) in
+        let some = g .replacement .counted .some in
         let split : n ≡ e + 1 + k = omega arith in
+        let split-new : s + m + k ≡ s + m - 1 + 1 + k = omega arith in
         record {
           low = low;
           inside = inside;
           few = g .counted .few;
           within = g .within;
-          some = g .replacement .counted .some;
+          some = some;
           few-new = g .replacement .counted .few;
           small = small;
           total = total;
           total-few = few;
           total-within = rw total (g .fits .elements);
-          old-words =
-              ap (λ (i : ℕ). i * size) split ∙ add-mul (e + 1) k size
-              ∙ ap (λ (i : ℕ). i + k * size) (add-mul e 1 size ∙ ap (λ (i : ℕ). e * size + i) (one-mul size));
-          new-words = add-mul (s + m) k size;
+          old-words = ap (λ (i : ℕ). i * size) split ∙ split-words e k size;
+          new-words = ap (λ (i : ℕ). i * size) split-new ∙ split-words (s + m - 1) k size;
           old-room = rw qz (g .marks);
           new-room = rw (total, qz) (g .fits .marks);
           old-few = words-few n size (g .counted .few) small;
@@ -102,7 +106,7 @@ module _ (a table chapter marks : List ℕ) (n e : ℕ) (xs : List ℕ) (ok : fa
         let room = numbers .total-within in
         record { some = omega arith; inside = numbers .within; room = omega arith }
 
-    pub marks-fits : TailFits marks (n * size) (e * size + size) ((s + length xs) * size)
+    pub marks-fits : TailFits marks (n * size) (e * size) ((s + length xs - 1) * size)
     marks-fits =
         let old = numbers .old-words in
         let new = numbers .new-words in

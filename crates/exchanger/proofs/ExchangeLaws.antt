@@ -2,26 +2,33 @@
 -- whatever the stored marks are; and the words of the chapter are those of the new tree. Assumes nothing.
 use mathlib.Core.Path.{_≡_, refl, ap, ap₂, _∙_, sym, subst}
 use mathlib.Core.Bool.{Bool, true, false, cond}
-use mathlib.Core.List.{List, [], _++_, flatten, map}
+use mathlib.Core.List.{List, [], _∷_, _++_, flatten, map}
 use Prim.Native.Nat.{ℕ, zero, suc, _+_, _-_, _*_, _<_, _≤_}
 use native.Mathlib.Omega.{arith}
-use lib.ListN.{length, getD, take, drop, length-map}
-use lib.Seq.{paste, slice, getD-drop, take-take}
+use native.Mathlib.Nat.{add-zero}
+use native.Mathlib.Numerals.{add-one}
+use lib.ListN.{length, getD, take, drop, set, length-map, length-append, List·getD-append}
+use lib.Seq.{paste, slice, getD-drop, getD-append-add, getD-set-same, getD-set-other, set-getD, take-take}
+use Rattle.words.specs.Lists.{listFrom}
 use Rattle.words.specs.Postfix.{startOf, isAncestor, splice}
+use Rattle.words.proofs.TestLaws.{Tested, holds, fails, tested}
 use Rattle.words.proofs.ListLaws.{length-listFrom}
 use Rattle.words.proofs.PostfixLaws.{length-splice}
 use Rattle.words.proofs.HoldingLaws.{holding-first}
 use Rattle.automaton.specs.StateSet.{StateSet}
 use Rattle.operations.specs.Marks.{sizeOf, storedSet, sameWords, refit}
 use Rattle.operations.specs.Exchange.{setIn, recomputedIn, outcomesAfter, fault, newTree, outcomes}
-use Rattle.operations.proofs.MarksLaws.{length-flatten, take-refit}
+use Rattle.operations.proofs.MarksLaws.{length-flatten, take-refit, same-words}
 use Rattle.operations.proofs.RuleLaws.{follows-length, follows-outcomes}
 use Rattle.operations.proofs.LoopLaws.{setAt, upwards}
+use Rattle.operations.proofs.LoopLaws as loops
 use Rattle.operations.proofs.ExchangeLoops.{movedSets, replacedSets, exchangedSets, exchangedSets-outcomes, length-movedSets, length-replacedSets, words-behind}
-use Rattle.matcher.specs.Nodes.{markedFrom}
-use Rattle.matcher.proofs.MarkLaws.{Holding, holding-set, markedAt-rows}
+use Rattle.matcher.specs.Nodes.{setFrom, markedFrom}
+use Rattle.matcher.proofs.MarkLaws.{Holding, holding-set, setFrom-rows, markedAt-rows}
+use Rattle.exchanger.specs.declared.climb.Rise.{Rise}
 use Rattle.exchanger.specs.Climbing.{climbFrom, foot}
 use Rattle.exchanger.specs.Exchanging.{exchangedFrom}
+use Rattle.exchanger.proofs.ClimbLaws.{recomputed-same, recomputed-changed, step-ancestor, climb-goes, climb-stops}
 use Rattle.exchanger.proofs.UpwardLaws.{Upward, Same, climb-upwards}
 use Rattle.exchanger.proofs.TailLaws.{tail-filled}
 use Rattle.exchanger.proofs.CallLaws.{Numbers, numbers, accepted-call, length-used, chapter-fits}
@@ -69,8 +76,16 @@ module _ (a table chapter marks : List ℕ) (n e : ℕ) (xs : List ℕ) (ok : fa
   abbrev replaced : ℕ → List StateSet
   replaced = replacedSets a table stored used e xs gap
 
+  -- the node before the replacement's root, counted from where it begins
+  abbrev m : ℕ
+  m = length xs - 1
+
+  some : length xs ≡ suc m
+  some = let l = facts .some in omega arith
+
   length-gap : length gap ≡ length xs
-  length-gap = length-listFrom stored (length xs) s
+  length-gap =
+      length-append (listFrom stored s m) (stored e ∷ []) ∙ ap (λ (i : ℕ). i + 1) (length-listFrom stored m s) ∙ add-one m ∙ sym some
 
   length-replaced : (k : ℕ) → length (replaced k) ≡ length tree
   length-replaced k =
@@ -89,24 +104,83 @@ module _ (a table chapter marks : List ℕ) (n e : ℕ) (xs : List ℕ) (ok : fa
         let l = length-splice a used e xs he in
         markedAt-rows a table tree (markedFrom a table tree s k moved) (replaced k) rest (s + k) (replaced-holds k (omega arith)) (omega arith) (omega arith)
 
+    -- before the root is worked out, and behind it
+    abbrev before : List ℕ
+    before = markedFrom a table tree s m moved
+
     abbrev work : List ℕ
-    work = markedFrom a table tree s (length xs) moved
+    work = markedFrom a table tree s (suc m) moved
 
     abbrev rows : List StateSet
-    rows = replaced (length xs)
+    rows = replaced (suc m)
+
+    before-holds : Holding size before (replaced m) rest
+    before-holds = replaced-holds m (omega (arith, some))
 
     work-holds : Holding size work rows rest
-    work-holds = replaced-holds (length xs) (omega arith)
+    work-holds = replaced-holds (suc m) (omega (arith, some))
 
-    loops : Same a table tree used e rest above
-        (climbFrom a table tree (s + length xs) (length tree - (s + length xs)) work (foot (length xs)))
-        (upwards a table tree above (s + length xs) (length (drop (e + 1) used)) rows (length xs))
-    loops =
+    -- the old element's set stands at the root's place as long as the root is not worked out
+    root-kept : (k : ℕ) → k ≤ m → setAt (replaced k) (s + m) ≡ stored e
+    unfolding replacedSets
+    root-kept zero h =
+        let front = listFrom stored 0 s in
+        let behind = listFrom stored (e + 1) (length (drop (e + 1) used)) in
+        let at : length (listFrom stored s m) ≡ m = length-listFrom stored m s in
+        ap (λ (i : ℕ). setAt (front ++ (gap ++ behind)) (i + m)) (sym (length-listFrom stored s 0))
+        ∙ getD-append-add front (gap ++ behind) m []
+        ∙ List·getD-append gap behind [] m (rw length-gap (omega (arith, some)))
+        ∙ ap (λ (i : ℕ). setAt gap i) (sym (add-zero m) ∙ ap (λ (i : ℕ). i + 0) (sym at))
+        ∙ getD-append-add (listFrom stored s m) (stored e ∷ []) 0 []
+    root-kept (suc k) h =
+        getD-set-other (replaced k) (s + k) (s + m) _ [] (omega arith) ∙ root-kept k (omega arith)
+
+    abbrev left : ℕ
+    left = length (drop (e + 1) used)
+
+    length-tree : length tree ≡ s + (length xs + left)
+    length-tree = length-splice a used e xs he
+
+    abbrev v : StateSet
+    v = loops.setFrom a table tree (s + m) (replaced m)
+
+    abbrev new : StateSet
+    new = setFrom a table tree before (s + m)
+
+    abbrev old : StateSet
+    old = storedSet size before (s + m)
+
+    -- the root's words are compared with the old element's
+    new-is : new ≡ v
+    new-is =
+        setFrom-rows a table tree before (replaced m) rest (s + m) before-holds
+        (omega (arith, some, length-replaced m, length-tree)) (omega (arith, some, length-tree))
+
+    old-is : old ≡ stored e
+    old-is = holding-set size before (replaced m) rest (s + m) before-holds (omega (arith, some, length-replaced m, length-tree)) ∙ root-kept m (omega arith)
+
+    root-is : setAt rows (s + length xs - 1) ≡ v
+    unfolding replacedSets
+    root-is =
+        let at : s + length xs - 1 ≡ s + m = omega (arith, some) in
+        ap (setAt rows) at ∙ getD-set-same (replaced m) (s + m) v [] (omega (arith, some, length-replaced m, length-tree))
+
+    tests : sameWords (setAt rows (s + length xs - 1)) (stored e) ≡ sameWords new old
+    tests = ap₂ sameWords (root-is ∙ sym new-is) (sym old-is)
+
+    -- if they are the same, the sets are those that stand there
+    rows-kept : sameWords new old ≡ true → rows ≡ replaced m
+    unfolding replacedSets
+    rows-kept b =
+        let same : v ≡ setAt (replaced m) (s + m) = sym new-is ∙ same-words new old b ∙ old-is ∙ sym (root-kept m (omega arith)) in
+        ap (λ (r : StateSet). set (replaced m) (s + m) r) same ∙ set-getD (replaced m) (s + m) []
+
+    behind : (t : Rise) → t .reach ≡ 1 → t .recomputed ≡ length xs
+        → Same a table tree used e rest above
+        (climbFrom a table tree (suc (s + m)) left work t) (upwards a table tree above (s + length xs) left rows (length xs))
+    behind t r c =
         let g = accepted-call a table chapter marks n e xs ok in
-        let l = length-splice a used e xs he in
-        let t = length-replaced (length xs) in
-        let left : length tree - (s + length xs) ≡ length (drop (e + 1) used) = omega arith in
-        let at : Upward a table tree used e rest above (s + length xs) (e + 1) 0 (length tree - (s + length xs)) work rows = record {
+        let at : Upward a table tree used e rest above (s + length xs) (e + 1) 0 left work rows = record {
           words =
               λ t. sym (getD-drop (s + length xs) tree t 0)
               ∙ ap (λ (l : List ℕ). getD l t 0)
@@ -114,48 +188,67 @@ module _ (a table chapter marks : List ℕ) (n e : ℕ) (xs : List ℕ) (ok : fa
               ∙ getD-drop (e + 1) used t 0;
           ancestors = λ t. ap (isAncestor a used e) (omega arith);
           holding = holding-first a used e;
-          inside = omega arith;
-          rows-inside = omega arith;
+          inside = omega (arith, length-tree);
+          rows-inside = omega (arith, length-tree, length-replaced (suc m));
           sets = work-holds;
         } in
-        subst
-        (λ (i : ℕ). Same a table tree used e rest above (climbFrom a table tree (s + length xs) (length tree - (s + length xs)) work (foot (length xs)))
-        (upwards a table tree above (s + length xs) i rows (length xs)))
-        left
-        (climb-upwards a table tree used e rest above (length tree - (s + length xs)) (s + length xs) (e + 1) work rows (foot (length xs)) at)
+        let first : suc (s + m) ≡ s + length xs = omega (arith, some) in
+        rw first
+        (subst
+        (λ (i : ℕ). Same a table tree used e rest above (climbFrom a table tree (s + length xs) left work t)
+        (upwards a table tree above (s + length xs) left rows i))
+        c (climb-upwards a table tree used e rest above left (s + length xs) (e + 1) 0 work rows t r at))
+
+    -- ---- both loops
 
     abbrev climbed : List ℕ × ℕ
-    climbed = climbFrom a table tree (s + length xs) (length tree - (s + length xs)) work (foot (length xs))
+    climbed = climbFrom a table tree (s + m) (suc left) before (foot m)
 
-    -- the replacement's root is compared with the old node's stored words
-    compared : exchangedFrom a table tree s (s + length xs) (stored e) moved
-        ≡ cond (sameWords (setAt rows (s + length xs - 1)) (stored e)) (work, length xs) climbed
+    climbed-is : exchangedFrom a table tree s (s + length xs - 1) moved ≡ climbed
     unfolding exchangedFrom
-    compared =
-        let count : s + length xs - s ≡ length xs = omega arith in
-        let l = length-splice a used e xs he in
-        let t = length-replaced (length xs) in
-        let some = facts .some in
-        ap
-        (λ (i : ℕ). cond (sameWords (storedSet size (markedFrom a table tree s i moved) (s + length xs - 1)) (stored e))
-        (markedFrom a table tree s i moved, i)
-        (climbFrom a table tree (s + length xs) (length tree - (s + length xs)) (markedFrom a table tree s i moved) (foot i)))
-        count
-        ∙ ap (λ (r : StateSet). cond (sameWords r (stored e)) (work, length xs) climbed)
-        (holding-set size work rows rest (s + length xs - 1) work-holds (omega arith))
+    climbed-is =
+        let at : s + length xs - 1 ≡ s + m = omega (arith, some) in
+        let count : s + length xs - 1 - s ≡ m = omega (arith, some) in
+        let more : length tree - (s + m) ≡ suc left = omega (arith, some, length-tree) in
+        ap₂ (λ (i c : ℕ). climbFrom a table tree i (length tree - i) (markedFrom a table tree s c moved) (foot c)) at count
+        ∙ ap (λ (i : ℕ). climbFrom a table tree (s + m) i before (foot m)) more
 
-    exchanged : Same a table tree used e rest above (exchangedFrom a table tree s (s + length xs) (stored e) moved)
-        (exchangedSets a table stored used e xs gap)
+    onward : sameWords new old ≡ false → climbed ≡ climbFrom a table tree (suc (s + m)) left work (record { reach = 1; recomputed = m + 1; goes = true })
+    unfolding markedFrom
+    onward b =
+        climb-goes a table tree (s + m) before (foot m) left work (record { reach = 1; recomputed = m + 1; goes = true })
+        (step-ancestor a table tree (s + m) before (foot m) _ refl (omega arith) (work, true) (recomputed-changed a table tree (s + m) before b)) refl
+
+    abbrev up : List StateSet × ℕ
+    up = upwards a table tree above (s + length xs) left rows (length xs)
+
+    sets-is : exchangedSets a table stored used e xs gap ≡ cond (sameWords new old) (rows, length xs) up
     unfolding exchangedSets
-    exchanged = rw compared (go (sameWords (setAt rows (s + length xs - 1)) (stored e)))
+    sets-is =
+        ap
+        (λ (i : ℕ). cond (sameWords (setAt (replaced i) (s + length xs - 1)) (stored e)) (replaced i, length xs)
+        (upwards a table tree above (s + length xs) left (replaced i) (length xs)))
+        some
+        ∙ ap (λ (b : Bool). cond b (rows, length xs) up) tests
+
+    exchanged : Same a table tree used e rest above (exchangedFrom a table tree s (s + length xs - 1) moved) (exchangedSets a table stored used e xs gap)
+    exchanged = rw (climbed-is, sets-is) (go (tested (sameWords new old)))
       where
-        go : (b : Bool) → Same a table tree used e rest above (cond b (work, length xs) climbed)
-            (cond b (rows, length xs) (upwards a table tree above (s + length xs) (length (drop (e + 1) used)) rows (length xs)))
-        go true = record { sets = work-holds; count = refl }
-        go false = loops
+        count : m + 1 ≡ length xs
+        count = omega (arith, some)
+
+        go : Tested (sameWords new old) → Same a table tree used e rest above climbed (cond (sameWords new old) (rows, length xs) up)
+        go (holds b) =
+            let t : Rise = record { reach = 1; recomputed = m + 1; goes = false } in
+            let p : climbed ≡ (before, m + 1) =
+            climb-stops a table tree (s + m) before (foot m) left before t
+            (step-ancestor a table tree (s + m) before (foot m) _ refl (omega arith) (before, false) (recomputed-same a table tree (s + m) before b)) refl in
+            rw (p, b) (record { sets = rw (rows-kept b) before-holds; count = count })
+        go (fails b) =
+            rw (onward b, b) (behind (record { reach = 1; recomputed = m + 1; goes = true }) refl count)
 
     pub left-outcomes : (marks′ : List ℕ) (count : ℕ)
-        → (marks′, count) ≡ exchangedFrom a table (splice a (take n chapter) e xs) (startOf a (take n chapter) e) (startOf a (take n chapter) e + length xs) (storedSet (sizeOf table) marks e) moved
+        → (marks′, count) ≡ exchangedFrom a table (splice a (take n chapter) e xs) (startOf a (take n chapter) e) (startOf a (take n chapter) e + length xs - 1) moved
         → Left a table chapter marks n e xs marks′ count
     unfolding outcomes refit
     left-outcomes marks′ count q =

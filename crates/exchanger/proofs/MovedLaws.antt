@@ -1,10 +1,11 @@
 -- The marks whose tail has moved hold the state sets that the loops of Exchange begin with: those before the place, whatever
--- stands in the gap, and those behind. Assumes nothing.
+-- stands in the gap, the old element's at its end, and those behind. Assumes nothing.
 use mathlib.Core.Path.{_≡_, refl, ap, ap₂, _∙_, sym}
 use mathlib.Core.List.{List, [], _∷_, _++_, flatten, append-assoc}
-use Prim.Native.Nat.{ℕ, _+_, _-_, _*_, max}
+use Prim.Native.Nat.{ℕ, suc, _+_, _-_, _*_, max}
 use native.Mathlib.Omega.{arith}
-use native.Mathlib.Nat.{zero-add, zero-mul, add-mul, one-mul}
+use native.Mathlib.Nat.{zero-add, zero-mul, suc-mul}
+use native.Mathlib.Numerals.{add-one}
 use lib.ListN.{length, take, drop, replicate, length-drop}
 use lib.Seq.{slice}
 use Rattle.words.specs.Lists.{listFrom}
@@ -50,66 +51,77 @@ module _ (a table chapter marks : List ℕ) (n e : ℕ) (xs : List ℕ) (ok : fa
   abbrev k : ℕ
   k = n - e - 1
 
-  -- whatever stood where the replacement's sets come
+  -- where the replacement's root comes
+  abbrev root : ℕ
+  root = s + length xs - 1
+
+  -- whatever stood where the replacement's sets come, and the old element's set in the place of the root's
   abbrev pub gapSets : List StateSet
-  gapSets = listFrom stored s (length xs)
+  gapSets = listFrom stored s (length xs - 1) ++ (stored e ∷ [])
 
   facts : Numbers a table chapter marks n e xs s size
   facts = numbers a table chapter marks n e xs ok s refl size refl
 
+  root-is : root ≡ s + (length xs - 1)
+  root-is = let some = facts .some in omega arith
+
   behind-count : length (drop (e + 1) used) ≡ k
   behind-count = length-drop (e + 1) used ∙ ap (λ (i : ℕ). i - (e + 1)) (length-used a table chapter marks n e xs ok) ∙ omega arith
 
-  front-words : flatten (listFrom stored 0 (s + length xs)) ≡ take ((s + length xs) * size) marks
-  front-words = flatten-stored size marks (s + length xs) 0 ∙ ap (λ (i : ℕ). take ((s + length xs) * size) (drop i marks)) (zero-mul size)
+  front-words : flatten (listFrom stored 0 root) ≡ take (root * size) marks
+  front-words = flatten-stored size marks root 0 ∙ ap (λ (i : ℕ). take (root * size) (drop i marks)) (zero-mul size)
 
-  end-words : (e + 1) * size ≡ e * size + size
-  end-words = add-mul e 1 size ∙ ap (λ (i : ℕ). e * size + i) (one-mul size)
-
-  tail-words : flatten (listFrom stored (e + 1) k) ≡ slice (e * size + size) (n * size) marks
+  tail-words : flatten (listFrom stored e (suc k)) ≡ slice (e * size) (n * size) marks
   tail-words =
       let old = facts .old-words in
-      let c : k * size ≡ n * size - (e * size + size) = omega arith in
-      flatten-stored size marks k (e + 1)
-      ∙ ap₂ (λ (i j : ℕ). take i (drop j marks)) c end-words
-      ∙ take-drop (e * size + size) (n * size) marks (omega arith)
+      let c : suc k * size ≡ n * size - e * size = suc-mul k size ∙ omega arith in
+      flatten-stored size marks (suc k) e
+      ∙ ap (λ (i : ℕ). take i (drop (e * size) marks)) c
+      ∙ take-drop (e * size) (n * size) marks (omega arith)
 
-  sets-words : flatten (movedSets a table stored used e xs gapSets) ≡ take ((s + length xs) * size) marks ++ slice (e * size + size) (n * size) marks
-  sets-words =
+  sets-are : movedSets a table stored used e xs gapSets ≡ listFrom stored 0 root ++ listFrom stored e (suc k)
+  sets-are =
       let tail = listFrom stored (e + 1) k in
-      ap (λ (i : ℕ). flatten (listFrom stored 0 s ++ (gapSets ++ listFrom stored (e + 1) i))) behind-count
-      ∙ ap flatten
-      (sym (append-assoc (listFrom stored 0 s) gapSets tail)
-      ∙ ap (λ (i : ℕ). (listFrom stored 0 s ++ listFrom stored i (length xs)) ++ tail) (sym (zero-add s))
-      ∙ ap (λ (l : List StateSet). l ++ tail) (sym (listFrom-add stored s (length xs) 0)))
-      ∙ flatten-append (listFrom stored 0 (s + length xs)) tail ∙ ap₂ (λ (l r : List ℕ). l ++ r) front-words tail-words
+      let front = listFrom stored 0 s in
+      let gap = listFrom stored s (length xs - 1) in
+      ap (λ (i : ℕ). front ++ (gapSets ++ listFrom stored (e + 1) i)) behind-count
+      ∙ regroup front gap (stored e ∷ []) tail
+      ∙ ap₂ (λ (l : List StateSet) (j : ℕ). l ++ (stored e ∷ listFrom stored j k))
+      (ap (λ (i : ℕ). front ++ listFrom stored i (length xs - 1)) (sym (zero-add s))
+      ∙ sym (listFrom-add stored s (length xs - 1) 0) ∙ ap (listFrom stored 0) (sym root-is))
+      (add-one e)
+    where
+      regroup : (u v w z : List StateSet) → u ++ ((v ++ w) ++ z) ≡ (u ++ v) ++ (w ++ z)
+      regroup u v w z = simp append-assoc
+
+  sets-words : flatten (movedSets a table stored used e xs gapSets) ≡ take (root * size) marks ++ slice (e * size) (n * size) marks
+  sets-words =
+      ap flatten sets-are ∙ flatten-append (listFrom stored 0 root) (listFrom stored e (suc k))
+      ∙ ap₂ (λ (l r : List ℕ). l ++ r) front-words tail-words
 
   sets-sized : Sized size (movedSets a table stored used e xs gapSets)
   sets-sized =
       let old = facts .old-room in
       let new = facts .new-room in
       let w = facts .new-words in
-      let m = add-mul s (length xs) size in
-      let o = facts .old-words in
-      let all : e + 1 + length (drop (e + 1) used) ≡ n = let i = facts .inside in omega (arith, behind-count) in
-      sized-append size (listFrom stored 0 s) (gapSets ++ listFrom stored (e + 1) (length (drop (e + 1) used)))
-      (sized-stored size marks s 0 (rw (zero-add s) (omega arith)))
-      (sized-append size gapSets (listFrom stored (e + 1) (length (drop (e + 1) used)))
-      (sized-stored size marks (length xs) s (omega arith))
-      (sized-stored size marks (length (drop (e + 1) used)) (e + 1) (rw all old)))
+      let all : e + suc k ≡ n = let i = facts .inside in omega arith in
+      rw sets-are
+      (sized-append size (listFrom stored 0 root) (listFrom stored e (suc k))
+      (sized-stored size marks root 0 (rw (zero-add root) (omega arith)))
+      (sized-stored size marks (suc k) e (rw all old)))
 
   -- the marks behind the move
   pub moved-holds : (moved : List ℕ)
-      → moved ≡ refit (n * size) (take ((s + length xs) * size) marks ++ slice (e * size + size) (n * size) marks) marks
+      → moved ≡ refit (n * size) (take ((s + length xs - 1) * size) marks ++ slice (e * size) (n * size) marks) marks
       → Holding (sizeOf table) moved (movedSets a table stored used e xs gapSets)
       (behindUse (n * size) ((s + length xs + k) * size) marks)
   unfolding refit
   moved-holds moved q =
-      let words = take ((s + length xs) * size) marks ++ slice (e * size + size) (n * size) marks in
+      let words = take (root * size) marks ++ slice (e * size) (n * size) marks in
       let old = facts .old-words in
       let new = facts .new-words in
       let l : length words ≡ (s + length xs + k) * size =
-      length-kept marks (n * size) (e * size + size) ((s + length xs) * size) (marks-fits a table chapter marks n e xs ok s refl size refl) ∙ omega arith in
+      length-kept marks (n * size) (e * size) (root * size) (marks-fits a table chapter marks n e xs ok s refl size refl) ∙ omega arith in
       record {
         words = q ∙ ap₂ (λ (t : List ℕ) (i : ℕ). t ++ behindUse (n * size) i marks) (sym sets-words) l;
         sized = sets-sized;

@@ -4,19 +4,15 @@ use mathlib.Core.Path.{_≡_, ap, ap₂, _∙_, sym}
 use mathlib.Core.List.{List, _++_}
 use Prim.Native.Nat.{ℕ, _+_, _-_, _*_, _≤_}
 use native.Mathlib.Omega.{arith}
-use lib.ListN.{length, take, drop, replicate, length-append, length-drop}
-use lib.Seq.{paste, slice, take-at, length-take-le}
+use lib.ListN.{length, take}
+use lib.Seq.{paste, slice}
 use Rattle.words.specs.Postfix.{startOf, splice}
-use Rattle.automaton.specs.StateSet.{StateSet}
-use Rattle.operations.specs.Marks.{sizeOf, storedSet, refit}
+use Rattle.operations.specs.Marks.{sizeOf, refit}
 use Rattle.operations.specs.Exchange.{fault, newTree}
 use Rattle.exchanger.specs.Exchanging.{exchangedFrom, Exchangeable}
 use Rattle.exchanger.proofs.CallLaws.{Numbers, numbers, result-workable}
 use Rattle.exchanger.proofs.MovedLaws.{moved-holds}
 use Rattle.exchanger.proofs.ExchangeLaws.{Left, left-outcomes, chapter-left, nodes-left}
-
-length-part : (at size : ℕ) (l : List ℕ) → at + size ≤ length l → length (take (at + size - at) (drop at l)) ≡ size
-length-part at size l h = length-take-le (at + size - at) (drop at l) (rw (length-drop at l) (omega arith)) ∙ omega arith
 
 module _ (a table chapter marks : List ℕ) (n e : ℕ) (xs : List ℕ) (ok : fault a table chapter marks n e xs ≡ 0)
     (s : ℕ) (qs : s ≡ startOf a (take n chapter) e) (size : ℕ) (qz : size ≡ sizeOf table) where
@@ -25,35 +21,6 @@ module _ (a table chapter marks : List ℕ) (n e : ℕ) (xs : List ℕ) (ok : fa
 
   facts : Numbers a table chapter marks n e xs s size
   facts = numbers a table chapter marks n e xs ok s qs size qz
-
-  -- ---- the old element's words
-
-  abbrev part : List ℕ
-  part = take (e * size + size - e * size) (drop (e * size) marks)
-
-  part-is : part ≡ storedSet (sizeOf table) marks e
-  unfolding storedSet
-  part-is =
-      let l : e * size + size - e * size ≡ size = omega arith in
-      ap (λ (i : ℕ). take i (drop (e * size) marks)) l ∙ ap (λ (i : ℕ). take i (drop (e * i) marks)) qz
-
-  pub part-long : length (take (e * size + size - e * size) (drop (e * size) marks)) ≡ size
-  part-long =
-      let old = facts .old-words in
-      let room = facts .old-room in
-      length-part (e * size) size marks (omega arith)
-
-  module _ (set : StateSet)
-      (p : set ≡ take (e * size + size - e * size) (drop (e * size) marks)
-      ++ replicate (32 - length (take (e * size + size - e * size) (drop (e * size) marks))) 0) where
-    pub saved-set : take size set ≡ storedSet (sizeOf table) marks e
-    saved-set = ap (take size) p ∙ take-at part _ size part-long ∙ part-is
-
-    pub saved-room : size ≤ length set
-    saved-room = rw (p, length-append part (replicate (32 - length part) 0), part-long) (omega arith)
-
-    pub saved-long : size ≡ length (take size set)
-    saved-long = sym (length-take-le size set saved-room)
 
   -- ---- the chapter
 
@@ -76,25 +43,22 @@ module _ (a table chapter marks : List ℕ) (n e : ℕ) (xs : List ℕ) (ok : fa
     -- ---- the marks
 
     module _ (work : List ℕ)
-        (m : work ≡ refit (n * size) (take ((s + length xs) * size) marks ++ slice (e * size + size) (n * size) marks) marks)
+        (m : work ≡ refit (n * size) (take ((s + length xs - 1) * size) marks ++ slice (e * size) (n * size) marks) marks)
         (long : length work ≡ length marks) where
-      pub call-exchangeable : Exchangeable a table (take (s + length xs + (n - e - 1)) filled) s (s + length xs) work
+      pub call-exchangeable : Exchangeable a table (take (s + length xs + (n - e - 1)) filled) s (s + length xs - 1) work
       call-exchangeable =
           let some = facts .some in
           let t = facts .total in
           rw chapter-nodes
-          (record { workable = result-workable a table chapter marks n e xs ok work long; some = omega arith; inside = omega arith })
+          (record { workable = result-workable a table chapter marks n e xs ok work long; order = omega arith; inside = omega arith })
 
-      pub marks-exit : (old : StateSet) → old ≡ storedSet (sizeOf table) marks e → (marks′ : List ℕ) (count : ℕ)
-          → (marks′, count) ≡ exchangedFrom a table (take (s + length xs + (n - e - 1)) filled) s (s + length xs) old work
+      pub marks-exit : (marks′ : List ℕ) (count : ℕ)
+          → (marks′, count) ≡ exchangedFrom a table (take (s + length xs + (n - e - 1)) filled) s (s + length xs - 1) work
           → Left a table chapter marks n e xs marks′ count
-      marks-exit old o marks′ count r =
-          let place = startOf a (take n chapter) e in
+      marks-exit marks′ count r =
           let held =
           moved-holds a table chapter marks n e xs ok work
           (m
-          ∙ ap₂ (λ (i z : ℕ). refit (n * z) (take ((i + length xs) * z) marks ++ slice (e * z + z) (n * z) marks) marks) qs qz) in
+          ∙ ap₂ (λ (i z : ℕ). refit (n * z) (take ((i + length xs - 1) * z) marks ++ slice (e * z) (n * z) marks) marks) qs qz) in
           left-outcomes a table chapter marks n e xs ok work held marks′ count
-          (r
-          ∙ ap₂ (λ (l : List ℕ) (i : ℕ). exchangedFrom a table l i (i + length xs) old work) chapter-nodes qs
-          ∙ ap (λ (w : StateSet). exchangedFrom a table (splice a (take n chapter) e xs) place (place + length xs) w work) o)
+          (r ∙ ap₂ (λ (l : List ℕ) (i : ℕ). exchangedFrom a table l i (i + length xs - 1) work) chapter-nodes qs)

@@ -55,13 +55,11 @@ module _ (a table ch used : List ℕ) (e : ℕ) (rest : List ℕ) (above : ℕ �
 
   abbrev Goal : ℕ → Type 0
   Goal n =
-      (i j : ℕ) (marks : List ℕ) (rows : List StateSet) (t : Rise) → Upward i j (t .others) n marks rows
+      (i j d : ℕ) (marks : List ℕ) (rows : List StateSet) (t : Rise) → t .reach ≡ suc d → Upward i j d n marks rows
       → Same (climbs i n marks t) (ups i n rows (t .recomputed))
 
-  module _ (n : ℕ) (ih : Goal n) (i j : ℕ) (marks : List ℕ) (rows : List StateSet) (t : Rise) (g : Upward i j (t .others) (suc n) marks rows) where
-    abbrev d : ℕ
-    d = t .others
-
+  module _ (n : ℕ) (ih : Goal n) (i j d : ℕ) (marks : List ℕ) (rows : List StateSet) (t : Rise) (reached : t .reach ≡ suc d)
+      (g : Upward i j d (suc n) marks rows) where
     abbrev r : ℕ
     r = arity a (getD ch i 0)
 
@@ -91,12 +89,12 @@ module _ (a table ch used : List ℕ) (e : ℕ) (rest : List ℕ) (above : ℕ �
         let l′ : arity a (getD used j 0) ≤ d = rw word l in
         let y : HoldingTree a used e (suc j) (d - r + 1) =
         subst (λ (k : ℕ). HoldingTree a used e (suc j) (d - k + 1)) word (holding-others a used e j d (g .holding) l′) in
-        let t′ : Rise = record { others = d - r + 1; recomputed = t .recomputed; goes = true } in
+        let t′ : Rise = record { reach = t .reach - r + 1; recomputed = t .recomputed; goes = true } in
         let p : climbs i (suc n) marks t ≡ climbs (suc i) n marks t′ =
-        climb-goes a table ch i marks t n marks t′ (step-beside a table ch i marks t r refl l) refl in
+        climb-goes a table ch i marks t n marks t′ (step-beside a table ch i marks t r refl (omega arith)) refl in
         let q : ups i (suc n) rows (t .recomputed) ≡ ups (suc i) n rows (t .recomputed) =
         upwards-beside a table ch above i n rows (t .recomputed) (above-here ∙ takes-others a used e j d (g .holding) l′) in
-        rw (p, q) (ih (suc i) (suc j) marks rows t′ (next (d - r + 1) marks rows y refl (g .sets)))
+        rw (p, q) (ih (suc i) (suc j) (d - r + 1) marks rows t′ (omega arith) (next (d - r + 1) marks rows y refl (g .sets)))
 
     ancestor : d < r → Same (climbs i (suc n) marks t) (ups i (suc n) rows (t .recomputed))
     ancestor l = go (tested (sameWords new old))
@@ -127,32 +125,32 @@ module _ (a table ch used : List ℕ) (e : ℕ) (rest : List ℕ) (above : ℕ �
 
         go : Tested (sameWords new old) → Same (climbs i (suc n) marks t) (ups i (suc n) rows (t .recomputed))
         go (holds b) =
-            let t′ : Rise = record { others = 0; recomputed = t .recomputed + 1; goes = false } in
+            let t′ : Rise = record { reach = 1; recomputed = t .recomputed + 1; goes = false } in
             let p : climbs i (suc n) marks t ≡ (marks, t .recomputed + 1) =
             climb-stops a table ch i marks t n marks t′
-            (step-ancestor a table ch i marks t r refl l (marks, false) (recomputed-same a table ch i marks b)) refl in
+            (step-ancestor a table ch i marks t r refl (omega arith) (marks, false) (recomputed-same a table ch i marks b)) refl in
             let q : ups i (suc n) rows (t .recomputed) ≡ (rows, t .recomputed + 1) =
             upwards-last a table ch above i n rows (t .recomputed) up (tests ∙ b) in
             rw (p, q) (record { sets = g .sets; count = refl })
         go (fails b) =
-            let t′ : Rise = record { others = 0; recomputed = t .recomputed + 1; goes = true } in
+            let t′ : Rise = record { reach = 1; recomputed = t .recomputed + 1; goes = true } in
             let marks′ = markedAt a table ch i marks in
             let rows′ = set rows i (loops.setFrom a table ch i rows) in
             let p : climbs i (suc n) marks t ≡ climbs (suc i) n marks′ t′ =
             climb-goes a table ch i marks t n marks′ t′
-            (step-ancestor a table ch i marks t r refl l (marks′, true) (recomputed-changed a table ch i marks b)) refl in
+            (step-ancestor a table ch i marks t r refl (omega arith) (marks′, true) (recomputed-changed a table ch i marks b)) refl in
             let q : ups i (suc n) rows (t .recomputed) ≡ ups (suc i) n rows′ (t .recomputed + 1) =
             upwards-onward a table ch above i n rows (t .recomputed) up (tests ∙ b) in
             rw (p, q)
-            (ih (suc i) (suc j) marks′ rows′ t′
+            (ih (suc i) (suc j) 0 marks′ rows′ t′ refl
             (next 0 marks′ rows′ (holding-ancestor a used e j d (g .holding) l′) (length-set rows i _)
             (markedAt-rows a table ch marks rows rest i (g .sets) inside-rows inside)))
 
   pub climb-upwards : (n : ℕ) → Goal n
   unfolding climbFrom upwards
-  climb-upwards zero i j marks rows t g = record { sets = g .sets; count = refl }
-  climb-upwards (suc n) i j marks rows t g = choose (decLe (arity a (getD ch i 0)) (t .others)) (climb-upwards n)
+  climb-upwards zero i j d marks rows t reached g = record { sets = g .sets; count = refl }
+  climb-upwards (suc n) i j d marks rows t reached g = choose (decLe (arity a (getD ch i 0)) d) (climb-upwards n)
     where
-      choose : Dec (arity a (getD ch i 0) ≤ t .others) → Goal n → Same (climbs i (suc n) marks t) (ups i (suc n) rows (t .recomputed))
-      choose (yes l) ih = beside n ih i j marks rows t g l
-      choose (no l) ih = ancestor n ih i j marks rows t g (omega arith)
+      choose : Dec (arity a (getD ch i 0) ≤ d) → Goal n → Same (climbs i (suc n) marks t) (ups i (suc n) rows (t .recomputed))
+      choose (yes l) ih = beside n ih i j d marks rows t reached g l
+      choose (no l) ih = ancestor n ih i j d marks rows t reached g (omega arith)

@@ -1,30 +1,37 @@
--- What the loop over the nodes behind a replaced subtree does, node by node. These definitions serve inner functions. Assumes
+-- What the loop over the replacement's root and the nodes behind it does, node by node. These definitions serve inner functions. Assumes
 -- nothing.
 use Prim.Native.Nat.{ℕ, zero, suc, _+_, _-_, _≤_}
 use mathlib.Core.Bool.{Bool, true, false, cond}
 use mathlib.Core.List.{List}
-use lib.ListN.{length, getD}
-use lib.Dec.{leb}
+use lib.ListN.{length, getD, take, drop}
+use lib.Seq.{paste}
+use lib.Dec.{ltb}
 use Rattle.words.specs.Postfix.{arity}
+use Rattle.automaton.specs.StateSet.{StateSet}
 use Rattle.operations.specs.Marks.{sizeOf, storedSet, sameWords}
 use Rattle.matcher.specs.Nodes.{setFrom, markedAt, AtNode, AtNodes}
 use Rattle.exchanger.specs.declared.climb.Rise.{Rise}
+
+-- A set's words are written from index `at` on, and whether they differ from those that stand there.
+unfoldable pub updatedAt : List ℕ → ℕ → StateSet → List ℕ × Bool
+updatedAt marks at set =
+    cond (sameWords set (take (length set) (drop at marks))) (marks, false) (paste marks at set (length set), true)
 
 -- Node i is recomputed. If its words are those that stand in the marks, nothing changes; otherwise they are written.
 unfoldable pub recomputeAt : List ℕ → List ℕ → List ℕ → ℕ → List ℕ → List ℕ × Bool
 recomputeAt a table ch i marks =
     cond (sameWords (setFrom a table ch marks i) (storedSet (sizeOf table) marks i)) (marks, false) (markedAt a table ch i marks, true)
 
--- Of the trees that the nodes before i make, `others` stand above the one that holds the replaced subtree. A node that takes
--- these alone is no ancestor, and nothing is done. Any other is an ancestor: it is recomputed, and work goes on if its words
--- have changed.
+-- Of the trees that the nodes before i make, the last `reach` are the one that holds the replacement and those above it. A
+-- node that takes fewer is no ancestor, and nothing is done. Any other is an ancestor, or the replacement's root, before which
+-- `reach` is 0: it is recomputed, and work goes on if its words have changed.
 unfoldable pub climbStep : List ℕ → List ℕ → List ℕ → ℕ → List ℕ → Rise → List ℕ × Rise
 climbStep a table ch i marks t =
     let r = arity a (getD ch i 0) in
-    let beside : List ℕ × Rise = (marks, record { others = t .others - r + 1; recomputed = t .recomputed; goes = true }) in
+    let beside : List ℕ × Rise = (marks, record { reach = t .reach - r + 1; recomputed = t .recomputed; goes = true }) in
     let p = recomputeAt a table ch i marks in
-    let ancestor : List ℕ × Rise = (p .0, record { others = 0; recomputed = t .recomputed + 1; goes = p .1 }) in
-    cond (leb r (t .others)) beside ancestor
+    let ancestor : List ℕ × Rise = (p .0, record { reach = 1; recomputed = t .recomputed + 1; goes = p .1 }) in
+    cond (ltb r (t .reach)) beside ancestor
 
 -- the marks behind n nodes from node i on, and how many nodes were recomputed
 unfoldable pub climbFrom : List ℕ → List ℕ → List ℕ → ℕ → ℕ → List ℕ → Rise → List ℕ × ℕ
@@ -36,15 +43,15 @@ climbFrom a table ch i (suc n) marks t =
 
 -- where the loop begins, with so many nodes recomputed before
 abbrev pub foot : ℕ → Rise
-foot count = record { others = 0; recomputed = count; goes = true }
+foot count = record { reach = 0; recomputed = count; goes = true }
 
 -- what going past node i asks: the counts stay small
 pub record Climbable (a table ch : List ℕ) (i : ℕ) (marks array : List ℕ) (height : ℕ) (t : Rise) : Type 0 where
   pub at : AtNode a table ch i marks array height
-  pub few-others : t .others ≤ 4096
+  pub few-reached : t .reach ≤ 4096
   pub few-recomputed : t .recomputed ≤ 8192
 
 -- what the whole loop asks, with `count` nodes recomputed before
-pub record ClimbStart (a table ch : List ℕ) (first : ℕ) (marks array : List ℕ) (height count : ℕ) : Type 0 where
-  pub nodes : AtNodes a table ch first (length ch) marks array height
+pub record ClimbStart (a table ch : List ℕ) (root : ℕ) (marks array : List ℕ) (height count : ℕ) : Type 0 where
+  pub nodes : AtNodes a table ch root (length ch) marks array height
   pub few : count ≤ 4096

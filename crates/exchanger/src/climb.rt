@@ -1,9 +1,9 @@
-// The nodes behind a replaced subtree: its ancestors are recomputed, nearest first, until one keeps its words.
+// The replacement's root and then its ancestors, nearest first: each is recomputed, until one keeps its words.
 ghost use mathlib.Core.Path.{_≡_};
-ghost use Prim.Native.Nat.{_-_};
+ghost use Prim.Native.Nat.{_+_, _-_, _≤_};
 ghost use lib.ListN.{length};
 ghost use Rattle.matcher.specs.Nodes.{AtNode};
-ghost use Rattle.exchanger.specs.Climbing.{recomputeAt, climbStep, climbFrom, foot, Climbable, ClimbStart};
+ghost use Rattle.exchanger.specs.Climbing.{updatedAt, recomputeAt, climbStep, climbFrom, foot, Climbable, ClimbStart};
 use matcher::nodes::node_at;
 use matcher::nodes::push_root;
 use slices::sets::same_words;
@@ -11,16 +11,29 @@ use slices::sets::write_set_at;
 use tables::head::set_size;
 use words::postfix::arity;
 
-// How far the loop is: how many roots on the stack are above the one whose tree holds the replaced subtree, how many nodes
-// were recomputed, and whether work goes on.
+// How far the loop is: how many roots on the stack, counted from the top, reach down to the one whose tree holds the
+// replacement (0 before the replacement's root is put there), how many nodes were recomputed, and whether work goes on.
 pub struct Rise {
-    pub others: usize,
+    pub reach: usize,
     pub recomputed: usize,
     pub goes: bool,
 }
 
-// Recomputes node i from the marks as they stand. Its own words there are still those stored before the call: if they are
-// the same, nothing is written. Answers whether they changed.
+// Writes the words of one set from index `at` on, unless the same stand there. Answers whether they changed.
+fn update_set(marks: &mut [u32], at: usize, set: &[u32]) -> bool
+    requires { ⌜ at + length (now set) ≤ length (now marks) ⌝ }
+    ensures { λ r. ⌜ (now (marks .exit), r) ≡ updatedAt (now (marks .entry)) at (now (set .entry)) ⌝ }
+{
+    let stored = &marks[at..at + set.len()];
+    if same_words(set, stored) {
+        return false;
+    }
+    write_set_at(marks, at, set);
+    true
+}
+
+// Recomputes node i from the marks as they stand. Its own words there are still those stored before the call. Answers whether
+// they changed.
 fn recompute(
     alphabet: &[u32],
     table: &[u32],
@@ -37,19 +50,12 @@ fn recompute(
         ⌝ }
 {
     let size = set_size(table);
-    let at = i * size;
     let set = node_at(alphabet, table, nodes, i, marks, stack, height);
-    let new = &set[..size];
-    let stored = &marks[at..at + size];
-    if same_words(new, stored) {
-        return false;
-    }
-    write_set_at(marks, at, new);
-    true
+    update_set(marks, i * size, &set[..size])
 }
 
-// Goes past node i. A node that takes only roots above the one whose tree holds the replaced subtree is no ancestor of it:
-// its words stay. An ancestor is recomputed.
+// Goes past node i. A node that takes only roots above the one whose tree holds the replacement is no ancestor of it: its
+// words stay. The replacement's root and its ancestors are recomputed.
 fn climb_node(
     alphabet: &[u32],
     table: &[u32],
@@ -67,48 +73,48 @@ fn climb_node(
         ⌝ }
 {
     let children = arity(alphabet, nodes[i]);
-    let others = rise.others;
+    let reach = rise.reach;
     let recomputed = rise.recomputed;
-    if children <= others {
+    if children < reach {
         return Rise {
-            others: others - children + 1,
+            reach: reach - children + 1,
             recomputed,
             goes: true,
         };
     }
     let changed = recompute(alphabet, table, nodes, i, marks, stack, height);
     Rise {
-        others: 0,
+        reach: 1,
         recomputed: recomputed + 1,
         goes: changed,
     }
 }
 
-// Goes past the nodes from `first` on, until an ancestor keeps its words or the nodes end. Answers how many nodes were
-// recomputed; `count` of them before.
+// Goes past the nodes from `root` on, the replacement's root, until one that is recomputed keeps its words or the nodes end.
+// Answers how many nodes were recomputed; `count` of them before.
 pub fn climb(
     alphabet: &[u32],
     table: &[u32],
     nodes: &[u32],
-    first: usize,
+    root: usize,
     marks: &mut [u32],
     stack: &mut [u32],
     height: usize,
     count: usize,
 ) -> usize
-    requires { ⌜ ClimbStart (now alphabet) (now table) (now nodes) first (now marks) (now stack) height count ⌝ }
+    requires { ⌜ ClimbStart (now alphabet) (now table) (now nodes) root (now marks) (now stack) height count ⌝ }
     ensures { λ r. ⌜
         (now (marks .exit), r)
-        ≡ climbFrom (now (alphabet .entry)) (now (table .entry)) (now (nodes .entry)) first (length (now (nodes .entry)) - first) (now (marks .entry)) (foot count)
+        ≡ climbFrom (now (alphabet .entry)) (now (table .entry)) (now (nodes .entry)) root (length (now (nodes .entry)) - root) (now (marks .entry)) (foot count)
         ⌝ }
 {
     let mut rise = Rise {
-        others: 0,
+        reach: 0,
         recomputed: count,
         goes: true,
     };
     let mut top = height;
-    let mut i = first;
+    let mut i = root;
     while i < nodes.len() {
         rise = climb_node(alphabet, table, nodes, i, marks, stack, top, rise);
         if !rise.goes {

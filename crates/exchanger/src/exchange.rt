@@ -16,42 +16,42 @@ use super::replace::move_tail;
 use matcher::nodes::mark_nodes;
 use matcher::nodes::stack_roots;
 use slices::moves::copy_words;
-use slices::sets::read_set;
-use slices::sets::same_words;
 use tables::head::set_size;
 use words::postfix::subtree_start;
 
-// Works out the replacement's nodes, from `start` up to `end`, over a stack with the roots of the nodes before. If the words
-// of its root differ from the old ones, goes on with the ancestors. Answers how many nodes were worked out.
+// Works out the replacement's nodes, from `start` up to its root, over a stack with the roots of the nodes before. At the
+// root's place in the marks are the old element's words: if the root's differ from them, goes on with the ancestors. Answers
+// how many nodes were worked out.
 fn recompute_nodes(
     alphabet: &[u32],
     table: &[u32],
     nodes: &[u32],
     start: usize,
-    end: usize,
-    old: &[u32],
+    root: usize,
     marks: &mut [u32],
 ) -> usize
-    requires { ⌜ Exchangeable (now alphabet) (now table) (now nodes) start end (now marks) ⌝ }
+    requires { ⌜ Exchangeable (now alphabet) (now table) (now nodes) start root (now marks) ⌝ }
     ensures { λ r. ⌜
         (now (marks .exit), r)
-        ≡ exchangedFrom (now (alphabet .entry)) (now (table .entry)) (now (nodes .entry)) start end (now (old .entry)) (now (marks .entry))
+        ≡ exchangedFrom (now (alphabet .entry)) (now (table .entry)) (now (nodes .entry)) start root (now (marks .entry))
         ⌝ }
 {
-    let size = set_size(table);
     let mut stack = [0u32; 4096];
     let base = stack_roots(alphabet, nodes, start, &mut stack);
-    let top = mark_nodes(alphabet, table, nodes, start, end, marks, &mut stack, base);
-    let count = end - start;
-    let root = (end - 1) * size;
-    let new = &marks[root..root + size];
-    if same_words(new, old) {
-        return count;
-    }
-    climb(alphabet, table, nodes, end, marks, &mut stack, top, count)
+    let top = mark_nodes(alphabet, table, nodes, start, root, marks, &mut stack, base);
+    climb(
+        alphabet,
+        table,
+        nodes,
+        root,
+        marks,
+        &mut stack,
+        top,
+        root - start,
+    )
 }
 
-// An accepted call. The old element's words are saved before any word moves.
+// An accepted call. The old element's words move to the place of the replacement's root, which is then compared with them.
 fn replace_subtree(
     alphabet: &[u32],
     table: &[u32],
@@ -85,21 +85,12 @@ fn replace_subtree(
     let size = set_size(table);
     let start = subtree_start(alphabet, &chapter[..count], element);
     let behind = start + replacement.len();
+    let root = behind - 1;
     let total = behind + (count - element - 1);
-    let first = element * size;
-    let old = read_set(&marks[first..first + size]);
     move_tail(chapter, count, element + 1, behind);
     copy_words(chapter, start, replacement);
-    move_tail(marks, count * size, first + size, behind * size);
-    let recomputed = recompute_nodes(
-        alphabet,
-        table,
-        &chapter[..total],
-        start,
-        behind,
-        &old[..size],
-        marks,
-    );
+    move_tail(marks, count * size, element * size, root * size);
+    let recomputed = recompute_nodes(alphabet, table, &chapter[..total], start, root, marks);
     Exchanged::Replaced(total, recomputed)
 }
 

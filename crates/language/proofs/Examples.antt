@@ -67,22 +67,13 @@ by-empty = (
   atSymbol (atConstant (inr (a≢c, refl))) (atMore (atConstant (inr (b≢c, refl))) atNone),
 )
 
--- "f(a,c) by it has no member"
-no-constant : {u t : Tree} → Member (con c) u → Substitution (only c (Member empty)) u t → ⊥
-no-constant m (atConstant (inl p)) = p .1
-no-constant m (atConstant (inr p)) = p .0 (sym (m .0))
-no-constant m (atSymbol p ps) = m .1
-
-no-second : {us ts : Trees} → Members (moreᵉ (con c) noneᵉ) us → Substitutions (only c (Member empty)) us ts → ⊥
-no-second m atNone = m
-no-second m (atMore p ps) = no-constant (m .0) p
-
+-- "f(a,c) by it has no member": nothing can be put at c
 pub by-empty-none : (t : Tree) → Member (product c (fᵉ (con a) (con c)) empty) t → ⊥
-by-empty-none t (u, m, s) = go m s
-  where
-    go : {u t : Tree} → Member (fᵉ (con a) (con c)) u → Substitution (only c (Member empty)) u t → ⊥
-    go m (atConstant s) = m .1
-    go m (atSymbol p ps) = no-second (m .1 .1) ps
+by-empty-none t (u, m, atConstant s) = m .1
+by-empty-none t (u, m, atSymbol p atNone) = m .1 .1
+by-empty-none t (u, m, atSymbol p (atMore (atConstant (inl s)) q)) = s .1
+by-empty-none t (u, m, atSymbol p (atMore (atConstant (inr s)) q)) = s .0 (sym (m .1 .1 .0 .0))
+by-empty-none t (u, m, atSymbol p (atMore (atSymbol q r) s)) = m .1 .1 .0 .1
 
 -- "f(c,c) by a + b over c has f(a,b)"
 pub separately : Member (product c (fᵉ (con c) (con c)) (union (con a) (con b))) (f (constant a) (constant b))

@@ -11,9 +11,10 @@ use Rattle.words.specs.Lists.{all}
 use Rattle.words.specs.Word.{Kind, symbolKind, emptyKind, unionKind, productKind, closureKind, fieldRange, wordOf, lowByte}
 use Rattle.words.specs.Alphabet.{isConstant}
 use Rattle.words.specs.Tree.{Tree, none, more, postfix, postfixAll}
-use Rattle.words.specs.Postfix.{oneTree, Ranked, RankedAll}
+use Rattle.words.specs.Postfix.{oneTree}
 use Rattle.words.specs.Expression.{namesAt, isExpressionWord}
 use Rattle.language.specs.Expression.{Expression, Expressions, symbol, empty, union, product, closure, noneᵉ, moreᵉ, syntaxTree, syntaxTrees, expressionWords, ExpressionOver, ExpressionsOver}
+use Rattle.words.proofs.RankedTree.{Ranked, RankedAll}
 use Rattle.words.proofs.TestLaws.{true-and, all-append}
 use Rattle.words.proofs.ExactlyOne.{ExactlyOne, one-along}
 use Rattle.words.proofs.WordLaws.{arity-wordOf, isExpressionWord-wordOf}

@@ -10,9 +10,10 @@ use Rattle.words.specs.Lists.{all}
 use Rattle.words.specs.Word.{Kind, entryKind, symbolKind, emptyKind, unionKind, productKind, closureKind, nodeKind, headKind, transitionKind, epsilonKind, sourceKind, noKind, kindOf, bodyOf, wordOf, lowByte}
 use Rattle.words.specs.Alphabet.{rankOf, isConstant}
 use Rattle.words.specs.Tree.{Tree, Trees, node, none, more, number, postfix, postfixAll}
-use Rattle.words.specs.Postfix.{arity, Ranked, RankedAll}
+use Rattle.words.specs.Postfix.{arity}
 use Rattle.words.specs.Expression.{isExpressionWord}
 use Rattle.language.specs.Expression.{Expression, Expressions, symbol, empty, union, product, closure, noneᵉ, moreᵉ, numberᵉ, syntaxTree, syntaxTrees, ExpressionOver, ExpressionsOver}
+use Rattle.words.proofs.RankedTree.{Ranked, RankedAll}
 use Rattle.words.proofs.TestLaws.{and-true, all-left, all-right}
 use Rattle.words.proofs.KindLaws.{kindOf-wordOf}
 use Rattle.words.proofs.AlphabetLaws.{isConstant-zero}

@@ -9,9 +9,10 @@ use lib.ListN.{length}
 use Rattle.words.specs.Lists.{all}
 use Rattle.words.specs.Word.{nodeKind, wordOf}
 use Rattle.words.specs.Tree.{Tree, Trees, node, none, more, postfix, postfixAll}
-use Rattle.words.specs.Postfix.{oneTree, Ranked, RankedAll}
+use Rattle.words.specs.Postfix.{oneTree}
 use Rattle.words.specs.Chapter.{symbolOf, isNode}
 use Rattle.language.specs.Expression.{treeWords, TreeOver, TreesOver}
+use Rattle.words.proofs.RankedTree.{Ranked, RankedAll}
 use Rattle.words.proofs.TestLaws.{and-true, true-and, all-left, all-right, all-append}
 use Rattle.words.proofs.ExactlyOne.{ExactlyOne, one-along}
 use Rattle.words.proofs.WordLaws.{arity-wordOf, isNode-facts, isNode-wordOf, symbolOf-wordOf}

@@ -8,10 +8,11 @@ use native.Mathlib.Omega.{arith}
 use lib.ListN.{length, getD, take, drop, take-append-drop}
 use Rattle.words.specs.Lists.{all}
 use Rattle.words.specs.Word.{nodeKind, wordOf}
-use Rattle.words.specs.Tree.{Tree, Trees, node, none, more, fold, foldAll}
+use Rattle.words.specs.Tree.{Tree, Trees, node, none, more}
 use Rattle.words.specs.Postfix.{oneTree, startOf, subtreeOf, values}
 use Rattle.words.specs.Chapter.{symbolOf, isNode}
 use Rattle.language.specs.Expression.{TreeOver, TreesOver}
+use Rattle.words.proofs.TreeFold.{fold, foldAll}
 use Rattle.words.proofs.TestLaws.{all-left, all-right}
 use Rattle.words.proofs.ExactlyOne.{ExactlyOne}
 use Rattle.words.proofs.WordLaws.{symbolOf-wordOf}

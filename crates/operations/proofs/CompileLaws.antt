@@ -11,7 +11,7 @@ use borrow.Author.Tests.{ltb-false}
 use Rattle.words.specs.Alphabet.{noAlphabet, alphabetRefusals, alphabetFault}
 use Rattle.words.specs.Expression.{noExpressionWords, expressionRefusals, expressionFault}
 use Rattle.words.specs.Postfix.{notOneTree}
-use Rattle.words.proofs.RefusalLaws.{refusal-none, none-refusal}
+use Rattle.words.proofs.RefusalLaws.{none-refusal}
 use Rattle.words.proofs.AlphabetLaws.{alphabet-most}
 use Rattle.words.proofs.ExactlyOne.{ExactlyOne}
 use Rattle.language.proofs.ExpressionLaws.{ExpressionOf}
@@ -24,7 +24,7 @@ use Rattle.automaton.proofs.CompiledOver.{compiled-over}
 use Rattle.automaton.proofs.CompiledTable.{compiled-isTable, table-most}
 use Rattle.operations.specs.Answer.{accepted}
 use Rattle.operations.specs.Compile.{compiledTable, tooManyStates, compileRefusals, compileFault, compileAnswer, compileExit}
-use Rattle.operations.proofs.AcceptedLaws.{accepted-values}
+use Rattle.operations.proofs.AcceptedLaws.{accepted-values, conditionOf, none-applies}
 
 -- an accepted call that answers k
 pub record CompileAccepted (a e slice : List ℕ) (k : ℕ) : Type 0 where
@@ -53,15 +53,15 @@ record Fine (a e : List ℕ) : Type 0 where
 compile-fine : (a e : List ℕ) (room : ℕ) → compileFault a e room ≡ 0 → Fine a e
 unfolding tooManyStates
 compile-fine a e room h =
-    let p = refusal-none (compileRefusals a e room) refl h in
-    let q = p .1 .1 in
+    let rs = compileRefusals a e room in
+    let not-so : (n : ℕ) → conditionOf n rs ≡ false = none-applies rs refl h in
     record {
-      alphabet = p .0;
-      words = q .1 .0;
-      tree = q .1 .1 .0;
-      states = ltb-false 1024 (compiled a e .states) (q .1 .1 .1 .0);
-      alphabetFine = none-refusal (alphabetRefusals a) (p .0, (p .1 .0, tt));
-      expressionFine = none-refusal (expressionRefusals a e) (q .0, (q .1 .0, (q .1 .1 .0, tt)));
+      alphabet = not-so 1;
+      words = not-so 4;
+      tree = not-so 5;
+      states = ltb-false 1024 (compiled a e .states) (not-so 6);
+      alphabetFine = none-refusal (alphabetRefusals a) (not-so 1, (not-so 2, tt));
+      expressionFine = none-refusal (expressionRefusals a e) (not-so 3, (not-so 4, (not-so 5, tt)));
     }
 
 pub compile-accepted : (a e slice : List ℕ) (k : ℕ) → compileAnswer a e slice ≡ accepted (k ∷ []) → CompileAccepted a e slice k

@@ -27,19 +27,19 @@ use Rattle.operations.proofs.AcceptedLaws.{accepted-values, run-accepte
 use Rattle.operations.proofs.OutcomeLaws.{outcomes-right}
 
 -- the memory s and the plain chapter p, over slices of these lengths
-pub record Related (a table : List ℕ) (chapterRoom marksRoom : ℕ) (p : List ℕ) (s : Memory) : Type 0 where
+pub record Related (a table : List ℕ) (treeRoom marksRoom : ℕ) (p : List ℕ) (s : Memory) : Type 0 where
   pub count : s .count ≡ length p
   pub elements : take (s .count) (s .chapter) ≡ p
-  pub chapterLength : length (s .chapter) ≡ chapterRoom
+  pub chapterLength : length (s .chapter) ≡ treeRoom
   pub marksLength : length (s .marks) ≡ marksRoom
   -- Run accepts p, and the used marks are its state sets
   pub run : runFault a table p marksRoom ≡ 0
   pub marks : take (length p * sizeOf table) (s .marks) ≡ flatten (nodeSets a table p)
 
-module _ (a table : List ℕ) (chapterRoom marksRoom : ℕ) where
+module _ (a table : List ℕ) (treeRoom marksRoom : ℕ) where
   -- an accepted call with the plain chapter as the used elements
   abbrev Accepted : List ℕ → Call → Type 0
-  Accepted p c = ExchangeAccepted a table (length p) p chapterRoom marksRoom (c .element) (c .replacement)
+  Accepted p c = ExchangeAccepted a table (length p) p treeRoom marksRoom (c .element) (c .replacement)
 
   -- the new tree passes Run's checks
   run-spliced : (p : List ℕ) (c : Call) → Accepted p c → runFault a table (splice a p (c .element) (c .replacement)) marksRoom ≡ 0
@@ -77,7 +77,7 @@ module _ (a table : List ℕ) (chapterRoom marksRoom : ℕ) where
 
   -- ---- one call
 
-  module _ (p : List ℕ) (s : Memory) (c : Call) (g : Related a table chapterRoom marksRoom p s) where
+  module _ (p : List ℕ) (s : Memory) (c : Call) (g : Related a table treeRoom marksRoom p s) where
     abbrev tree : List ℕ
     tree = newTree a table (s .chapter) (s .marks) (s .count) (c .element) (c .replacement)
 
@@ -96,7 +96,7 @@ module _ (a table : List ℕ) (chapterRoom marksRoom : ℕ) where
     p′ = splice a p (c .element) (c .replacement)
 
     abbrev refused-by : ℕ
-    refused-by = exchangeFault a table (length p) p chapterRoom marksRoom (c .element) (c .replacement)
+    refused-by = exchangeFault a table (length p) p treeRoom marksRoom (c .element) (c .replacement)
 
     -- the plain chapter is refused as the memory is
     same-fault : fault a table (s .chapter) (s .marks) (s .count) (c .element) (c .replacement) ≡ refused-by
@@ -117,7 +117,7 @@ module _ (a table : List ℕ) (chapterRoom marksRoom : ℕ) where
         ∙ outcomes-right a table (storedSet (sizeOf table) (s .marks)) p (c .element) (c .replacement) (k .tree) (k .element) (k .replacement .tree)
         (stored-right a table p (s .marks) (g .marks))
 
-    related-exchanged : Accepted p c → Related a table chapterRoom marksRoom p′ exchanged
+    related-exchanged : Accepted p c → Related a table treeRoom marksRoom p′ exchanged
     related-exchanged k = record {
       count = ap length same-tree;
       elements = take-refit (s .count) tree (s .chapter) ∙ same-tree;
@@ -135,33 +135,33 @@ module _ (a table : List ℕ) (chapterRoom marksRoom : ℕ) where
           ∙ take-refit (s .count * sizeOf table) (flatten sets) (s .marks) ∙ ap flatten (same-sets k);
     }
       where
-        fits : ResultFits table (length p′) chapterRoom marksRoom
+        fits : ResultFits table (length p′) treeRoom marksRoom
         fits = k .fits
 
         many : length (flatten sets) ≡ length p′ * sizeOf table
         many = ap (λ (l : List StateSet). length (flatten l)) (same-sets k) ∙ length-words a table p′
 
-    related-call : Related a table chapterRoom marksRoom (plain a table chapterRoom marksRoom p c) (exchange a table s c)
+    related-call : Related a table treeRoom marksRoom (plain a table treeRoom marksRoom p c) (exchange a table s c)
     unfolding plain exchange exchangeChapter exchangeMarks exchangeAnswer
     related-call = go (tested (eqb refused-by 0))
       where
-        go : Tested (eqb refused-by 0) → Related a table chapterRoom marksRoom (plain a table chapterRoom marksRoom p c) (exchange a table s c)
+        go : Tested (eqb refused-by 0) → Related a table treeRoom marksRoom (plain a table treeRoom marksRoom p c) (exchange a table s c)
         go (holds b) =
             rw (same-fault, b)
-            (related-exchanged (exchange-accepted a table (length p) p chapterRoom marksRoom (c .element) (c .replacement) (eqb-true refused-by 0 b)))
+            (related-exchanged (exchange-accepted a table (length p) p treeRoom marksRoom (c .element) (c .replacement) (eqb-true refused-by 0 b)))
         go (fails b) = rw (same-fault, b) g
 
   -- ---- all calls
 
-  related-calls : (cs : List Call) (p : List ℕ) (s : Memory) → Related a table chapterRoom marksRoom p s
-      → Related a table chapterRoom marksRoom (plains a table chapterRoom marksRoom cs p) (exchanges a table cs s)
+  related-calls : (cs : List Call) (p : List ℕ) (s : Memory) → Related a table treeRoom marksRoom p s
+      → Related a table treeRoom marksRoom (plains a table treeRoom marksRoom cs p) (exchanges a table cs s)
   unfolding plains exchanges
   related-calls [] p s g = g
-  related-calls (c ∷ cs) p s g = related-calls cs (plain a table chapterRoom marksRoom p c) (exchange a table s c) (related-call p s c g)
+  related-calls (c ∷ cs) p s g = related-calls cs (plain a table treeRoom marksRoom p c) (exchange a table s c) (related-call p s c g)
 
   -- ---- what follows
 
-  related-faithful : (p : List ℕ) (s : Memory) → Related a table chapterRoom marksRoom p s → Faithful a table p s
+  related-faithful : (p : List ℕ) (s : Memory) → Related a table treeRoom marksRoom p s → Faithful a table p s
   unfolding listAnswer listExit runAnswer
   related-faithful p s g = record { count = g .count; elements = g .elements; fresh = fresh }
     where

@@ -14,7 +14,6 @@ use Rattle.words.specs.Lists.{listFrom}
 use Rattle.words.specs.Postfix.{splice}
 use Rattle.words.proofs.TestLaws.{Tested, holds, fails, tested}
 use Rattle.words.proofs.ListLaws.{length-listFrom}
-use Rattle.words.proofs.RefusalLaws.{refusal-none}
 use Rattle.automaton.specs.StateSet.{StateSet, contains}
 use Rattle.operations.specs.Answer.{exitOf}
 use Rattle.operations.specs.Compile.{compiledTable, tableTooLong, compileRefusals, compileFault, compileExit}
@@ -22,7 +21,7 @@ use Rattle.operations.specs.Marks.{sizeOf, finalOf, storedSet, refit}
 use Rattle.operations.specs.Run.{runFault, runMarks, runExit}
 use Rattle.operations.specs.Listing.{listTooShort, listRefusals, listFault, matchesIn, matchesOf, listExit}
 use Rattle.operations.specs.Exchange.{setIn, outcomesAfter, fault, newTree, outcomes, exchangeChapter, exchangeMarks}
-use Rattle.operations.proofs.AcceptedLaws.{run-accepted, ExchangeAccepted, exchange-accepted}
+use Rattle.operations.proofs.AcceptedLaws.{none-applies, run-accepted, ExchangeAccepted, exchange-accepted}
 use Rattle.operations.proofs.MarksLaws.{Sized, length-storedSet, length-flatten, length-refit}
 use Rattle.operations.proofs.RunLaws.{run-length}
 use Rattle.operations.proofs.RuleLaws.{follows-length, follows-outcomes}
@@ -47,8 +46,8 @@ pub compile-length : (a e slice : List ℕ) → length (compileExit a e slice) �
 unfolding compileExit tableTooLong
 compile-length a e slice =
     length-exit (compileFault a e (length slice)) (compiledTable a e ++ drop (length (compiledTable a e)) slice) slice
-    (λ h. let f = refusal-none (compileRefusals a e (length slice)) refl h in
-    length-over (compiledTable a e) slice (ltb-false (length slice) (length (compiledTable a e)) (f .1 .1 .1 .1 .1 .1 .0)))
+    (λ h. length-over (compiledTable a e) slice
+    (ltb-false (length slice) (length (compiledTable a e)) (none-applies (compileRefusals a e (length slice)) refl h 7)))
 
 pub run-exit-length : (a table ch marks : List ℕ) → length (runExit a table ch marks) ≡ length marks
 unfolding runExit
@@ -59,12 +58,11 @@ run-exit-length a table ch marks =
 matches-most : (final : ℕ) (rs : List StateSet) (i : ℕ) → length (matchesIn final i rs) ≤ length rs
 unfolding matchesIn
 matches-most final [] i = omega arith
-matches-most final (r ∷ rs) i = go (contains r final) (matches-most final rs (suc i))
+matches-most final (r ∷ rs) i = go (tested (contains r final)) (matches-most final rs (suc i))
   where
-    go : (b : Bool) → length (matchesIn final (suc i) rs) ≤ length rs
-        → length (cond b (i ∷ matchesIn final (suc i) rs) (matchesIn final (suc i) rs)) ≤ length (r ∷ rs)
-    go true h = omega arith
-    go false h = omega arith
+    go : Tested (contains r final) → length (matchesIn final (suc i) rs) ≤ length rs → length (matchesIn final i (r ∷ rs)) ≤ length (r ∷ rs)
+    go (holds e) h = rw e (omega arith)
+    go (fails e) h = rw e (omega arith)
 
 -- there are at most as many matches as elements
 pub matchesOf-most : (table : List ℕ) (n : ℕ) (marks : List ℕ) → length (matchesOf table n marks) ≤ n
@@ -77,8 +75,7 @@ pub list-length : (a table : List ℕ) (n : ℕ) (marks slice : List ℕ) → le
 unfolding listExit listTooShort
 list-length a table n marks slice =
     length-exit (listFault a table n (length marks) (length slice)) (matchesOf table n marks ++ drop (length (matchesOf table n marks)) slice) slice
-    (λ h. let f = refusal-none (listRefusals a table n (length marks) (length slice)) refl h in
-    let l = ltb-false (length slice) n (f .1 .1 .1 .1 .1 .0) in
+    (λ h. let l = ltb-false (length slice) n (none-applies (listRefusals a table n (length marks) (length slice)) refl h 13) in
     length-over (matchesOf table n marks) slice (omega (arith, matchesOf-most table n marks)))
 
 -- ---- Exchange

@@ -18,7 +18,7 @@ use Rattle.operations.specs.Run.{wrongCount, fewMarks}
 
 -- 9: "also if the used count exceeds the chapter slice"
 unfoldable pub wrongUse : ℕ → ℕ → Bool
-wrongUse n chapterRoom = wrongCount n || ltb chapterRoom n
+wrongUse n treeRoom = wrongCount n || ltb treeRoom n
 
 -- 14: "no such element"
 unfoldable pub noElement : ℕ → ℕ → Bool
@@ -30,18 +30,18 @@ noReplacement a xs = wrongCount (length xs) || not (all (isNode a) xs && oneTree
 
 -- 16: "result over 4,096 elements, the chapter slice or the marks slice", for a result of n elements
 unfoldable pub resultTooLong : List ℕ → ℕ → ℕ → ℕ → Bool
-resultTooLong table n chapterRoom marksRoom = ltb 4096 n || ltb chapterRoom n || fewMarks table n marksRoom
+resultTooLong table n treeRoom marksRoom = ltb 4096 n || ltb treeRoom n || fewMarks table n marksRoom
 
 -- of a call with this used count n and these used elements, slices of these lengths, an element and a replacement
 abbrev pub exchangeRefusals : List ℕ → List ℕ → ℕ → List ℕ → ℕ → ℕ → ℕ → List ℕ → Refusals
-exchangeRefusals a table n used chapterRoom marksRoom e xs =
-    alphabetRefusals a ++ ((8, noTable a table) ∷ (9, wrongUse n chapterRoom)
+exchangeRefusals a table n used treeRoom marksRoom e xs =
+    alphabetRefusals a ++ ((8, noTable a table) ∷ (9, wrongUse n treeRoom)
     ∷ (treeRefusals a used
     ++ ((12, fewMarks table n marksRoom) ∷ (14, noElement n e) ∷ (15, noReplacement a xs)
-    ∷ (16, resultTooLong table (length (splice a used e xs)) chapterRoom marksRoom) ∷ [])))
+    ∷ (16, resultTooLong table (length (splice a used e xs)) treeRoom marksRoom) ∷ [])))
 
 abbrev pub exchangeFault : List ℕ → List ℕ → ℕ → List ℕ → ℕ → ℕ → ℕ → List ℕ → ℕ
-exchangeFault a table n used chapterRoom marksRoom e xs = refusal (exchangeRefusals a table n used chapterRoom marksRoom e xs)
+exchangeFault a table n used treeRoom marksRoom e xs = refusal (exchangeRefusals a table n used treeRoom marksRoom e xs)
 
 -- a node behind an exchange: its stored state set is kept, or its state set is recomputed
 pub data Outcome : Type 0 where

@@ -39,15 +39,15 @@ exchanges a table (c ∷ cs) s = exchanges a table cs (exchange a table s c)
 -- "A call that 'Refused calls' refuses with the plain chapter as the used elements: it stays. Any other: the words of the
 -- element's subtree give way to the replacement's words"
 unfoldable pub plain : List ℕ → List ℕ → ℕ → ℕ → List ℕ → Call → List ℕ
-plain a table chapterRoom marksRoom p c =
-    cond (eqb (exchangeFault a table (length p) p chapterRoom marksRoom (c .element) (c .replacement)) 0)
+plain a table treeRoom marksRoom p c =
+    cond (eqb (exchangeFault a table (length p) p treeRoom marksRoom (c .element) (c .replacement)) 0)
     (splice a p (c .element) (c .replacement))
     p
 
 -- the plain chapter behind a list of calls: it is "fed the calls alone, and no answers"
 unfoldable pub plains : List ℕ → List ℕ → ℕ → ℕ → List Call → List ℕ → List ℕ
-plains a table chapterRoom marksRoom [] p = p
-plains a table chapterRoom marksRoom (c ∷ cs) p = plains a table chapterRoom marksRoom cs (plain a table chapterRoom marksRoom p c)
+plains a table treeRoom marksRoom [] p = p
+plains a table treeRoom marksRoom (c ∷ cs) p = plains a table treeRoom marksRoom cs (plain a table treeRoom marksRoom p c)
 
 -- "At the start the chapter slice begins with the elements that an accepted Run was given, and the marks slice is as that
 -- Run left it"; the count is the one that Run answered

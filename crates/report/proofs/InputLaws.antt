@@ -8,8 +8,7 @@ use native.Mathlib.Numerals.{add-one}
 use native.Mathlib.Decide.{decLe}
 use lib.ListN.{length, getD, take, drop, set, length-set, take-append-drop}
 use lib.Seq.{sets, length-sets, set-out, take-suc, take-all, length-take-le}
-use Rattle.words.proofs.ListLaws.{length-listFrom, getD-listFrom}
-use Rattle.emitter.proofs.WritingLaws.{sets-append}
+use Rattle.words.proofs.ListLaws.{sets-append, length-listFrom, getD-listFrom}
 use Rattle.report.specs.Input.{wordAt, wordsIn}
 
 -- ---- words in bytes

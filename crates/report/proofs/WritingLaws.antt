@@ -7,7 +7,7 @@ use native.Mathlib.Nat.{add-zero, add-assoc}
 use native.Mathlib.Numerals.{add-one}
 use lib.ListN.{length, getD, take, drop, set, length-append}
 use lib.Seq.{sets, length-sets, take-suc, take-all}
-use Rattle.emitter.proofs.WritingLaws.{sets-append, sets-whole}
+use Rattle.words.proofs.ListLaws.{sets-append, sets-whole}
 use Rattle.report.specs.Writing.{Written}
 
 pub written-none : (at : ℕ) (out : List ℕ) → Written at [] out out at

@@ -1,16 +1,15 @@
 -- Laws of kinds: a kind and its number, the word of a kind with given fields, and what `isOf` says of a word. Assumes
 -- nothing.
-use mathlib.Core.Path.{_≡_, refl, ap, _∙_, sym}
+use mathlib.Core.Path.{_≡_, refl, ap, _∙_, sym, subst}
 use mathlib.Core.Bool.{true, false}
 use mathlib.Core.List.{List, [], _∷_}
 use mathlib.Core.Logic.{_⊎_, inl, inr, ⊎-elim}
 use Prim.Native.Nat.{ℕ, zero, suc, _+_, _<_, _≤_}
 use native.Mathlib.Omega.{arith}
-use native.Mathlib.Nat.{zero-add, add-zero, add-suc, suc-add}
-use lib.ListN.{getD, List·getD-eq-default}
+use lib.Dec.{eqb}
 use borrow.Author.Tests.{eq-eqb, ne-eqb, eqb-true, lt-ltb, le-ltb, ltb-true}
 use Rattle.words.proofs.TestLaws.{Tested, holds, fails, tested, and-true, true-and}
-use Rattle.words.specs.Word.{Kind, entryKind, symbolKind, emptyKind, unionKind, productKind, closureKind, nodeKind, headKind, transitionKind, epsilonKind, sourceKind, noKind, kindAt, kindNumber, numberOf, kindOf, hasKind, bodyOf, fieldRange, spareBitsClear, isOf, wordOf, lowByte}
+use Rattle.words.specs.Word.{Kind, entryKind, symbolKind, emptyKind, unionKind, productKind, closureKind, nodeKind, headKind, transitionKind, epsilonKind, sourceKind, noKind, kinds, kindAmong, kindAt, kindNumber, numberOf, kindOf, hasKind, bodyOf, fieldRange, spareBitsClear, isOf, wordOf, lowByte}
 
 -- ---- a kind and its number
 
@@ -29,42 +28,36 @@ kindAt-number transitionKind = refl
 kindAt-number epsilonKind = refl
 kindAt-number sourceKind = refl
 
--- the kinds in the order of their numbers
-abbrev kinds : List Kind
-kinds =
-    noKind ∷ entryKind ∷ symbolKind ∷ emptyKind ∷ unionKind ∷ productKind ∷ closureKind ∷ nodeKind
-    ∷ headKind ∷ transitionKind ∷ epsilonKind ∷ sourceKind ∷ []
+number-most : (k : Kind) → kindNumber k ≤ 11
+number-most noKind = omega arith
+number-most entryKind = omega arith
+number-most symbolKind = omega arith
+number-most emptyKind = omega arith
+number-most unionKind = omega arith
+number-most productKind = omega arith
+number-most closureKind = omega arith
+number-most nodeKind = omega arith
+number-most headKind = omega arith
+number-most transitionKind = omega arith
+number-most epsilonKind = omega arith
+number-most sourceKind = omega arith
 
--- document 01 has no kind above 11
-pub kindAt-above : (n : ℕ) → 12 ≤ n → kindAt n ≡ noKind
-unfolding kindAt
-kindAt-above n h = List·getD-eq-default kinds noKind h
-
--- kinds whose numbers count up from j
-abbrev Consecutive : ℕ → List Kind → Type 0
-Consecutive j [] = Unit {0}
-Consecutive j (k ∷ ks) = (kindNumber k ≡ j) × Consecutive (suc j) ks
-
-number-getD : (ks : List Kind) (n j : ℕ) → Consecutive j ks → (kindNumber (getD ks n noKind) ≡ j + n) ⊎ (getD ks n noKind ≡ noKind)
-number-getD [] n j h = inr refl
-number-getD (k ∷ ks) zero j h = inl (h .0 ∙ sym (add-zero j))
-number-getD (k ∷ ks) (suc n) j h = ⊎-elim (λ e. inl (e ∙ suc-add j n ∙ sym (add-suc j n))) inr (number-getD ks n (suc j) (h .1))
+among-cases : (ks : List Kind) (n : ℕ) → (kindNumber (kindAmong ks n) ≡ n) ⊎ (kindAmong ks n ≡ noKind)
+among-cases [] n = inr refl
+among-cases (k ∷ ks) n = go (tested (eqb n (kindNumber k))) (among-cases ks n)
+  where
+    go : Tested (eqb n (kindNumber k)) → (kindNumber (kindAmong ks n) ≡ n) ⊎ (kindAmong ks n ≡ noKind)
+        → (kindNumber (kindAmong (k ∷ ks) n) ≡ n) ⊎ (kindAmong (k ∷ ks) n ≡ noKind)
+    go (holds e) r = inl (rw e (sym (eqb-true n (kindNumber k) e)))
+    go (fails e) r = rw e r
 
 -- a number is that of its kind, or it has none
 pub number-cases : (n : ℕ) → (kindNumber (kindAt n) ≡ n) ⊎ (kindAt n ≡ noKind)
 unfolding kindAt
-number-cases n =
-    ⊎-elim (λ e. inl (e ∙ zero-add n)) inr
-    (number-getD kinds n 0 (refl, (refl, (refl, (refl, (refl, (refl, (refl, (refl, (refl, (refl, (refl, (refl, tt)))))))))))))
+number-cases n = among-cases kinds n
 
 pub number-kindAt : (n : ℕ) → (kindAt n ≡ noKind → ⊥) → kindNumber (kindAt n) ≡ n
 number-kindAt n h = ⊎-elim (λ e. e) (λ e. absurd (h e)) (number-cases n)
-
--- a number outside 1 to 11
-pub kindAt-outside : (n : ℕ) → (0 < n → 12 ≤ n) → kindAt n ≡ noKind
-unfolding kindAt
-kindAt-outside zero h = refl
-kindAt-outside (suc n) h = kindAt-above (suc n) (h (omega arith))
 
 -- n is none of 1 to m, as the last case of a `match` over 1 to m knows it
 abbrev pub NoneOf : ℕ → ℕ → Type 0
@@ -78,8 +71,17 @@ noneOf-above (suc m) n r h =
     let q = r .1 in
     omega arith
 
+kindAt-outside : (n : ℕ) → n ≤ 11 → (0 < n → 11 < n) → kindAt n ≡ noKind
+unfolding kindAt
+kindAt-outside zero l h = refl
+kindAt-outside (suc n) l h = absurd (let z = h (omega arith) in omega arith)
+
 pub kindAt-rest : (n : ℕ) → NoneOf 11 n → kindAt n ≡ noKind
-kindAt-rest n r = kindAt-outside n (noneOf-above 11 n r)
+kindAt-rest n r =
+    ⊎-elim
+    (λ e. kindAt-outside n (subst (λ (m : ℕ). m ≤ 11) e (number-most (kindAt n))) (noneOf-above 11 n r))
+    (λ e. e)
+    (number-cases n)
 
 -- ---- the word of a kind with given fields
 

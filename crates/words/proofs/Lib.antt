@@ -5,6 +5,8 @@ pub mod AcceptedAlphabet
 pub mod DistinctLaws
 pub mod ConstantLaws
 pub mod ExpressionWordLaws
+pub mod RankedTree
+pub mod TreeFold
 pub mod PostfixLaws
 pub mod StackLaws
 pub mod ListLaws

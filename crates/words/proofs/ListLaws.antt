@@ -1,5 +1,5 @@
--- Laws of lists: map over parts of a list, lists by their index, parts side by side, counts, and lists of numbers below a
--- bound. Assumes nothing.
+-- Laws of lists: map over parts of a list, lists by their index, parts side by side, runs of stores, counts, and lists of
+-- numbers below a bound. Assumes nothing.
 use mathlib.Core.Path.{_≡_, refl, ap, ap₂, _∙_, sym}
 use mathlib.Core.Bool.{Bool, cond, _&&_}
 use mathlib.Core.List.{List, [], _∷_, _++_, map, reverse, reverseAux}
@@ -7,7 +7,7 @@ use Prim.Native.Nat.{ℕ, zero, suc, _+_, _<_, _≤_}
 use native.Mathlib.Omega.{arith}
 use native.Mathlib.Nat.{zero-add, add-zero, add-suc, suc-add, add-assoc}
 use lib.ListN.{length, getD, take, drop, set, take-append-drop}
-use lib.Seq.{slice, getD-set-other, take-take, length-take-le, drop-append-le}
+use lib.Seq.{slice, sets, sets-eq, getD-set-other, take-take, length-take-le, drop-append-le}
 use Rattle.words.specs.Lists.{all, count, listFrom}
 
 -- ---- map
@@ -78,6 +78,19 @@ slice-slice {A} l s m t hs hm ht =
     let n : length (take m l) ≡ m = length-take-le m l (omega arith) in
     sym (drop-append-le s (take m l) (slice m t l) (rw n hs))
     ∙ ap (drop s) (ap (λ (x : List A). x ++ slice m t l) (sym q) ∙ take-append-drop m (take t l))
+
+-- ---- runs of stores
+
+-- a run of stores in two parts
+pub sets-append : (vs us l : List ℕ) (i : ℕ) → sets l i (vs ++ us) ≡ sets (sets l i vs) (i + length vs) us
+sets-append [] us l i = rw (add-zero i)
+sets-append (v ∷ vs) us l i = rw (add-suc, ← suc-add) (sets-append vs us _ (suc i))
+
+-- a run of stores from the first place on, where there is room
+pub sets-whole : (vs l : List ℕ) → length vs ≤ length l → sets l 0 vs ≡ vs ++ drop (length vs) l
+sets-whole vs l h =
+    let e : 0 + length vs ≡ length vs = omega arith in
+    sets-eq vs l 0 (omega arith) ∙ ap (λ (n : ℕ). vs ++ drop n l) e
 
 -- ---- tests and counts
 

@@ -8,8 +8,10 @@ use native.Mathlib.Omega.{arith}
 use lib.ListN.{length, take, drop, length-reverse}
 use lib.Seq.{take-at, drop-at}
 use borrow.Author.Tests.{eq-eqb}
-use Rattle.words.specs.Tree.{Tree, Trees, node, none, more, number, postfix, postfixAll, fold, foldAll}
-use Rattle.words.specs.Postfix.{arity, trees, oneTree, valueOn, values, stackAfter, Ranked, RankedAll}
+use Rattle.words.specs.Tree.{Tree, Trees, node, none, more, number, postfix, postfixAll}
+use Rattle.words.specs.Postfix.{arity, trees, oneTree, valueOn, values, stackAfter}
+use Rattle.words.proofs.RankedTree.{Ranked, RankedAll}
+use Rattle.words.proofs.TreeFold.{fold, foldAll}
 use Rattle.words.proofs.PostfixLaws.{trees-append, trees-snoc}
 use Rattle.words.proofs.StackLaws.{values-append, stack-append}
 

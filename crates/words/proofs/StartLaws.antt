@@ -52,14 +52,14 @@ start-missing a ws i h =
     ∙ ap (startFrom a ws i) (ap (arity a) (List·getD-eq-default ws 0 h) ∙ arity-missing a)
     ∙ startFrom-none a ws i
 
--- ---- the walk back from a node: `needed` trees still end before `start`
+-- ---- the walk back from behind a node: `needed` trees still end before `start`
 
 pub record Backward (a ws : List ℕ) (node start needed : ℕ) : Type 0 where
-  pub low : start ≤ node
+  pub low : start ≤ node + 1
   pub same : startOf a ws node ≡ startFrom a ws start needed
 
-pub backward-first : (a ws : List ℕ) (node needed : ℕ) → needed ≡ arity a (getD ws node 0) → Backward a ws node node needed
-backward-first a ws node needed e = record { low = omega arith; same = start-parts a ws node ∙ ap (startFrom a ws node) (sym e) }
+pub backward-first : (a ws : List ℕ) (node : ℕ) → Backward a ws node (node + 1) 1
+backward-first a ws node = record { low = omega arith; same = refl }
 
 module _ {a ws : List ℕ} {node start needed : ℕ} (b : Backward a ws node start needed) where
   pub backward-short : start ≤ needed → 0 ≡ startOf a ws node

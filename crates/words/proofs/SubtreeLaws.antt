@@ -8,8 +8,9 @@ use native.Mathlib.Omega.{arith}
 use native.Mathlib.Numerals.{add-one}
 use lib.ListN.{length, getD, take, drop, take-append-drop}
 use lib.Seq.{slice, length-slice}
-use Rattle.words.specs.Tree.{Tree, fold}
+use Rattle.words.specs.Tree.{Tree}
 use Rattle.words.specs.Postfix.{arity, oneTree, startOf, subtreeOf, valueOn, values, stackAfter}
+use Rattle.words.proofs.TreeFold.{fold}
 use Rattle.words.proofs.PostfixLaws.{run-snoc, start-le, sub-tree}
 use Rattle.words.proofs.StackLaws.{stack-append}
 use Rattle.words.proofs.ExactlyOne.{ExactlyOne}

@@ -10,10 +10,12 @@ use lib.ListN.{length, take, drop, length-drop, length-reverse, take-append-drop
 use lib.Seq.{length-take-le}
 use lib.Dec.{leb}
 use borrow.Author.Tests.{leb-true, eqb-true}
-use Rattle.words.specs.Tree.{Tree, Trees, node, none, more, number, postfix, postfixAll, fold, foldAll}
-use Rattle.words.specs.Postfix.{arity, trees, oneTree, stackAfter, Ranked, RankedAll}
+use Rattle.words.specs.Tree.{Tree, Trees, node, none, more, number, postfix, postfixAll}
+use Rattle.words.specs.Postfix.{arity, trees, oneTree, stackAfter}
 use Rattle.words.proofs.TestLaws.{picked}
 use Rattle.words.proofs.ExactlyOne.{ExactlyOne}
+use Rattle.words.proofs.RankedTree.{Ranked, RankedAll}
+use Rattle.words.proofs.TreeFold.{fold, foldAll}
 use Rattle.words.proofs.ReadingLaws.{stack-tree}
 
 -- a tree that the words are read as

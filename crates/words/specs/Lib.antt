@@ -6,4 +6,3 @@ pub mod Tree
 pub mod Postfix
 pub mod Expression
 pub mod Chapter
-pub mod Room

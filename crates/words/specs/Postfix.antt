@@ -2,7 +2,6 @@
 -- a node's children and ancestors, and a value for every node by a stack. One reading serves rules and chapters.
 -- Assumes nothing.
 use Prim.Native.Nat.{ℕ, zero, suc, _+_, _-_}
-use mathlib.Core.Path.{_≡_}
 use mathlib.Core.List.{List, [], _∷_, _++_, reverse}
 use mathlib.Core.Bool.{Bool, false, not, cond, _&&_}
 use lib.ListN.{length, getD, take, drop}
@@ -10,7 +9,6 @@ use lib.Dec.{ltb, leb, eqb}
 use Rattle.words.specs.Lists.{count, listFrom}
 use Rattle.words.specs.Word.{Kind, entryKind, symbolKind, emptyKind, unionKind, productKind, closureKind, nodeKind, headKind, transitionKind, epsilonKind, sourceKind, noKind, kindOf, lowByte}
 use Rattle.words.specs.Alphabet.{rankOf}
-use Rattle.words.specs.Tree.{Tree, Trees, node, none, more, number}
 
 -- how many children (document 01's parts) a word of a kind takes, where `rank` is the rank of its symbol
 abbrev pub arityAt : ℕ → Kind → ℕ
@@ -93,12 +91,3 @@ stackGiven a given j (w ∷ ws) stack = stackGiven a given (suc j) ws (given j �
 -- the numbers of node i's children, from left to right
 unfoldable pub childrenOf : List ℕ → List ℕ → ℕ → List ℕ
 childrenOf a ws i = reverse (take (arity a (getD ws i 0)) (stackGiven a (λ j. j) 0 (take i ws) []))
-
--- every node of a tree of words has as many children as its word takes
-abbrev mutual
-  pub Ranked : List ℕ → Tree → Type 0
-  Ranked a (node w ts) = (arity a w ≡ number ts) × RankedAll a ts
-
-  pub RankedAll : List ℕ → Trees → Type 0
-  RankedAll a none = Unit {0}
-  RankedAll a (more t ts) = Ranked a t × RankedAll a ts

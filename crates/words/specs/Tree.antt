@@ -30,13 +30,3 @@ abbrev mutual
   pub postfixAll : Trees → List ℕ
   postfixAll none = []
   postfixAll (more t ts) = postfix t ++ postfixAll ts
-
--- a value for each node from its number and its children's values, from left to right
-module _ {A : Type 0} (value : ℕ → List A → A) where
-  abbrev mutual
-    pub fold : Tree → A
-    fold (node n ts) = value n (foldAll ts)
-
-    pub foldAll : Trees → List A
-    foldAll none = []
-    foldAll (more t ts) = fold t ∷ foldAll ts

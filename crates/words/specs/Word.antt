@@ -1,8 +1,7 @@
 -- Words of 32 bits (document 01, "Words"): their kinds, which bits each kind names, and its fields. Assumes nothing.
 use Prim.Native.Nat.{ℕ, _+_, _*_, _/_, _%_}
 use mathlib.Core.List.{List, [], _∷_}
-use mathlib.Core.Bool.{Bool, _&&_}
-use lib.ListN.{getD}
+use mathlib.Core.Bool.{Bool, cond, _&&_}
 use lib.Dec.{ltb, eqb}
 
 -- document 01's kinds: alphabet entry; the rule words symbol, empty language, union, product, closure; chapter element;
@@ -11,18 +10,8 @@ pub data Kind : Type 0 where
   entryKind symbolKind emptyKind unionKind productKind closureKind nodeKind : Kind
   headKind transitionKind epsilonKind sourceKind noKind : Kind
 
-abbrev kinds : List Kind
-kinds =
-    noKind ∷ entryKind ∷ symbolKind ∷ emptyKind ∷ unionKind ∷ productKind ∷ closureKind ∷ nodeKind
-    ∷ headKind ∷ transitionKind ∷ epsilonKind ∷ sourceKind ∷ []
-
--- the kind of a kind number
-unfoldable pub kindAt : ℕ → Kind
-kindAt n = getD kinds n noKind
-
--- the number of a kind; 0 is no kind of document 01
+-- document 01's number of a kind; 0 is that of none
 abbrev pub kindNumber : Kind → ℕ
-kindNumber noKind = 0
 kindNumber entryKind = 1
 kindNumber symbolKind = 2
 kindNumber emptyKind = 3
@@ -34,16 +23,34 @@ kindNumber headKind = 8
 kindNumber transitionKind = 9
 kindNumber epsilonKind = 10
 kindNumber sourceKind = 11
+kindNumber noKind = 0
+
+-- the one of these kinds that has the number n, or no kind
+abbrev pub kindAmong : List Kind → ℕ → Kind
+kindAmong [] n = noKind
+kindAmong (k ∷ ks) n = cond (eqb n (kindNumber k)) k (kindAmong ks n)
+
+-- document 01's kinds
+abbrev pub kinds : List Kind
+kinds =
+    entryKind ∷ symbolKind ∷ emptyKind ∷ unionKind ∷ productKind ∷ closureKind ∷ nodeKind ∷ headKind ∷ transitionKind
+    ∷ epsilonKind ∷ sourceKind ∷ []
+
+-- the kind that has the number n
+unfoldable pub kindAt : ℕ → Kind
+kindAt n = kindAmong kinds n
 
 -- "bits 31..28 are the kind"
 abbrev pub numberOf : ℕ → ℕ
 numberOf w = w / 0x1000_0000
 
-abbrev pub kindOf : ℕ → Kind
-kindOf w = kindAt (numberOf w)
-
+-- whether a word is of k, one of document 01's kinds
 abbrev pub hasKind : Kind → ℕ → Bool
 hasKind k w = eqb (numberOf w) (kindNumber k)
+
+-- the kind that a word is of, or no kind
+abbrev pub kindOf : ℕ → Kind
+kindOf w = kindAt (numberOf w)
 
 -- the other 28 bits
 abbrev pub bodyOf : ℕ → ℕ

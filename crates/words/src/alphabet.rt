@@ -1,19 +1,20 @@
 // The alphabet: ranks, constants in symbol order, and refusals 1 and 2.
 ghost use mathlib.Core.Path.{_≡_};
-ghost use mathlib.Core.List.{_++_};
-ghost use lib.ListN.{length, drop};
+ghost use lib.ListN.{length, take};
+ghost use lib.Seq.{sets};
 ghost use Rattle.words.specs.Lists.{all};
-ghost use Rattle.words.specs.Room.{ConstantRoom};
-ghost use Rattle.words.specs.Alphabet.{isEntry, isSymbol, isConstant, rankOf, constantsOf, alphabetFault};
+ghost use Rattle.words.specs.Alphabet.{isEntry, isConstant, rankOf, constantsOf, alphabetFault};
 use super::word::ENTRY;
 use super::word::is_of;
 
-// The limits of an alphabet, and the highest rank.
-pub const ALPHABET_MOST: usize = 64;
+// The most entries of an alphabet.
+const ALPHABET_MOST: usize = 64;
 
-pub const CONSTANTS_MOST: usize = 16;
+// The most constants of an alphabet.
+const CONSTANTS_MOST: usize = 16;
 
-pub const RANK_MOST: u32 = 4;
+// The highest rank.
+const RANK_MOST: u32 = 4;
 
 // Bits 7..0 of an entry are its rank, those of other words a symbol.
 pub const LOW_BYTE: u32 = 256;
@@ -28,15 +29,8 @@ pub fn rank(alphabet: &[u32], symbol: usize) -> usize
     0
 }
 
-// Whether the alphabet has the symbol.
-pub fn is_symbol(alphabet: &[u32], symbol: usize) -> bool
-    ensures { λ r. ⌜ r ≡ isSymbol (now (alphabet .entry)) symbol ⌝ }
-{
-    symbol < alphabet.len()
-}
-
 // Whether the alphabet has the symbol and its rank is 0.
-pub fn is_constant(alphabet: &[u32], symbol: usize) -> bool
+pub(crate) fn is_constant(alphabet: &[u32], symbol: usize) -> bool
     ensures { λ r. ⌜ r ≡ isConstant (now (alphabet .entry)) symbol ⌝ }
 {
     if symbol < alphabet.len() {
@@ -46,7 +40,7 @@ pub fn is_constant(alphabet: &[u32], symbol: usize) -> bool
 }
 
 // Whether a word is an alphabet entry.
-pub fn is_entry(w: u32) -> bool
+fn is_entry(w: u32) -> bool
     ensures { λ r. ⌜ r ≡ isEntry w ⌝ }
 {
     if is_of(ENTRY, w) {
@@ -55,6 +49,7 @@ pub fn is_entry(w: u32) -> bool
     false
 }
 
+// Whether every word is an alphabet entry.
 fn entries_only(alphabet: &[u32]) -> bool
     ensures { λ r. ⌜ r ≡ all isEntry (now (alphabet .entry)) ⌝ }
 {
@@ -83,20 +78,18 @@ pub fn count_constants(alphabet: &[u32]) -> usize
     count
 }
 
-// Writes the constants in symbol order into the first words of the list, and answers how many.
+// Writes the constants among the first 64 symbols in symbol order, as far as the list reaches, and answers how many they are.
 pub fn write_constants(alphabet: &[u32], list: &mut [u32]) -> usize
-    requires { ⌜ ConstantRoom (now alphabet) (now list) ⌝ }
-    ensures answer { λ r. ⌜ r ≡ length (constantsOf (now (alphabet .entry))) ⌝ }
-    ensures list { λ _. ⌜
-        now (list .exit)
-        ≡ constantsOf (now (alphabet .entry)) ++ drop (length (constantsOf (now (alphabet .entry)))) (now (list .entry))
-        ⌝ }
+    ensures answer { λ r. ⌜ r ≡ length (constantsOf (take 64 (now (alphabet .entry)))) ⌝ }
+    ensures list { λ _. ⌜ now (list .exit) ≡ sets (now (list .entry)) 0 (constantsOf (take 64 (now (alphabet .entry)))) ⌝ }
 {
     let mut n: usize = 0;
     let mut i = 0;
-    while i < alphabet.len() {
+    while i < ALPHABET_MOST {
         if is_constant(alphabet, i) {
-            list[n] = i as u32;
+            if n < list.len() {
+                list[n] = i as u32;
+            }
             n += 1;
         }
         i += 1;

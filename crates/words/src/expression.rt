@@ -4,7 +4,6 @@ ghost use Rattle.words.specs.Lists.{all};
 ghost use Rattle.words.specs.Expression.{isExpressionWord, expressionFault};
 use super::alphabet::LOW_BYTE;
 use super::alphabet::is_constant;
-use super::alphabet::is_symbol;
 use super::postfix::one_tree;
 use super::word::CLOSURE;
 use super::word::EMPTY;
@@ -21,10 +20,10 @@ use super::word::UNION;
 use super::word::spare_bits_clear;
 
 // The most words of a rule.
-pub const EXPRESSION_MOST: usize = 64;
+const EXPRESSION_MOST: usize = 64;
 
 // Whether a word is a rule word with a known symbol or a constant where it names one.
-pub fn is_expression_word(alphabet: &[u32], w: u32) -> bool
+fn is_expression_word(alphabet: &[u32], w: u32) -> bool
     ensures { λ r. ⌜ r ≡ isExpressionWord (now (alphabet .entry)) w ⌝ }
 {
     if !spare_bits_clear(w) {
@@ -34,7 +33,7 @@ pub fn is_expression_word(alphabet: &[u32], w: u32) -> bool
     let kind = w / KIND_UNIT;
     match kind {
         ENTRY => false,
-        SYMBOL => is_symbol(alphabet, symbol),
+        SYMBOL => symbol < alphabet.len(),
         EMPTY => true,
         UNION => true,
         PRODUCT => is_constant(alphabet, symbol),
@@ -48,6 +47,7 @@ pub fn is_expression_word(alphabet: &[u32], w: u32) -> bool
     }
 }
 
+// Whether every word is one.
 fn expression_words_only(alphabet: &[u32], expression: &[u32]) -> bool
     ensures { λ r. ⌜ r ≡ all (isExpressionWord (now (alphabet .entry))) (now (expression .entry)) ⌝ }
 {

@@ -1,6 +1,6 @@
 // Words in postfix order: how many children a word takes, which words make one tree, and where subtrees begin.
 ghost use mathlib.Core.Path.{_≡_};
-ghost use Rattle.words.specs.Postfix.{arity, oneTree, startOf, isAncestor};
+ghost use Rattle.words.specs.Postfix.{arity, oneTree, startOf};
 use super::alphabet::LOW_BYTE;
 use super::alphabet::rank;
 use super::word::CLOSURE;
@@ -38,7 +38,7 @@ pub fn arity(alphabet: &[u32], w: u32) -> usize
 }
 
 // Whether the words make exactly one tree.
-pub fn one_tree(alphabet: &[u32], words: &[u32]) -> bool
+pub(crate) fn one_tree(alphabet: &[u32], words: &[u32]) -> bool
     ensures { λ r. ⌜ r ≡ oneTree (now (alphabet .entry)) (now (words .entry)) ⌝ }
 {
     let mut made: usize = 0;
@@ -54,7 +54,7 @@ pub fn one_tree(alphabet: &[u32], words: &[u32]) -> bool
     made == 1
 }
 
-// The index of the first word of the node's subtree. Going back from the node, `needed` trees still end before `start`;
+// The index of the first word of the node's subtree. Going back from behind the node, `needed` trees still end before `start`;
 // where fewer words are left than trees needed, they do not suffice and the answer is 0.
 pub fn subtree_start(alphabet: &[u32], words: &[u32], node: usize) -> usize
     ensures { λ r. ⌜ r ≡ startOf (now (alphabet .entry)) (now (words .entry)) node ⌝ }
@@ -62,8 +62,8 @@ pub fn subtree_start(alphabet: &[u32], words: &[u32], node: usize) -> usize
     if node >= words.len() {
         return node;
     }
-    let mut start = node;
-    let mut needed = arity(alphabet, words[node]);
+    let mut start = node + 1;
+    let mut needed: usize = 1;
     while needed > 0 {
         if start <= needed {
             return 0;
@@ -72,14 +72,4 @@ pub fn subtree_start(alphabet: &[u32], words: &[u32], node: usize) -> usize
         needed = needed - 1 + arity(alphabet, words[start]);
     }
     start
-}
-
-// Whether node `j` is an ancestor of node `i`: its subtree holds `i`.
-pub fn is_ancestor(alphabet: &[u32], words: &[u32], i: usize, j: usize) -> bool
-    ensures { λ r. ⌜ r ≡ isAncestor (now (alphabet .entry)) (now (words .entry)) i j ⌝ }
-{
-    if i < j {
-        return subtree_start(alphabet, words, j) <= i;
-    }
-    false
 }

@@ -7,31 +7,42 @@ pub const KIND_UNIT: u32 = 268435456;
 
 // An alphabet entry.
 pub const ENTRY: u32 = 1;
-// The words of a rule.
+
+// A symbol of a rule.
 pub const SYMBOL: u32 = 2;
 
+// The empty language.
 pub const EMPTY: u32 = 3;
 
+// A union of two rules.
 pub const UNION: u32 = 4;
 
+// A product over a constant.
 pub const PRODUCT: u32 = 5;
 
+// A closure over a constant.
 pub const CLOSURE: u32 = 6;
+
 // A chapter element.
 pub const NODE: u32 = 7;
-// The words of a table: head, symbol move, empty move, part state of a move.
+
+// The head of a table.
 pub const HEAD: u32 = 8;
 
+// A symbol move of a table.
 pub const TRANSITION: u32 = 9;
 
+// An empty move of a table.
 pub const EPSILON: u32 = 10;
 
+// A part state of a symbol move.
 pub const SOURCE: u32 = 11;
-// The most states that a head counts.
+
+// The most states of a table.
 pub const STATES_MOST: u32 = 1024;
 
 // The other 28 bits of a word of this kind stay below the answer.
-pub fn field_range(kind: u32) -> u32
+fn field_range(kind: u32) -> u32
     ensures { λ r. ⌜ r ≡ fieldRange (kindAt kind) ⌝ }
 {
     match kind {
@@ -50,7 +61,7 @@ pub fn field_range(kind: u32) -> u32
     }
 }
 
-// "Bits not named are zero."
+// Whether the bits that the word's kind does not name are zero; false for a word of no kind.
 pub fn spare_bits_clear(w: u32) -> bool
     ensures { λ r. ⌜ r ≡ spareBitsClear w ⌝ }
 {

@@ -10,6 +10,7 @@ use crate::compare::Comparison;
 use crate::generate;
 use crate::marks::Table;
 use crate::model;
+use crate::words;
 
 /// One accepted call of each operation on this alphabet, rule and tree.
 pub fn accepted_calls(alphabet: &[u32], expression: &[u32], tree: &[u32], spare: usize) -> Vec<Call> {
@@ -20,17 +21,13 @@ pub fn accepted_calls(alphabet: &[u32], expression: &[u32], tree: &[u32], spare:
     sets.resize(sets.len() + spare * read.width(), 0x0f0f_0f0f);
     let mut chapter = tree.to_vec();
     chapter.resize(count + spare, 0x1234_5678);
-    let leaf = words_of_leaf(alphabet);
+    let leaf = words::node_words(&words::constants(alphabet)[..1]);
     vec![
         Call::compile(alphabet, expression, vec![0x3c3c_3c3c; table.len() + spare]),
         Call::run(alphabet, &table, tree, vec![0x5a5a_5a5a; sets.len()]),
         Call::list(alphabet, &table, count, &sets, vec![0x6b6b_6b6b; count + spare]),
         Call::exchange(alphabet, &table, chapter, count, sets, count / 2, &leaf),
     ]
-}
-
-fn words_of_leaf(alphabet: &[u32]) -> Vec<u32> {
-    generate::tree_words(&crate::words::constants(alphabet)[..1])
 }
 
 pub fn compare(comparison: &mut Comparison, seed: u64, cases: u64) {
@@ -47,16 +44,15 @@ pub fn compare(comparison: &mut Comparison, seed: u64, cases: u64) {
     });
 }
 
-/// The arguments that a call reads or may read.
+/// The slices that a call reads or may read, the empty ones left out: all but Compile's table and the list.
 fn arguments(call: &mut Call) -> Vec<&mut Vec<u32>> {
-    let read_table = call.operation != Operation::Compile;
-    let mut all = vec![&mut call.alphabet, &mut call.expression];
-    if read_table {
-        all.push(&mut call.table);
+    let is_compile = call.operation == Operation::Compile;
+    let [alphabet, expression, table, tree, sets, replacement, _] = call.slices_mut();
+    let mut all = vec![alphabet, expression, tree, sets, replacement];
+    if !is_compile {
+        all.insert(2, table);
     }
-    all.push(&mut call.tree);
-    all.push(&mut call.sets);
-    all.push(&mut call.replacement);
+    all.retain(|words| !words.is_empty());
     all
 }
 
@@ -77,14 +73,11 @@ fn every_bit(comparison: &mut Comparison, accepted: &Call) {
 fn some_bits(comparison: &mut Comparison, random: &mut Random) {
     let Pattern { alphabet, expression } = pattern(random);
     let budget = random.between(1, 20);
-    let tree = generate::tree_words(&generate::tree(random, &alphabet, budget));
+    let tree = words::node_words(&generate::tree(random, &alphabet, budget));
     for mut call in accepted_calls(&alphabet, &expression, &tree, 4) {
         call.node = random.below(call.count.max(1));
         for _ in 0..random.between(1, 2) {
-            let mut filled: Vec<&mut Vec<u32>> = arguments(&mut call)
-                .into_iter()
-                .filter(|words| !words.is_empty())
-                .collect();
+            let mut filled = arguments(&mut call);
             let argument = random.below(filled.len());
             generate::flip(random, filled[argument]);
         }

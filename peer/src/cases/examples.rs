@@ -4,8 +4,7 @@ use crate::call::Call;
 use crate::compare::Comparison;
 use crate::language::literal::members;
 use crate::language::Expression;
-use crate::model;
-use crate::words::{entry_word, node_word, Operator};
+use crate::words::{self, entry_word, node_words, operator_words, Operator};
 
 /// Symbols of the source's alphabet: a, b, c, d of arity 0, f of arity 2, g and h of arity 1.
 pub const A: usize = 0;
@@ -22,7 +21,7 @@ pub fn alphabet() -> Vec<u32> {
 
 /// a b f c g d (product over c) union (closure over d).
 pub fn expression() -> Vec<u32> {
-    words(&[
+    operator_words(&[
         Operator::Symbol(A),
         Operator::Symbol(B),
         Operator::Symbol(F),
@@ -37,15 +36,7 @@ pub fn expression() -> Vec<u32> {
 
 /// a b f d g h f.
 pub fn tree() -> Vec<u32> {
-    nodes(&[A, B, F, D, G, H, F])
-}
-
-pub fn words(operators: &[Operator]) -> Vec<u32> {
-    operators.iter().map(|operator| operator.word()).collect()
-}
-
-pub fn nodes(symbols: &[usize]) -> Vec<u32> {
-    symbols.iter().map(|symbol| node_word(*symbol)).collect()
+    node_words(&[A, B, F, D, G, H, F])
 }
 
 pub fn compare(comparison: &mut Comparison) {
@@ -59,7 +50,7 @@ fn source(comparison: &mut Comparison) {
         "the source's rule has another table",
         &Call::compile(&alphabet(), &expression(), vec![0; 50]),
     );
-    let is_published = compiled.values[0] == 36 && compiled.lent.table[0] == 0x8000_7418;
+    let is_published = compiled.values[0] == 36 && compiled.after.table[0] == 0x8000_7418;
     comparison.check(
         "the source's table is not as published",
         is_published,
@@ -92,9 +83,9 @@ fn exchanges(comparison: &mut Comparison) {
                 &table,
                 chapter,
                 7,
-                marked.lent.sets,
+                marked.after.sets,
                 4,
-                &nodes(replacement),
+                &node_words(replacement),
             ),
         );
         let listed = comparison.call(
@@ -103,12 +94,11 @@ fn exchanges(comparison: &mut Comparison) {
                 &alphabet(),
                 &table,
                 answer[0] as usize,
-                &exchanged.lent.sets,
+                &exchanged.after.sets,
                 vec![0; 12],
             ),
         );
-        let is_published =
-            exchanged.values == answer && listed.lent.list[..listed.values[0] as usize] == *hits;
+        let is_published = exchanged.values == answer && listed.hits() == hits;
         comparison.check("an exchange is not as published", is_published, String::new);
     }
 }
@@ -182,8 +172,8 @@ fn small_rules(comparison: &mut Comparison) {
         ),
     ];
     for (wrong, operators, symbols, hits) in published {
-        let expression = words(&operators);
-        let found = matches(comparison, &expression, &nodes(symbols));
+        let expression = operator_words(&operators);
+        let found = matches(comparison, &expression, &node_words(symbols));
         comparison.check(wrong, found == hits, String::new);
         comparison.check(
             wrong,
@@ -191,10 +181,10 @@ fn small_rules(comparison: &mut Comparison) {
             String::new,
         );
     }
-    let table = compiled(comparison, &words(&[Symbol(D)]));
+    let table = compiled(comparison, &operator_words(&[Symbol(D)]));
     let marked = comparison.call(
         "d alone has other marks",
-        &Call::run(&alphabet(), &table, &nodes(&[D]), vec![0; 1]),
+        &Call::run(&alphabet(), &table, &node_words(&[D]), vec![0; 1]),
     );
     comparison.check("d alone has not one cell", marked.values == [1, 1], String::new);
 }
@@ -206,7 +196,7 @@ fn has_root(hits: &[u32], symbols: &[usize]) -> bool {
 /// Whether the whole tree is a member by the literal reading.
 fn literal_root(expression: &[u32], symbols: &[usize]) -> bool {
     let read = Expression::read(&alphabet(), expression).expect("an expression");
-    members(&read, &model::arities(&alphabet()), symbols.len()).contains(symbols)
+    members(&read, &words::arities(&alphabet()), symbols.len()).contains(symbols)
 }
 
 fn compiled(comparison: &mut Comparison, expression: &[u32]) -> Vec<u32> {
@@ -214,7 +204,7 @@ fn compiled(comparison: &mut Comparison, expression: &[u32]) -> Vec<u32> {
         "a published rule has another table",
         &Call::compile(&alphabet(), expression, vec![0; 200]),
     );
-    compiled.lent.table[..compiled.values[0] as usize].to_vec()
+    compiled.table().to_vec()
 }
 
 /// The hits of a rule in a tree, by Compile, Run and List.
@@ -230,9 +220,9 @@ fn matches(comparison: &mut Comparison, expression: &[u32], tree: &[u32]) -> Vec
             &alphabet(),
             &table,
             tree.len(),
-            &marked.lent.sets,
+            &marked.after.sets,
             vec![0; tree.len()],
         ),
     );
-    listed.lent.list[..listed.values[0] as usize].to_vec()
+    listed.hits().to_vec()
 }

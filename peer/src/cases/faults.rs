@@ -46,7 +46,7 @@ fn pairs(comparison: &mut Comparison, accepted: &Call) -> BTreeSet<(u32, u32)> {
         comparison.check(
             &format!("{:?} is not refused by {number}", call.operation),
             refusals::faults(&call).contains(number) && answer.number != 0,
-            || call.lent().to_string(),
+            || call.to_string(),
         );
         for (other, change_more) in &faults {
             let mut both = call.clone();

@@ -7,24 +7,19 @@ use crate::call::Call;
 use crate::cases::random::{pattern, Pattern};
 use crate::chance::Random;
 use crate::compare::Comparison;
+use crate::draw;
 use crate::exchange::splice;
 use crate::generate;
-use crate::guard::Hex;
-use crate::language::Expression;
+use crate::language::{Expression, Tree};
 use crate::marks::Table;
-use crate::model;
 use crate::postfix;
 use crate::refusals;
-use crate::words;
+use crate::words::{self, Hex};
 
-/// The words that stay lent through a list of calls, and how many nodes are in use.
-struct Held {
-    alphabet: Vec<u32>,
-    expression: Option<Vec<u32>>,
-    table: Vec<u32>,
-    tree: Vec<u32>,
-    sets: Vec<u32>,
-    count: usize,
+/// The Exchange whose slices and count stay through a list of calls, and the expression of its table, if it has one.
+struct History {
+    call: Call,
+    expression: Option<Expression>,
 }
 
 pub fn compare(comparison: &mut Comparison, seed: u64, cases: u64) {
@@ -38,7 +33,7 @@ pub fn compare(comparison: &mut Comparison, seed: u64, cases: u64) {
 }
 
 /// A rule's or any other table, a tree that Run marked, and slices with room to grow.
-fn start(comparison: &mut Comparison, random: &mut Random, budget: usize) -> Held {
+fn start(comparison: &mut Comparison, random: &mut Random, budget: usize) -> History {
     let (alphabet, expression, table) = if random.once_in(4) {
         let alphabet = generate::alphabet(random);
         let table = generate::table(random, &alphabet);
@@ -46,15 +41,15 @@ fn start(comparison: &mut Comparison, random: &mut Random, budget: usize) -> Hel
     } else {
         let Pattern { alphabet, expression } = pattern(random);
         let table = automaton::table(&alphabet, &expression).expect("an expression");
-        (alphabet, Some(expression), table)
+        let read = Expression::read(&alphabet, &expression);
+        (alphabet, read, table)
     };
     let width = Table::read(&alphabet, &table).expect("a table").width();
     let nodes = random.between(1, budget);
-    let symbols = tree(random, &alphabet, &expression, nodes);
+    let mut tree = words::node_words(&draw_tree(random, &alphabet, &expression, nodes));
+    let count = tree.len();
     let most = if random.once_in(2) { 3 } else { budget };
     let room = random.between(0, most);
-    let count = symbols.len();
-    let mut tree = generate::tree_words(&symbols);
     tree.extend(random.words(room));
     let length = (count + random.between(0, room)) * width;
     let lent = random.words(length);
@@ -62,150 +57,137 @@ fn start(comparison: &mut Comparison, random: &mut Random, budget: usize) -> Hel
         "the tree before a list of exchanges has other marks",
         &Call::run(&alphabet, &table, &tree[..count], lent),
     );
-    Held {
-        alphabet,
+    History {
+        call: Call::exchange(&alphabet, &table, tree, count, marked.after.sets, 0, &[]),
         expression,
-        table,
-        tree,
-        sets: marked.lent.sets,
-        count,
     }
 }
 
-fn tree(random: &mut Random, alphabet: &[u32], expression: &Option<Vec<u32>>, budget: usize) -> Vec<usize> {
+fn draw_tree(random: &mut Random, alphabet: &[u32], expression: &Option<Expression>, budget: usize) -> Tree {
     match expression {
-        Some(words) => {
-            let read = Expression::read(alphabet, words).expect("an expression");
-            generate::planted_tree(random, alphabet, &read, budget)
-        }
+        Some(expression) => draw::planted_tree(random, alphabet, expression, budget),
         None => generate::tree(random, alphabet, budget),
     }
 }
 
-/// An element and a replacement: mostly good, sometimes one or the other at fault.
-fn arguments(random: &mut Random, held: &Held, budget: usize) -> (usize, Vec<u32>) {
-    let node = match random.below(16) {
-        0 => held.count,
-        1 => held.count - 1,
-        2 => random.pick(&[usize::MAX, 1 << 32, held.count + 1]),
-        _ => random.below(held.count),
-    };
-    let size = if random.once_in(4) {
-        1
-    } else {
-        random.between(1, budget)
-    };
-    let mut replacement = generate::tree_words(&tree(random, &held.alphabet, &held.expression, size));
-    match random.below(20) {
-        0 => replacement.clear(),
-        1 => generate::flip(random, &mut replacement),
-        2 => replacement.push(words::node_word(0)),
-        _ => {}
+impl History {
+    /// Draws an element and a replacement: mostly good, sometimes one or the other at fault.
+    fn draw(&mut self, random: &mut Random) {
+        let count = self.call.count;
+        self.call.node = match random.below(16) {
+            0 => count,
+            1 => count - 1,
+            2 => random.pick(&[usize::MAX, 1 << 32, count + 1]),
+            _ => random.below(count),
+        };
+        let size = if random.once_in(4) {
+            1
+        } else {
+            random.between(1, 10)
+        };
+        let tree = draw_tree(random, &self.call.alphabet, &self.expression, size);
+        let mut replacement = words::node_words(&tree);
+        match random.below(20) {
+            0 => replacement.clear(),
+            1 => generate::flip(random, &mut replacement),
+            2 => replacement.push(words::node_word(0)),
+            _ => {}
+        }
+        self.call.replacement = replacement;
     }
-    (node, replacement)
-}
 
-fn step(comparison: &mut Comparison, wrong: &str, held: &mut Held, node: usize, replacement: &[u32]) {
-    let call = Call::exchange(
-        &held.alphabet,
-        &held.table,
-        held.tree.clone(),
-        held.count,
-        held.sets.clone(),
-        node,
-        replacement,
-    );
-    let answer = comparison.call(wrong, &call);
-    held.tree.clone_from(&answer.lent.tree);
-    held.sets.clone_from(&answer.lent.sets);
-    if answer.number == 0 {
-        held.count = answer.values[0] as usize;
+    /// Compares the call, and keeps what it leaves for the next one.
+    fn step(&mut self, comparison: &mut Comparison, wrong: &str) {
+        let answer = comparison.call(wrong, &self.call);
+        self.call = answer.after;
+        if answer.number == 0 {
+            self.call.count = answer.values[0] as usize;
+        }
     }
 }
 
 /// Demand 3: after the list, the used words are the plain chapter's and a fresh Run's.
 fn true_marks(comparison: &mut Comparison, random: &mut Random, budget: usize, calls: usize) {
-    let mut held = start(comparison, random, budget);
-    let mut plain = held.tree[..held.count].to_vec();
+    let mut history = start(comparison, random, budget);
+    let mut plain = history.call.tree[..history.call.count].to_vec();
     for _ in 0..random.between(0, calls) {
-        let (node, replacement) = arguments(random, &held, 10);
-        step(
-            comparison,
-            "an exchange on true marks differs",
-            &mut held,
-            node,
-            &replacement,
-        );
-        plain = plain_exchange(&held, &plain, node, &replacement);
+        history.draw(random);
+        plain = plain_exchange(&history.call, &plain);
+        history.step(comparison, "an exchange on true marks differs");
     }
-    let used = held.tree[..held.count] == plain[..];
-    comparison.check("the used elements are not the plain chapter", used, || {
-        format!("    chapter {}\n    plain {}", Hex(&held.tree), Hex(&plain))
-    });
-    let length = held.sets.len();
+    let Call {
+        alphabet,
+        table,
+        tree,
+        count,
+        sets,
+        ..
+    } = &history.call;
+    comparison.check(
+        "the used elements are not the plain chapter",
+        tree[..*count] == plain,
+        || format!("    chapter {}\n    plain {}", Hex(tree), Hex(&plain)),
+    );
+    let input = || format!("    chapter {}\n    table {}", Hex(&plain), Hex(table));
     let fresh = comparison.call(
         "a fresh Run on the plain chapter differs",
-        &Call::run(&held.alphabet, &held.table, &plain, random.words(length)),
+        &Call::run(alphabet, table, &plain, random.words(sets.len())),
     );
-    let width = Table::read(&held.alphabet, &held.table).expect("a table").width();
-    let words = held.count * width;
-    let equal = fresh.number == 0 && fresh.lent.sets[..words] == held.sets[..words];
-    comparison.check("the used marks are not a fresh Run's", equal, || {
-        format!("    chapter {}\n    table {}", Hex(&plain), Hex(&held.table))
-    });
-    let lent = random.words(held.count);
-    let list = |sets: &[u32]| Call::list(&held.alphabet, &held.table, held.count, sets, lent.clone());
-    let kept = comparison.call("a list after exchanges differs", &list(&held.sets));
-    let anew = comparison.call("a list after a fresh Run differs", &list(&fresh.lent.sets));
-    let equal = kept.number == anew.number && kept.values == anew.values && kept.lent.list == anew.lent.list;
-    comparison.check("the list after exchanges is not a fresh Run's", equal, || {
-        format!("    chapter {}\n    table {}", Hex(&plain), Hex(&held.table))
-    });
+    let used = count * Table::read(alphabet, table).expect("a table").width();
+    let equal = fresh.number == 0 && fresh.after.sets[..used] == sets[..used];
+    comparison.check("the used marks are not a fresh Run's", equal, input);
+    let lent = random.words(*count);
+    let list = |sets: &[u32]| Call::list(alphabet, table, *count, sets, lent.clone());
+    let kept = comparison.call("a list after exchanges differs", &list(sets));
+    let anew = comparison.call("a list after a fresh Run differs", &list(&fresh.after.sets));
+    let equal =
+        kept.number == anew.number && kept.values == anew.values && kept.after.list == anew.after.list;
+    comparison.check("the list after exchanges is not a fresh Run's", equal, input);
 }
 
-/// The plain chapter after one call. It knows the lengths of the two slices and no answer: a call that is refused with
-/// it as the used elements leaves it, and in any other the subtree's words give way to the replacement's.
-fn plain_exchange(held: &Held, plain: &[u32], node: usize, replacement: &[u32]) -> Vec<u32> {
+/// The plain chapter after a call. It knows the lengths of the two slices and no answer: a call that is refused with it
+/// as the used elements leaves it, and in any other the subtree's words give way to the replacement's.
+fn plain_exchange(call: &Call, plain: &[u32]) -> Vec<u32> {
     let mut tree = plain.to_vec();
-    tree.resize(held.tree.len(), 0);
-    let sets = vec![0; held.sets.len()];
-    let table = &held.table;
-    let call = Call::exchange(&held.alphabet, table, tree, plain.len(), sets, node, replacement);
-    if !refusals::faults(&call).is_empty() {
+    tree.resize(call.tree.len(), 0);
+    let sets = vec![0; call.sets.len()];
+    let Call {
+        alphabet,
+        table,
+        node,
+        replacement,
+        ..
+    } = call;
+    let alone = Call::exchange(alphabet, table, tree, plain.len(), sets, *node, replacement);
+    if !refusals::faults(&alone).is_empty() {
         return plain.to_vec();
     }
-    let arities = model::arities(&held.alphabet);
-    let own: Vec<usize> = model::symbols(plain)
-        .iter()
-        .map(|symbol| arities[*symbol])
-        .collect();
-    let sizes = postfix::sizes(&postfix::children(&own).expect("one tree"));
-    splice(plain, node, sizes[node], replacement)
+    let children = postfix::tree_children(&words::symbols(plain), &words::arities(alphabet));
+    splice(plain, *node, postfix::sizes(&children)[*node], replacement)
 }
 
 /// Stored marks count as they stand: some or all of them are changed before and between the calls.
 fn false_marks(comparison: &mut Comparison, random: &mut Random) {
-    let mut held = start(comparison, random, 40);
+    let mut history = start(comparison, random, 40);
     if random.once_in(3) {
-        let length = held.sets.len();
-        held.sets = random.words(length);
+        history.call.sets = random.words(history.call.sets.len());
     }
     for _ in 0..random.between(1, 8) {
         for _ in 0..random.below(6) {
-            generate::flip(random, &mut held.sets);
+            generate::flip(random, &mut history.call.sets);
         }
-        let (node, replacement) = arguments(random, &held, 10);
-        step(
-            comparison,
-            "an exchange on false marks differs",
-            &mut held,
-            node,
-            &replacement,
-        );
+        history.draw(random);
+        history.step(comparison, "an exchange on false marks differs");
     }
-    let lent = random.words(held.count);
+    let Call {
+        alphabet,
+        table,
+        count,
+        sets,
+        ..
+    } = &history.call;
     comparison.call(
         "a list of false marks differs",
-        &Call::list(&held.alphabet, &held.table, held.count, &held.sets, lent),
+        &Call::list(alphabet, table, *count, sets, random.words(*count)),
     );
 }

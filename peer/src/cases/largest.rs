@@ -14,14 +14,14 @@ use crate::generate;
 use crate::words::{self, entry_word, Operator, CONSTANT_LIMIT, EXPRESSION_LIMIT, STATE_LIMIT};
 
 /// Document 01's figure.
-pub const LARGEST: usize = 1147;
+const LARGEST: usize = 1147;
 
 /// The most table words a rule word of this arity takes beside those into its entries:
 /// a closure for one part, and a symbol for more.
 const MOST_OWN: [usize; 5] = [0, 3, 3, 4, 5];
 
 /// The most words of a compiled table over so many constants.
-pub fn most_words(constants: usize) -> usize {
+fn most_words(constants: usize) -> usize {
     let mut most = 0;
     for four in 0..EXPRESSION_LIMIT {
         for three in 0..EXPRESSION_LIMIT - four {
@@ -78,7 +78,7 @@ fn attained(comparison: &mut Comparison) {
         let answer = comparison.call("the largest table differs", &call);
         let is_attained = answer.number == number && (number != 0 || answer.values[0] as usize == LARGEST);
         comparison.check("the largest table has not 1,147 words", is_attained, || {
-            call.lent().to_string()
+            call.to_string()
         });
     }
 }
@@ -98,6 +98,6 @@ fn near_the_limits(comparison: &mut Comparison, random: &mut Random, bounds: &[u
     comparison.check(
         "a table is longer than the bound",
         within && answer.number != 7,
-        || call.lent().to_string(),
+        || call.to_string(),
     );
 }

@@ -8,24 +8,25 @@ use crate::cases::limits::{alphabet, expect, run_and_list};
 use crate::chance::Random;
 use crate::compare::Comparison;
 use crate::generate;
-use crate::words::{entry_word, node_word, Operator, TableWord};
+use crate::postfix;
+use crate::words::{self, entry_word, node_word, Operator, TableWord};
 
 pub fn compare(comparison: &mut Comparison) {
     trees(comparison);
+    parts(comparison);
     slices(comparison);
     exchanges(comparison);
 }
 
+/// A chain of nodes with symbol 1, of arity 1, over the constant 0.
+fn chain(nodes: usize) -> Vec<u32> {
+    postfix::chain(node_word(0), node_word(1), nodes)
+}
+
 /// Chains and random trees of up to 4,096 nodes and one more.
 fn trees(comparison: &mut Comparison) {
-    let own = [
-        entry_word(0),
-        entry_word(1),
-        entry_word(2),
-        entry_word(4),
-        entry_word(0),
-    ];
-    let rule: Vec<u32> = [
+    let own = [0, 1, 2, 4, 0].map(entry_word);
+    let rule = words::operator_words(&[
         Operator::Symbol(0),
         Operator::Symbol(1),
         Operator::Symbol(0),
@@ -33,36 +34,34 @@ fn trees(comparison: &mut Comparison) {
         Operator::Symbol(2),
         Operator::Union,
         Operator::Closure(0),
-    ]
-    .map(Operator::word)
-    .to_vec();
+    ]);
     let table = automaton::table(&own, &rule).expect("an expression");
     for (nodes, number) in [(0, 9), (1, 0), (4095, 0), (4096, 0), (4097, 9), (9000, 9)] {
-        let mut chain = vec![node_word(0)];
-        chain.resize(nodes.max(1), node_word(1));
-        chain.truncate(nodes);
-        let call = Call::run(&own, &table, &chain, vec![3; 2 * nodes + 2]);
+        let call = Call::run(&own, &table, &chain(nodes), vec![3; 2 * nodes + 2]);
         expect(comparison, "a tree's length is judged otherwise", &call, number);
         let call = Call::list(&own, &table, nodes, &vec![3; 2 * nodes + 2], vec![3; nodes + 2]);
         expect(comparison, "a list's count is judged otherwise", &call, number);
     }
     for seed in 0..4 {
         let tree = generate::tree(&mut Random::new(seed), &own, 4096);
-        run_and_list(comparison, &own, &table, &generate::tree_words(&tree));
+        run_and_list(comparison, &own, &table, &words::node_words(&tree));
     }
+}
+
+/// One node of each arity behind any number of leaves.
+fn parts(comparison: &mut Comparison) {
+    let head = TableWord::Head {
+        states: 1,
+        accepting: 0,
+    };
     for arity in 0..=4 {
-        let one = [entry_word(0), entry_word(arity)];
+        let own = [0, arity].map(entry_word);
         for leaves in 0..6 {
-            let mut words = vec![node_word(0); leaves];
-            words.push(node_word(1));
-            let table = [TableWord::Head {
-                states: 1,
-                accepting: 0,
-            }
-            .word()];
+            let mut tree = vec![node_word(0); leaves];
+            tree.push(node_word(1));
             comparison.call(
                 "too few or too many parts are judged otherwise",
-                &Call::run(&one, &table, &words, vec![1; 9]),
+                &Call::run(&own, &[head.word()], &tree, vec![1; 9]),
             );
         }
     }
@@ -114,11 +113,6 @@ fn exchanges(comparison: &mut Comparison) {
     let own = alphabet(1, 1);
     let table = automaton::table(&own, &[Operator::Symbol(0).word(), Operator::Symbol(1).word()])
         .expect("an expression");
-    let chain = |nodes: usize| {
-        let mut words = vec![node_word(0)];
-        words.resize(nodes, node_word(1));
-        words
-    };
     let wrong = "an exchange at a limit is judged otherwise";
     // old nodes, chapter slice, marks slice, element, replacement nodes, number
     let cases = [

@@ -3,13 +3,15 @@
 
 use crate::automaton;
 use crate::call::Call;
+use crate::cases::largest::largest;
 use crate::chance::Random;
 use crate::compare::Comparison;
 use crate::generate;
 use crate::language::membership::Membership;
+use crate::language::Expression;
 use crate::marks::Table;
-use crate::model;
-use crate::words::{entry_word, node_word, Operator, TableWord};
+use crate::postfix;
+use crate::words::{self, entry_word, node_word, Operator, TableWord};
 
 pub fn compare(comparison: &mut Comparison) {
     alphabets(comparison);
@@ -23,21 +25,16 @@ pub fn alphabet(constants: usize, unary: usize) -> Vec<u32> {
     [vec![entry_word(0); constants], vec![entry_word(1); unary]].concat()
 }
 
-fn closures(count: usize) -> Vec<u32> {
-    let mut words = vec![Operator::Symbol(0).word()];
-    words.resize(1 + count, Operator::Closure(0).word());
-    words
+/// So many closures over one constant, over that constant.
+pub fn closures(count: usize) -> Vec<u32> {
+    postfix::chain(Operator::Symbol(0).word(), Operator::Closure(0).word(), 1 + count)
 }
 
 /// Expects this number of the model as well, so that a limit is not only compared but also where it is said to be.
 pub fn expect(comparison: &mut Comparison, wrong: &str, call: &Call, number: u32) {
     let answer = comparison.call(wrong, call);
     comparison.check(wrong, answer.number == number, || {
-        format!(
-            "    number {} instead of {number}\n{}",
-            answer.number,
-            call.lent()
-        )
+        format!("    number {} instead of {number}\n{call}", answer.number)
     });
 }
 
@@ -91,28 +88,25 @@ fn rules(comparison: &mut Comparison) {
 
 /// 60 words with entries and 4 constants over 16 constants; 61 closures over one constant.
 fn states(comparison: &mut Comparison) {
-    let sixteen = [alphabet(16, 1), vec![entry_word(4)]].concat();
-    let full = full_rule();
+    let (sixteen, full) = largest();
     let call = Call::compile(&sixteen, &full, vec![7; 1200]);
     let answer = comparison.call("1,024 states are judged otherwise", &call);
+    let head = TableWord::Head {
+        states: 1024,
+        accepting: 1007,
+    };
     comparison.check(
         "60 words with entries and 4 constants are not 1,024 states",
-        answer.number == 0
-            && answer.lent.table[0]
-                == TableWord::Head {
-                    states: 1024,
-                    accepting: 1007,
-                }
-                .word(),
-        || answer.lent.to_string(),
+        answer.number == 0 && answer.after.table[0] == head.word(),
+        || call.to_string(),
     );
-    let table = answer.lent.table[..answer.values[0] as usize].to_vec();
     let tree = generate::tree(&mut Random::new(1), &sixteen, 300);
-    run_and_list(comparison, &sixteen, &table, &generate::tree_words(&tree));
-    let read = crate::language::Expression::read(&sixteen, &full).expect("an expression");
-    let decided = Membership::new(&read, sixteen.len()).subtrees(&tree, &model::arities(&sixteen));
-    let own = Table::read(&sixteen, &table).expect("a table");
-    let reached = own.reached_by_all(&tree, &model::arities(&sixteen));
+    run_and_list(comparison, &sixteen, answer.table(), &words::node_words(&tree));
+    let arities = words::arities(&sixteen);
+    let read = Expression::read(&sixteen, &full).expect("an expression");
+    let decided = Membership::new(&read, sixteen.len()).subtrees(&tree, &arities);
+    let own = Table::read(&sixteen, answer.table()).expect("a table");
+    let reached = own.reached_by_all(&tree, &arities);
     let hits: Vec<bool> = reached.iter().map(|set| set[own.accepting]).collect();
     comparison.check(
         "1,024 states have other hits than the language",
@@ -135,14 +129,6 @@ fn states(comparison: &mut Comparison) {
             number,
         );
     }
-}
-
-/// A symbol of arity 4 (number 17) over 4 constants under 59 closures: 1,024 states.
-fn full_rule() -> Vec<u32> {
-    let mut rule: Vec<u32> = (0..4).map(|constant| Operator::Symbol(constant).word()).collect();
-    rule.push(Operator::Symbol(17).word());
-    rule.extend((0..59).map(|place| Operator::Closure(place % 16).word()));
-    rule
 }
 
 fn tables(comparison: &mut Comparison) {
@@ -181,8 +167,7 @@ fn tables(comparison: &mut Comparison) {
         let number = if length <= 2048 { 0 } else { 8 };
         expect(comparison, "a table's length is judged otherwise", &call, number);
     }
-    let chain = long_chain();
-    run_and_list(comparison, &own, &chain, &tree);
+    run_and_list(comparison, &own, &long_chain(), &tree);
 }
 
 /// Epsilon transitions through all 1,024 states, the last written first.
@@ -200,20 +185,15 @@ fn long_chain() -> Vec<u32> {
     table.into_iter().map(TableWord::word).collect()
 }
 
+/// Runs and lists, with room for 32 words a state set, which is the most.
 pub fn run_and_list(comparison: &mut Comparison, alphabet: &[u32], table: &[u32], tree: &[u32]) {
-    let width = 32;
+    let nodes = tree.len();
     let marked = comparison.call(
         "a table or tree at a limit has other marks",
-        &Call::run(alphabet, table, tree, vec![9; tree.len() * width]),
+        &Call::run(alphabet, table, tree, vec![9; nodes * 32]),
     );
     comparison.call(
         "a table or tree at a limit has another list",
-        &Call::list(
-            alphabet,
-            table,
-            tree.len(),
-            &marked.lent.sets,
-            vec![9; tree.len()],
-        ),
+        &Call::list(alphabet, table, nodes, &marked.after.sets, vec![9; nodes]),
     );
 }

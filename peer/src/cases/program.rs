@@ -1,17 +1,17 @@
-//! The program `marklist`: what it prints for an input of bytes, compared with what document 01 says. The program's path
-//! is in HAQBYLUR_MARKLIST.
+//! The program `marklist`: what it prints for an input of bytes, compared with what document 01 says, and that it ends
+//! well. The program's path is in HAQBYLUR_MARKLIST.
 
-use crate::cases::examples;
 use crate::cases::random::{pattern, Pattern};
+use crate::cases::{examples, limits};
 use crate::chance::Random;
 use crate::compare::Comparison;
+use crate::draw;
+use crate::driver::{Outcome, Program};
 use crate::generate;
 use crate::language::Expression;
 use crate::marklist::{encode, expected};
-use crate::words::{entry_word, node_word, Operator};
-use std::io::{Read, Write};
-use std::process::{Child, Command, Stdio};
-use std::sync::mpsc;
+use crate::postfix;
+use crate::words::{self, entry_word, node_word, Operator};
 use std::time::Duration;
 
 pub fn path() -> Option<String> {
@@ -19,7 +19,8 @@ pub fn path() -> Option<String> {
 }
 
 pub fn compare(comparison: &mut Comparison, path: &str, seed: u64, cases: u64) {
-    let program = &mut Program { path, hangs: false };
+    let patience = Duration::from_secs(20);
+    let program = &mut Compared::new(Program { path, patience });
     source(comparison, program);
     early_ends(comparison, program);
     lengths(comparison, program);
@@ -28,65 +29,30 @@ pub fn compare(comparison: &mut Comparison, path: &str, seed: u64, cases: u64) {
     });
 }
 
-// What the program does.
-
 /// The compared program. Once it did not end in time, it is not started again: each such wait is long.
-struct Program<'a> {
-    path: &'a str,
+pub struct Compared<'a> {
+    program: Program<'a>,
     hangs: bool,
 }
 
-/// What the program printed, or why nothing is known. The input stays open until it has ended, so a program that waits
-/// for the end of input is found; with `ended` it is closed first.
-fn run(program: &str, bytes: &[u8], ended: bool) -> Result<String, String> {
-    let mut child = Command::new(program)
-        .stdin(Stdio::piped())
-        .stdout(Stdio::piped())
-        .spawn()
-        .map_err(|error| format!("{program}: {error}"))?;
-    let mut input = child.stdin.take().expect("a pipe");
-    let bytes = bytes.to_vec();
-    let (release, released) = mpsc::channel::<()>();
-    let writer = std::thread::spawn(move || {
-        // The program may end before it has read what it need not read; what is missing shows in what it prints.
-        let _ = input.write_all(&bytes).and_then(|()| input.flush());
-        if !ended {
-            let _ = released.recv();
+impl Compared<'_> {
+    pub fn new(program: Program<'_>) -> Compared<'_> {
+        Compared {
+            program,
+            hangs: false,
         }
-    });
-    let printed = printed_in_time(&mut child);
-    if printed.is_err() {
-        let _ = child.kill();
-    }
-    drop(release);
-    let _ = child.wait();
-    let _ = writer.join();
-    printed
-}
-
-fn printed_in_time(child: &mut Child) -> Result<String, String> {
-    let mut output = child.stdout.take().expect("a pipe");
-    let (sender, receiver) = mpsc::channel();
-    std::thread::spawn(move || {
-        let mut text = Vec::new();
-        let result = output.read_to_end(&mut text);
-        let _ = sender.send(result.map(|_| String::from_utf8_lossy(&text).into_owned()));
-    });
-    match receiver.recv_timeout(Duration::from_secs(20)) {
-        Ok(Ok(text)) => Ok(text),
-        Ok(Err(error)) => Err(error.to_string()),
-        Err(_) => Err("no end within 20 seconds".to_string()),
     }
 }
 
-fn same(comparison: &mut Comparison, program: &mut Program, wrong: &str, bytes: &[u8], ended: bool) {
+fn same(comparison: &mut Comparison, program: &mut Compared, wrong: &str, bytes: &[u8], ended: bool) {
     if program.hangs {
         return;
     }
-    let expected = expected(bytes);
-    let found = run(program.path, bytes, ended);
-    program.hangs = found.is_err();
-    comparison.check(wrong, found.as_ref() == Ok(&expected), || {
+    let expected = Outcome::Ended(expected(bytes), Some(0));
+    let found = program.program.run(bytes, ended);
+    program.hangs = found == Outcome::Hung;
+    comparison.check(wrong, found == expected, || {
+        // Only inputs with lengths far over the limits are longer, and they are fixed.
         let shown: String = bytes
             .iter()
             .take(4000)
@@ -99,9 +65,8 @@ fn same(comparison: &mut Comparison, program: &mut Program, wrong: &str, bytes: 
     });
 }
 
-// Inputs.
-
-fn source(comparison: &mut Comparison, program: &mut Program) {
+/// The source's own example, with its input closed, left open and followed by more.
+pub fn source(comparison: &mut Comparison, program: &mut Compared) {
     let bytes = encode(&examples::alphabet(), &examples::expression(), &examples::tree());
     let published = "nodes 7 states 29 hits 3\n2 4 3\n3 3 1\n4 5 2\n";
     comparison.check(
@@ -134,7 +99,7 @@ fn source(comparison: &mut Comparison, program: &mut Program) {
 }
 
 /// The source's input cut at every byte, and counts that announce far more than is there.
-fn early_ends(comparison: &mut Comparison, program: &mut Program) {
+fn early_ends(comparison: &mut Comparison, program: &mut Compared) {
     let bytes = encode(&examples::alphabet(), &examples::expression(), &examples::tree());
     let wrong = "an input that ends early is not refused by 0";
     for length in 0..bytes.len() {
@@ -153,7 +118,7 @@ fn early_ends(comparison: &mut Comparison, program: &mut Program) {
 }
 
 /// Lengths at the limits and far over them, all words present, with other faults beside them.
-fn lengths(comparison: &mut Comparison, program: &mut Program) {
+fn lengths(comparison: &mut Comparison, program: &mut Compared) {
     let own = examples::alphabet();
     let rule = examples::expression();
     let tree = examples::tree();
@@ -167,9 +132,7 @@ fn lengths(comparison: &mut Comparison, program: &mut Program) {
         same(comparison, program, wrong, &encode(&own, &long, &tree), false);
     }
     for length in [0, 1, 255, 256, 257, 4096, 4097, 100_000] {
-        let mut chain = vec![node_word(examples::D)];
-        chain.resize(length.max(1), node_word(examples::G));
-        chain.truncate(length);
+        let mut chain = postfix::chain(node_word(examples::D), node_word(examples::G), length);
         same(comparison, program, wrong, &encode(&own, &rule, &chain), false);
         same(comparison, program, wrong, &encode(&own, &[], &chain), false);
         if let Some(word) = chain.last_mut() {
@@ -179,23 +142,20 @@ fn lengths(comparison: &mut Comparison, program: &mut Program) {
         chain.push(0);
         same(comparison, program, wrong, &encode(&own, &rule, &chain), false);
     }
-    let sixteen = [vec![entry_word(0); 16], vec![entry_word(1)]].concat();
+    let sixteen = limits::alphabet(16, 1);
+    let chain = postfix::chain(node_word(0), node_word(16), 256);
     for closures in [59, 60, 61, 63] {
-        let mut long = vec![Operator::Symbol(0).word()];
-        long.resize(1 + closures, Operator::Closure(0).word());
-        let mut chain = vec![node_word(0)];
-        chain.resize(256, node_word(16));
         same(
             comparison,
             program,
             "many states print otherwise",
-            &encode(&sixteen, &long, &chain),
+            &encode(&sixteen, &limits::closures(closures), &chain),
             true,
         );
     }
 }
 
-fn random_input(comparison: &mut Comparison, program: &mut Program, random: &mut Random) {
+fn random_input(comparison: &mut Comparison, program: &mut Compared, random: &mut Random) {
     let Pattern {
         mut alphabet,
         mut expression,
@@ -206,7 +166,7 @@ fn random_input(comparison: &mut Comparison, program: &mut Program, random: &mut
     } else {
         random.between(1, 40)
     };
-    let mut tree = generate::tree_words(&generate::planted_tree(random, &alphabet, &read, budget));
+    let mut tree = words::node_words(&draw::planted_tree(random, &alphabet, &read, budget));
     match random.below(6) {
         0 => generate::flip(random, &mut alphabet),
         1 => generate::flip(random, &mut expression),

@@ -5,14 +5,14 @@ use crate::automaton;
 use crate::call::Call;
 use crate::chance::Random;
 use crate::compare::Comparison;
+use crate::draw;
 use crate::generate;
-use crate::guard::Hex;
 use crate::language::literal;
 use crate::language::membership::Membership;
 use crate::language::{Expression, Tree};
 use crate::marks::Table;
 use crate::model;
-use crate::words;
+use crate::words::{self, Hex};
 
 /// An alphabet with an expression that has at most 1,024 states over it.
 pub struct Pattern {
@@ -36,7 +36,7 @@ pub fn pattern(random: &mut Random) -> Pattern {
 }
 
 /// A length at, below or above the one that is needed.
-pub fn length_near(random: &mut Random, needed: usize) -> usize {
+fn length_near(random: &mut Random, needed: usize) -> usize {
     match random.below(8) {
         0 => needed - 1,
         1..=4 => needed,
@@ -73,9 +73,9 @@ fn pattern_case(comparison: &mut Comparison, random: &mut Random) {
         1..=10 => random.between(1, 100),
         _ => random.between(1, 24),
     };
-    let tree = generate::planted_tree(random, &alphabet, &read, budget);
+    let tree = draw::planted_tree(random, &alphabet, &read, budget);
     let hits = marked_hits(comparison, random, &alphabet, &table, &tree);
-    let arities = model::arities(&alphabet);
+    let arities = words::arities(&alphabet);
     let in_language = Membership::new(&read, alphabet.len()).subtrees(&tree, &arities);
     comparison.check(
         "the hits are not the subtrees in the language",
@@ -83,7 +83,7 @@ fn pattern_case(comparison: &mut Comparison, random: &mut Random) {
         || input(&alphabet, &expression, &tree),
     );
 
-    if let Some(member) = generate::member(random, &read, 40) {
+    if let Some(member) = draw::member(random, &read, 40) {
         let hits = marked_hits(comparison, random, &alphabet, &table, &member);
         comparison.check(
             "a member of the language is no hit",
@@ -111,7 +111,7 @@ fn marked_hits(
     tree: &Tree,
 ) -> Vec<bool> {
     let read = Table::read(alphabet, table).expect("a table");
-    let tree_words = generate::tree_words(tree);
+    let tree_words = words::node_words(tree);
     let needed = tree.len() * read.width();
     let length = length_near(random, needed);
     let lent = random.words(length);
@@ -127,15 +127,13 @@ fn marked_hits(
         "a tree has another list",
         &Call::list(alphabet, table, tree.len(), &sets, lent),
     );
-    sets.chunks(read.width())
-        .map(|own| read.stored_set(own)[read.accepting])
-        .collect()
+    sets.chunks(read.width()).map(|own| read.is_match(own)).collect()
 }
 
 /// All trees up to a size: members by the literal reading, members by the decision, and hits.
 fn literal_case(comparison: &mut Comparison, random: &mut Random) {
     let Pattern { alphabet, expression } = pattern(random);
-    let arities = model::arities(&alphabet);
+    let arities = words::arities(&alphabet);
     let read = Expression::read(&alphabet, &expression).expect("an expression");
     let limit = literal::size_with_at_most(&arities, 250);
     if limit == 0 {
@@ -161,6 +159,6 @@ fn input(alphabet: &[u32], expression: &[u32], tree: &Tree) -> String {
         "    alphabet {}\n    rule {}\n    chapter {}",
         Hex(alphabet),
         Hex(expression),
-        Hex(&generate::tree_words(tree))
+        Hex(&words::node_words(tree))
     )
 }

@@ -38,11 +38,9 @@ impl<'a> Membership<'a> {
 
     /// For every node of a tree, whether the subtree there is a member of the whole expression's language.
     pub fn subtrees(&self, tree: &[usize], arities: &[usize]) -> Vec<bool> {
-        let tree_arities: Vec<usize> = tree.iter().map(|symbol| arities[*symbol]).collect();
-        let children = postfix::children(&tree_arities).expect("one tree");
         let mut holds: Vec<Vec<bool>> = Vec::with_capacity(tree.len());
-        for node in 0..tree.len() {
-            let row = self.least(tree[node], &children[node], &holds);
+        for (symbol, children) in tree.iter().zip(postfix::tree_children(tree, arities)) {
+            let row = self.least(*symbol, &children, &holds);
             holds.push(row);
         }
         holds.iter().map(|row| row[self.expression.whole()]).collect()

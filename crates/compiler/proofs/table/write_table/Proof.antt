@@ -1,9 +1,8 @@
 -- `compiler::table::write_table` meets its contract: the first words of the list are the constants. Assumes nothing.
 use native.Mathlib.Omega.{arith}
-use mathlib.Core.Path.{sym}
+use mathlib.Core.Path.{refl, sym}
 use lib.Seq.{length-take-le}
 use borrow.Author.Needs.{needs}
-use Rattle.words.proofs.AcceptedAlphabet.{alphabet-accepted}
 use Rattle.compiler.proofs.AcceptedLaws.{constants-first, constants-within}
 use Rattle.compiler.proofs.table.write_table.Statement.{statement}
 use Rattle.compiler.proofs.table.write_table.Tie as tie
@@ -12,27 +11,27 @@ slice-aggregate-write-constants : tie.Need-slice-aggregate-write-constants
 slice-aggregate-write-constants c = search needs
 
 write-constants-requires : tie.Need-write-constants-requires
-write-constants-requires c κs =
-    let h = alphabet-accepted _ (c .before .before .before .before .pre .alphabet) in
-    record { symbols = h .few; room = h .fewConstants }
+write-constants-requires c κs = search needs
 
 array-share-prefix-list : tie.Need-array-share-prefix-list
 array-share-prefix-list c =
     let k = c .before .write-constants .ensures in
-    constants-within _ _ _ _ (k .0) (k .1)
+    let start = c .before .before .before .before .before .before in
+    constants-within _ _ _ _ (start .pre .alphabet) refl (k .0) (k .1)
 
 slice-aggregate-write-parts : tie.Need-slice-aggregate-write-parts
 slice-aggregate-write-parts c =
     let k = c .before .before .write-constants .ensures in
-    sym (length-take-le _ _ (constants-within _ _ _ _ (k .0) (k .1)))
+    let start = c .before .before .before .before .before .before .before in
+    sym (length-take-le _ _ (constants-within _ _ _ _ (start .pre .alphabet) refl (k .0) (k .1)))
 
 write-parts-requires : tie.Need-write-parts-requires
 write-parts-requires c κs =
     let k = c .before .before .before .write-constants .ensures in
+    let start = c .before .before .before .before .before .before .before .before in
     record {
-      accepted = c .before .before .before .before .before .before .before .before .pre;
-      constants = constants-first _ _ _ _ (k .0)
-          (k .1);
+      accepted = start .pre;
+      constants = constants-first _ _ _ _ (start .pre .alphabet) refl (k .0) (k .1);
       early = omega arith;
     }
 

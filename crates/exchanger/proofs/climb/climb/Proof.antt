@@ -10,11 +10,11 @@ use Rattle.exchanger.proofs.climb.climb.Statement.{statement}
 use Rattle.exchanger.proofs.climb.climb.Tie as tie
 
 abbrev Inv-loop : tie.InvT-loop
-Inv-loop alphabet table nodes first marks₀ stack₀ height count rise₀ top₀ i₀ marks stack rise top i =
-    Rising alphabet table nodes first count marks₀ stack₀ marks stack rise top i
+Inv-loop alphabet table nodes root marks₀ stack₀ height count rise₀ top₀ i₀ marks stack rise top i =
+    Rising alphabet table nodes root count marks₀ stack₀ marks stack rise top i
 
 abbrev μ-loop : tie.MeasureT-loop
-μ-loop alphabet table nodes first marks₀ stack₀ height count rise₀ top₀ i₀ marks stack rise top i = length nodes - i
+μ-loop alphabet table nodes root marks₀ stack₀ height count rise₀ top₀ i₀ marks stack rise top i = length nodes - i
 
 abbrev start : tie.At-loop Inv-loop μ-loop → tie.Start Inv-loop μ-loop
 start c = c .before .before .before .before .before .before

@@ -13,6 +13,9 @@ shared-slice-read-arity c = search needs
 arity-requires : tie.Need-arity-requires
 arity-requires c κs = search needs
 
+sub-t17 : tie.Need-sub-t17
+sub-t17 c = search needs
+
 add-t18 : tie.Need-add-t18
 add-t18 c = search needs
 
@@ -41,6 +44,7 @@ climb-node-spec =
     mul-arity
     shared-slice-read-arity
     arity-requires
+    sub-t17
     add-t18
     returns
     recompute-requires

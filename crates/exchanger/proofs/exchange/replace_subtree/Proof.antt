@@ -1,5 +1,5 @@
 -- `exchange::replace_subtree` meets its contract: both tails move, the replacement fills the chapter's gap, and the loops recompute
--- what the definition says, over the old element's words as they were. Assumes nothing.
+-- what the definition says, with the old element's words at the root's place. Assumes nothing.
 use mathlib.Core.Path.{sym, ap₂}
 use mathlib.Core.List.{[], _∷_}
 use Prim.Native.Nat.{ℕ}
@@ -7,7 +7,7 @@ use native.Mathlib.Omega.{arith}
 use Rattle.operations.specs.Answer.{accepted}
 use Rattle.operations.specs.Exchange.{newTree}
 use Rattle.exchanger.proofs.CallLaws.{Numbers, numbers, accepted-call, length-used, chapter-fits, marks-fits}
-use Rattle.exchanger.proofs.ReplaceLaws.{part-long, saved-set, saved-room, saved-long, chapter-exit, chapter-count, call-exchangeable, marks-exit}
+use Rattle.exchanger.proofs.ReplaceLaws.{chapter-exit, chapter-count, call-exchangeable, marks-exit}
 use borrow.Author.Needs.{needs}
 use Rattle.exchanger.proofs.exchange.replace_subtree.Statement.{statement}
 use Rattle.exchanger.proofs.exchange.replace_subtree.Tie as tie
@@ -19,11 +19,8 @@ abbrev sized : tie.After-subtree-start → tie.After-set-size
 sized c = c .before .before
 
 -- the place behind `subtree_start`, seen from later ones
-abbrev placed : tie.After-read-set → tie.After-subtree-start
-placed c = c .before .before .before
-
-abbrev saved : tie.After-move-tail → tie.After-read-set
-saved c = c .before .before
+abbrev placed : tie.After-move-tail → tie.After-subtree-start
+placed c = c .before .before
 
 abbrev moved : tie.After-copy-words → tie.After-move-tail
 moved c = c .before .before .before .before
@@ -52,6 +49,9 @@ subtree-start-requires c κs = search needs
 add-behind : tie.Need-add-behind
 add-behind c = let f = facts c in omega arith
 
+sub-root : tie.Need-sub-root
+sub-root c = let f = facts c in omega arith
+
 sub-total : tie.Need-sub-total
 sub-total c = let f = facts c in omega arith
 
@@ -61,65 +61,40 @@ sub-total-2 c = let f = facts c in omega arith
 add-total : tie.Need-add-total
 add-total c = let f = facts c in omega arith
 
-mul-first : tie.Need-mul-first
-mul-first c = let f = facts c in omega arith
-
-add-read-set : tie.Need-add-read-set
-add-read-set c = let f = facts c in omega arith
-
-mul-read-set : tie.Need-mul-read-set
-mul-read-set c = let f = facts c in omega arith
-
-sub-read-set : tie.Need-sub-read-set
-sub-read-set c = search needs
-
-part-read-set-start : tie.Need-part-read-set-start
-part-read-set-start c = search needs
-
-part-read-set-end : tie.Need-part-read-set-end
-part-read-set-end c = let f = facts (c .before) in omega arith
-
-read-set-requires : tie.Need-read-set-requires
-read-set-requires c κs =
-    let p = c .before .before in
-    let f = facts p in
-    let l = part-long _ _ _ _ _ _ _ (start (sized p) .pre) _ (p .subtree-start .ensures) _ (sized p .set-size .ensures) in
-    omega arith
-
 add-move-tail : tie.Need-add-move-tail
-add-move-tail c = let f = facts (placed (c .before)) in omega arith
+add-move-tail c = let f = facts (c .before) in omega arith
 
 move-tail-requires : tie.Need-move-tail-requires
 move-tail-requires c κs =
-    let p = placed (c .before) in
+    let p = c .before in
     chapter-fits _ _ _ _ _ _ _ (start (sized p) .pre) _ (p .subtree-start .ensures) _ (sized p .set-size .ensures)
 
 copy-words-requires : tie.Need-copy-words-requires
 copy-words-requires c κs =
     let t = c .before .before .before in
-    let f = facts (placed (saved t)) in
+    let f = facts (placed t) in
     let k = t .move-tail .kept .0 in
     omega arith
 
 mul-move-tail : tie.Need-mul-move-tail
-mul-move-tail c = let f = facts (placed (saved (moved (c .before .before .before)))) in omega arith
-
-add-move-tail-2 : tie.Need-add-move-tail-2
-add-move-tail-2 c = let f = facts (placed (saved (moved (c .before .before .before)))) in omega arith
+mul-move-tail c = let f = facts (placed (moved (c .before .before .before))) in omega arith
 
 mul-move-tail-2 : tie.Need-mul-move-tail-2
-mul-move-tail-2 c = let f = facts (placed (saved (moved (c .before .before .before)))) in omega arith
+mul-move-tail-2 c = let f = facts (placed (moved (c .before .before .before))) in omega arith
+
+mul-move-tail-3 : tie.Need-mul-move-tail-3
+mul-move-tail-3 c = let f = facts (placed (moved (c .before .before .before))) in omega arith
 
 move-tail-requires-2 : tie.Need-move-tail-requires-2
 move-tail-requires-2 c κs =
-    let p = placed (saved (moved (c .before .before .before))) in
+    let p = placed (moved (c .before .before .before)) in
     marks-fits _ _ _ _ _ _ _ (start (sized p) .pre) _ (p .subtree-start .ensures) _ (sized p .set-size .ensures)
 
 slice-reshare-prefix-recompute-nodes : tie.Need-slice-reshare-prefix-recompute-nodes
 slice-reshare-prefix-recompute-nodes c =
     let f = filled (c .before .before) in
     let t = moved f in
-    let n = facts (placed (saved t)) in
+    let n = facts (placed t) in
     let k = t .move-tail .kept .0 in
     let k₂ = f .copy-words .kept .0 in
     omega arith
@@ -128,28 +103,16 @@ slice-aggregate-recompute-nodes : tie.Need-slice-aggregate-recompute-nodes
 slice-aggregate-recompute-nodes c =
     let f = filled (c .before .before .before) in
     let t = moved f in
-    let p = placed (saved t) in
+    let p = placed t in
     chapter-count _ _ _ _ _ _ _ (start (sized p) .pre) _ (p .subtree-start .ensures) _ (sized p .set-size .ensures)
     _ _ (t .move-tail .ensures) (f .copy-words .ensures)
 
-array-share-prefix-old : tie.Need-array-share-prefix-old
-array-share-prefix-old c =
-    let r = saved (moved (filled (c .before .before .before))) in
-    let p = placed r in
-    saved-room _ _ _ _ _ _ _ (start (sized p) .pre) _ (p .subtree-start .ensures) _ (sized p .set-size .ensures) _ (r .read-set .ensures)
-
-slice-aggregate-recompute-nodes-2 : tie.Need-slice-aggregate-recompute-nodes-2
-slice-aggregate-recompute-nodes-2 c =
-    let r = saved (moved (filled (c .before .before .before .before))) in
-    let p = placed r in
-    saved-long _ _ _ _ _ _ _ (start (sized p) .pre) _ (p .subtree-start .ensures) _ (sized p .set-size .ensures) _ (r .read-set .ensures)
-
 recompute-nodes-requires : tie.Need-recompute-nodes-requires
 recompute-nodes-requires c κs =
-    let w = c .before .before .before .before .before in
+    let w = c .before .before .before .before in
     let f = filled w in
     let t = moved f in
-    let p = placed (saved t) in
+    let p = placed t in
     call-exchangeable _ _ _ _ _ _ _ (start (sized p) .pre) _ (p .subtree-start .ensures) _ (sized p .set-size .ensures)
     _ _ (t .move-tail .ensures) (f .copy-words .ensures) _ (w .move-tail2 .ensures) (w .move-tail2 .kept .0)
 
@@ -163,19 +126,17 @@ returns : tie.Need-returns
 unfolding newTree
 returns c =
     let k = c .before .before in
-    let w = k .before .before .before .before .before .before in
+    let w = k .before .before .before .before .before in
     let f = filled w in
     let t = moved f in
-    let r = saved t in
-    let p = placed r in
+    let p = placed t in
     let q = start (sized p) .args in
     let pre = start (sized p) .pre in
     let qs = p .subtree-start .ensures in
     let qz = sized p .set-size .ensures in
     let left =
     marks-exit (q .alphabet .now) (q .table .now) (q .chapter .now) (q .marks .now) (q .count) (q .element) (q .replacement .now) pre _ qs _ qz
-    _ _ (t .move-tail .ensures) (f .copy-words .ensures) _ (w .move-tail2 .ensures) (w .move-tail2 .kept .0)
-    _ (saved-set _ _ _ _ _ _ _ pre _ qs _ qz _ (r .read-set .ensures)) _ _ (k .recompute-nodes .ensures) in (
+    _ _ (t .move-tail .ensures) (f .copy-words .ensures) _ (w .move-tail2 .ensures) (w .move-tail2 .kept .0) _ _ (k .recompute-nodes .ensures) in (
       ap₂ (λ (i j : ℕ). accepted (i ∷ j ∷ [])) (facts p .total) (left .count-is),
       (
         chapter-exit _ _ _ _ _ _ _ pre _ qs _ qz _ _ (t .move-tail .ensures) (f .copy-words .ensures),
@@ -192,27 +153,19 @@ replace-subtree-spec =
     slice-aggregate-subtree-start
     subtree-start-requires
     add-behind
+    sub-root
     sub-total
     sub-total-2
     add-total
-    mul-first
-    add-read-set
-    mul-read-set
-    sub-read-set
-    part-read-set-start
-    part-read-set-end
-    read-set-requires
     add-move-tail
     move-tail-requires
     copy-words-requires
     mul-move-tail
-    add-move-tail-2
     mul-move-tail-2
+    mul-move-tail-3
     move-tail-requires-2
     slice-reshare-prefix-recompute-nodes
     slice-aggregate-recompute-nodes
-    array-share-prefix-old
-    slice-aggregate-recompute-nodes-2
     recompute-nodes-requires
     same-length
     same-length-2

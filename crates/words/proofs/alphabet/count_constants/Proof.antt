@@ -35,8 +35,8 @@ loop-again c =
     let t = c .before .before in
     let e = sym (c .before .is-constant .ensures) in
     ⊎-elim
-    (λ w. rw (w .1) (counted-more (t .before .loop .inv) (t .loop-test .taken) (e ∙ w .0 .taken)))
-    (λ w. rw (w .1) (counted-skip (t .before .loop .inv) (t .loop-test .taken) (e ∙ w .0 .left)))
+    (λ w. rw (w .1) (counted-more (t .before .loop .inv) (e ∙ w .0 .taken)))
+    (λ w. rw (w .1) (counted-skip (t .before .loop .inv) (e ∙ w .0 .left)))
     (c .if1 .came)
 
 returns : tie.Need-returns Inv-loop μ-loop

@@ -1,12 +1,10 @@
--- `alphabet::write_constants` meets its contract. The loop's invariant: the constants of the first `i` entries are the first `n`
--- words of the list, and the others are as they were. Assumes nothing.
+-- `alphabet::write_constants` meets its contract. The loop's invariant: the constants of the first `i` entries are stored from
+-- the first word of the list on, as far as it reaches, and `n` is their number. Assumes nothing.
 use mathlib.Core.Path.{_∙_, sym}
 use mathlib.Core.Logic.{⊎-elim}
 use Prim.Native.Nat.{_-_}
-use native.Mathlib.Omega.{arith}
-use lib.ListN.{length}
 use borrow.Author.Needs.{needs}
-use Rattle.words.proofs.ConstantScanLaws.{Written, written-none, written-room, written-more, written-skip, written-end, counted-end}
+use Rattle.words.proofs.ConstantScanLaws.{Written, written-none, written-length, written-more, written-past, written-skip, written-end}
 use Rattle.words.proofs.alphabet.write_constants.Statement.{statement}
 use Rattle.words.proofs.alphabet.write_constants.Tie as tie
 
@@ -14,7 +12,7 @@ abbrev Inv-loop : tie.InvT-loop
 Inv-loop alphabet list₀ n₀ i₀ list n i = Written alphabet list₀ list n i
 
 abbrev μ-loop : tie.MeasureT-loop
-μ-loop alphabet list₀ n₀ i₀ list n i = length alphabet - i
+μ-loop alphabet list₀ n₀ i₀ list n i = 64 - i
 
 loop-holds : tie.Need-loop-holds Inv-loop μ-loop
 loop-holds c = written-none _ _
@@ -26,18 +24,10 @@ cast-list : tie.Need-cast-list Inv-loop μ-loop
 cast-list c = search needs
 
 mul-list : tie.Need-mul-list Inv-loop μ-loop
-mul-list c =
-    let t = c .before .before in
-    let s = t .before .before .before .before in
-    let h = written-room (t .before .loop .inv) (t .loop-test .taken) (sym (c .before .is-constant .ensures) ∙ c .if1 .taken) (s .pre .room) in
-    omega arith
+mul-list c = search needs
 
 slice-write-list : tie.Need-slice-write-list Inv-loop μ-loop
-slice-write-list c =
-    let t = c .before .before in
-    let s = t .before .before .before .before in
-    let h = written-room (t .before .loop .inv) (t .loop-test .taken) (sym (c .before .is-constant .ensures) ∙ c .if1 .taken) (s .pre .room) in
-    omega (arith, t .before .loop .inv .same)
+slice-write-list c = search needs
 
 add-n : tie.Need-add-n Inv-loop μ-loop
 add-n c = search needs
@@ -51,23 +41,24 @@ loop-less c = search needs
 loop-again : tie.Need-loop-again Inv-loop μ-loop
 loop-again c =
     let t = c .before .before in
-    let s = t .before .before .before .before in
     let inv = t .before .loop .inv in
+    let h = t .loop-test .taken in
     let e = sym (c .before .is-constant .ensures) in
     ⊎-elim
     (λ w.
-    let r = written-room inv (t .loop-test .taken) (e ∙ w .0 .taken) (s .pre .room) in
-    rw (w .1, w .2) (written-more inv (t .loop-test .taken) (e ∙ w .0 .taken) r))
-    (λ w. rw (w .1, w .2) (written-skip inv (t .loop-test .taken) (e ∙ w .0 .left)))
+    rw (w .2, w .3)
+    (⊎-elim
+    (λ v. rw (v .1) (written-more inv h (e ∙ w .0 .taken)))
+    (λ v. rw (v .1) (written-past inv h (e ∙ w .0 .taken) (v .0 .left)))
+    (w .1 .came)))
+    (λ w. rw (w .1, w .2) (written-skip inv h (e ∙ w .0 .left)))
     (c .if1 .came)
 
 same-length : tie.Need-same-length Inv-loop μ-loop
-same-length c = search needs
+same-length c = written-length (c .before .loop .inv)
 
 returns : tie.Need-returns Inv-loop μ-loop
-returns c =
-    let w = c .before .loop .inv in
-    (counted-end (w .counted) (c .loop-test .left), written-end w (c .loop-test .left))
+returns c = written-end (c .before .loop .inv) (c .loop-test .left)
 
 pub write-constants-spec : {M : Type 1} → statement M
 write-constants-spec =

@@ -11,18 +11,15 @@ use Rattle.words.proofs.chapter.is_node.Tie as tie
 is-of-requires : tie.Need-is-of-requires
 is-of-requires c κs = search needs
 
-cast-is-symbol : tie.Need-cast-is-symbol
-cast-is-symbol c = search needs
-
-is-symbol-requires : tie.Need-is-symbol-requires
-is-symbol-requires c κs = search needs
+cast-symbol : tie.Need-cast-symbol
+cast-symbol c = search needs
 
 returns : tie.Need-returns
 unfolding isNode kindAt
 returns c =
-    let t = c .before .before in
-    let e : isOf nodeKind (t .before .before .args .w) ≡ true = sym (t .is-of .ensures) ∙ c .before .if1 .taken in
-    c .is-symbol .ensures ∙ rw e
+    let t = c .before in
+    let e : isOf nodeKind (t .before .before .args .w) ≡ true = sym (t .is-of .ensures) ∙ c .if1 .taken in
+    rw e
 
 returns-2 : tie.Need-returns-2
 unfolding isNode kindAt
@@ -33,4 +30,4 @@ returns-2 c =
 
 pub is-node-spec : {M : Type 1} → statement M
 is-node-spec =
-    tie.close (tie.spec is-of-requires cast-is-symbol is-symbol-requires returns returns-2)
+    tie.close (tie.spec is-of-requires cast-symbol returns returns-2)

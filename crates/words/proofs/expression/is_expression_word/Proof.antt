@@ -24,9 +24,6 @@ returns c = rw (sym (c .before .spare-bits-clear .ensures) ∙ not-true _ (c .if
 cast-symbol : tie.Need-cast-symbol
 cast-symbol c = search needs
 
-is-symbol-requires : tie.Need-is-symbol-requires
-is-symbol-requires c κs = search needs
-
 is-constant-requires : tie.Need-is-constant-requires
 is-constant-requires c κs = search needs
 
@@ -40,8 +37,8 @@ returns-2 c = let t = c .before in rw (cleared (t .before .spare-bits-clear .ens
 returns-3 : tie.Need-returns-3
 unfolding isExpressionWord kindAt
 returns-3 c =
-    let t = c .before .before in
-    c .is-symbol .ensures ∙ rw (cleared (t .before .spare-bits-clear .ensures) (t .if1 .left), c .before .match .keys2)
+    let t = c .before in
+    rw (cleared (t .before .spare-bits-clear .ensures) (t .if1 .left), c .match .keys2)
 
 returns-4 : tie.Need-returns-4
 unfolding isExpressionWord kindAt
@@ -94,7 +91,6 @@ is-expression-word-spec =
     spare-bits-clear-requires
     returns
     cast-symbol
-    is-symbol-requires
     is-constant-requires
     is-constant-requires-2
     returns-2

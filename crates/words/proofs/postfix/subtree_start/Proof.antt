@@ -16,17 +16,11 @@ abbrev μ-loop : tie.MeasureT-loop
 returns : tie.Need-returns Inv-loop μ-loop
 returns c = sym (start-missing _ _ _ (c .if1 .taken))
 
-mul-arity : tie.Need-mul-arity Inv-loop μ-loop
-mul-arity c = search needs
-
-shared-slice-read-arity : tie.Need-shared-slice-read-arity Inv-loop μ-loop
-shared-slice-read-arity c = search needs
-
-arity-requires : tie.Need-arity-requires Inv-loop μ-loop
-arity-requires c κs = search needs
+add-start : tie.Need-add-start Inv-loop μ-loop
+add-start c = search needs
 
 loop-holds : tie.Need-loop-holds Inv-loop μ-loop
-loop-holds c = backward-first _ _ _ _ (c .arity .ensures)
+loop-holds c = backward-first _ _ _
 
 returns-2 : tie.Need-returns-2 Inv-loop μ-loop
 returns-2 c = backward-short (c .before .before .loop .inv) (c .if2 .taken)
@@ -37,18 +31,18 @@ sub-start c = search needs
 sub-needed : tie.Need-sub-needed Inv-loop μ-loop
 sub-needed c = search needs
 
-mul-arity-2 : tie.Need-mul-arity-2 Inv-loop μ-loop
-mul-arity-2 c = search needs
+mul-arity : tie.Need-mul-arity Inv-loop μ-loop
+mul-arity c = search needs
 
-shared-slice-read-arity-2 : tie.Need-shared-slice-read-arity-2 Inv-loop μ-loop
-shared-slice-read-arity-2 c = search needs
+shared-slice-read-arity : tie.Need-shared-slice-read-arity Inv-loop μ-loop
+shared-slice-read-arity c = search needs
 
-arity-requires-2 : tie.Need-arity-requires-2 Inv-loop μ-loop
-arity-requires-2 c κs = search needs
+arity-requires : tie.Need-arity-requires Inv-loop μ-loop
+arity-requires c κs = search needs
 
 add-needed : tie.Need-add-needed Inv-loop μ-loop
 add-needed c =
-    let h = arity-most _ _ _ (c .arity2 .ensures) in
+    let h = arity-most _ _ _ (c .arity .ensures) in
     omega arith
 
 loop-less : tie.Need-loop-less Inv-loop μ-loop
@@ -57,7 +51,7 @@ loop-less c = search needs
 loop-again : tie.Need-loop-again Inv-loop μ-loop
 loop-again c =
     let t = c .before .before .before in
-    backward-more (t .before .loop .inv) _ (t .loop-test .taken) (omega arith) (c .arity2 .ensures)
+    backward-more (t .before .loop .inv) _ (t .loop-test .taken) (omega arith) (c .arity .ensures)
 
 returns-3 : tie.Need-returns-3 Inv-loop μ-loop
 returns-3 c = backward-end (c .before .loop .inv) (c .loop-test .left)
@@ -69,16 +63,14 @@ subtree-start-spec =
     Inv-loop
     μ-loop
     returns
-    mul-arity
-    shared-slice-read-arity
-    arity-requires
+    add-start
     loop-holds
     returns-2
     sub-start
     sub-needed
-    mul-arity-2
-    shared-slice-read-arity-2
-    arity-requires-2
+    mul-arity
+    shared-slice-read-arity
+    arity-requires
     add-needed
     loop-less
     loop-again
