@@ -1,4 +1,5 @@
--- What a caller gets of an answer, and the answers of the four operations by their cases. Assumes nothing.
+-- What a caller gets of the four operations, by the cases of their answers: the status, what the slices are left as (s, t), and
+-- the out-parameters. Assumes nothing.
 use mathlib.Core.Path.{_≡_}
 use mathlib.Core.List.{List, [], _∷_}
 use Prim.Native.Nat.{ℕ}
@@ -16,46 +17,50 @@ use Rattle.exchanger.specs.declared.Exchanged.the-variants.{Replaced, Refused a
 use Rattle.exchanger.specs.Answers.{answerIn as answerInExchanged}
 use Rattle.exports.specs.Status.{statusOf, valueOr}
 
--- ---- an answer
+module _ {X : Answer} {s s′ : List ℕ} where
+  -- ---- Compile
 
-module _ {X : Answer} where
-  pub accepted-status : {vs : List ℕ} → accepted vs ≡ X → 0 ≡ statusOf X
-  accepted-status h = rw (← h)
+  pub compiled-table : {k : ℕ} (words : ℕ) (r : Compiled) → r ≡ Table k → answerInCompiled r ≡ X → s ≡ s′
+      → (0 ≡ statusOf X) × ((s ≡ s′) × (k ≡ valueOr X 0 words))
+  compiled-table {k} words r q h left = let g : accepted (k ∷ []) ≡ X = rw q at h in (rw (← g), (left, rw (← g)))
 
-  pub first-value : {v : ℕ} {vs : List ℕ} (before : ℕ) → accepted (v ∷ vs) ≡ X → v ≡ valueOr X 0 before
-  first-value before h = rw (← h)
+  pub compiled-refused : {n words : ℕ} (r : Compiled) → r ≡ Compiled·Refused n → answerInCompiled r ≡ X → s ≡ s′
+      → (n ≡ statusOf X) × ((s ≡ s′) × (words ≡ valueOr X 0 words))
+  compiled-refused {n} r q h left = let g : refused n ≡ X = rw q at h in (rw (← g), (left, rw (← g)))
 
-  pub second-value : {v w : ℕ} {vs : List ℕ} (before : ℕ) → accepted (v ∷ w ∷ vs) ≡ X → w ≡ valueOr X 1 before
-  second-value before h = rw (← h)
+  -- ---- Run
 
-  pub refused-status : {n : ℕ} → refused n ≡ X → n ≡ statusOf X
-  refused-status h = rw (← h)
+  pub ran-marked : {n k : ℕ} (elements cells : ℕ) (r : Ran) → r ≡ Marked n k → answerInRan r ≡ X → s ≡ s′
+      → (0 ≡ statusOf X) × ((s ≡ s′) × ((n ≡ valueOr X 0 elements) × (k ≡ valueOr X 1 cells)))
+  ran-marked {n} {k} elements cells r q h left =
+      let g : accepted (n ∷ k ∷ []) ≡ X = rw q at h in
+      (rw (← g), (left, (rw (← g), rw (← g))))
 
-  pub refused-value : {n before : ℕ} (i : ℕ) → refused n ≡ X → before ≡ valueOr X i before
-  refused-value i h = rw (← h)
+  pub ran-refused : {n elements cells : ℕ} (r : Ran) → r ≡ Ran·Refused n → answerInRan r ≡ X → s ≡ s′
+      → (n ≡ statusOf X) × ((s ≡ s′) × ((elements ≡ valueOr X 0 elements) × (cells ≡ valueOr X 1 cells)))
+  ran-refused {n} r q h left = let g : refused n ≡ X = rw q at h in (rw (← g), (left, (rw (← g), rw (← g))))
 
-  -- ---- the cases
+  -- ---- List
 
-  pub compiled-table : {k : ℕ} (r : Compiled) → r ≡ Table k → answerInCompiled r ≡ X → accepted (k ∷ []) ≡ X
-  compiled-table r q h = rw q at h
+  pub listed-matches : {k : ℕ} (hits : ℕ) (r : Listed) → r ≡ Matches k → answerInListed r ≡ X → s ≡ s′
+      → (0 ≡ statusOf X) × ((s ≡ s′) × (k ≡ valueOr X 0 hits))
+  listed-matches {k} hits r q h left = let g : accepted (k ∷ []) ≡ X = rw q at h in (rw (← g), (left, rw (← g)))
 
-  pub compiled-refused : {n : ℕ} (r : Compiled) → r ≡ Compiled·Refused n → answerInCompiled r ≡ X → refused n ≡ X
-  compiled-refused r q h = rw q at h
+  pub listed-refused : {n hits : ℕ} (r : Listed) → r ≡ Listed·Refused n → answerInListed r ≡ X → s ≡ s′
+      → (n ≡ statusOf X) × ((s ≡ s′) × (hits ≡ valueOr X 0 hits))
+  listed-refused {n} r q h left = let g : refused n ≡ X = rw q at h in (rw (← g), (left, rw (← g)))
 
-  pub ran-marked : {n cells : ℕ} (r : Ran) → r ≡ Marked n cells → answerInRan r ≡ X → accepted (n ∷ cells ∷ []) ≡ X
-  ran-marked r q h = rw q at h
+  -- ---- Exchange
 
-  pub ran-refused : {n : ℕ} (r : Ran) → r ≡ Ran·Refused n → answerInRan r ≡ X → refused n ≡ X
-  ran-refused r q h = rw q at h
+  module _ {t t′ : List ℕ} where
+    pub exchanged-replaced : {n k : ℕ} (elements worked : ℕ) (r : Exchanged) → r ≡ Replaced n k → answerInExchanged r ≡ X → s ≡ s′ → t ≡ t′
+        → (0 ≡ statusOf X) × ((s ≡ s′) × ((t ≡ t′) × ((n ≡ valueOr X 0 elements) × (k ≡ valueOr X 1 worked))))
+    exchanged-replaced {n} {k} elements worked r q h chapter marks =
+        let g : accepted (n ∷ k ∷ []) ≡ X = rw q at h in
+        (rw (← g), (chapter, (marks, (rw (← g), rw (← g)))))
 
-  pub listed-matches : {k : ℕ} (r : Listed) → r ≡ Matches k → answerInListed r ≡ X → accepted (k ∷ []) ≡ X
-  listed-matches r q h = rw q at h
-
-  pub listed-refused : {n : ℕ} (r : Listed) → r ≡ Listed·Refused n → answerInListed r ≡ X → refused n ≡ X
-  listed-refused r q h = rw q at h
-
-  pub exchanged-replaced : {n k : ℕ} (r : Exchanged) → r ≡ Replaced n k → answerInExchanged r ≡ X → accepted (n ∷ k ∷ []) ≡ X
-  exchanged-replaced r q h = rw q at h
-
-  pub exchanged-refused : {n : ℕ} (r : Exchanged) → r ≡ Exchanged·Refused n → answerInExchanged r ≡ X → refused n ≡ X
-  exchanged-refused r q h = rw q at h
+    pub exchanged-refused : {n elements worked : ℕ} (r : Exchanged) → r ≡ Exchanged·Refused n → answerInExchanged r ≡ X → s ≡ s′ → t ≡ t′
+        → (n ≡ statusOf X) × ((s ≡ s′) × ((t ≡ t′) × ((elements ≡ valueOr X 0 elements) × (worked ≡ valueOr X 1 worked))))
+    exchanged-refused {n} r q h chapter marks =
+        let g : refused n ≡ X = rw q at h in
+        (rw (← g), (chapter, (marks, (rw (← g), rw (← g)))))

@@ -26,6 +26,17 @@ use Rattle.operations.specs.Exchange.{Outcome, kept, recomputed, recomputedIn, 
 use Rattle.operations.proofs.AcceptedLaws.{accepted-values, run-accepted, exchange-accepted}
 use Rattle.operations.proofs.MarksLaws.{length-nodeSet}
 use Rattle.operations.proofs.Recomputed.{exchanged}
+use Rattle.compiler.specs.declared.Compiled.{Compiled}
+use Rattle.compiler.specs.declared.Compiled.the-variants.{Table}
+use Rattle.compiler.specs.Answers.{answerIn as answerInCompiled}
+use Rattle.matcher.specs.declared.Ran.{Ran}
+use Rattle.matcher.specs.declared.Ran.the-variants.{Marked}
+use Rattle.matcher.specs.declared.Listed.{Listed}
+use Rattle.matcher.specs.declared.Listed.the-variants.{Matches}
+use Rattle.matcher.specs.Answers.{answerInRan, answerInListed}
+use Rattle.exchanger.specs.declared.Exchanged.{Exchanged}
+use Rattle.exchanger.specs.declared.Exchanged.the-variants.{Replaced}
+use Rattle.exchanger.specs.Answers.{answerIn as answerInExchanged}
 use Rattle.slices.proofs.CellLaws.{cells-append}
 use Rattle.matcher.proofs.FaultLaws.{words-fit}
 use Rattle.matcher.proofs.CallLaws.{list-accepted}
@@ -33,9 +44,10 @@ use Rattle.matcher.proofs.ListingLaws.{matchesOf-few}
 
 -- ---- Compile: at most 1,147 words
 
-pub compile-small : (a e slice : List ℕ) (k : ℕ) → accepted (k ∷ []) ≡ compileAnswer a e slice → k < 2 ^ 32
+pub compile-small : (a e slice : List ℕ) {k : ℕ} (r : Compiled) → r ≡ Table k → answerInCompiled r ≡ compileAnswer a e slice → k < 2 ^ 32
 unfolding compileAnswer tooManyStates
-compile-small a e slice k h =
+compile-small a e slice {k} r told answer =
+    let h : accepted (k ∷ []) ≡ compileAnswer a e slice = rw told at answer in
     let v = accepted-values (compileFault a e (length slice)) (length (compiledTable a e) ∷ []) (k ∷ []) (sym h) in
     let p = refusal-none (compileRefusals a e (length slice)) refl (v .0) in
     let few = table-most a e (none-refusal (alphabetRefusals a) (p .0, (p .1 .0, tt)))
@@ -69,9 +81,11 @@ module _ (a table : List ℕ) where
       let long : length set ≡ sizeOf table = length-nodeSet table w _ in
       rw (cells-append set (flatten (values a (nodeSet table) ws (set ∷ drop (arity a w) stack))), suc-mul (length ws) (sizeOf table)) (omega arith)
 
-pub run-small : (a table ch marks : List ℕ) (n cells : ℕ) → accepted (n ∷ cells ∷ []) ≡ runAnswer a table ch marks → (n < 2 ^ 32) × (cells < 2 ^ 32)
+pub run-small : (a table ch marks : List ℕ) {n cells : ℕ} (r : Ran) → r ≡ Marked n cells → answerInRan r ≡ runAnswer a table ch marks
+    → (n < 2 ^ 32) × (cells < 2 ^ 32)
 unfolding runAnswer nodeSets
-run-small a table ch marks n cells h =
+run-small a table ch marks {n} {cells} r told answer =
+    let h : accepted (n ∷ cells ∷ []) ≡ runAnswer a table ch marks = rw told at answer in
     let v = accepted-values (runFault a table ch (length marks)) _ (n ∷ cells ∷ []) (sym h) in
     let few = run-accepted a table ch (length marks) (v .0) .counted .few in
     let e : length ch ≡ n = cc in
@@ -82,9 +96,11 @@ run-small a table ch marks n cells h =
 
 -- ---- List: at most as many hits as elements
 
-pub list-small : (a table : List ℕ) (n : ℕ) (marks list : List ℕ) (k : ℕ) → accepted (k ∷ []) ≡ listAnswer a table n marks list → k < 2 ^ 32
+pub list-small : (a table : List ℕ) (n : ℕ) (marks list : List ℕ) {k : ℕ} (r : Listed) → r ≡ Matches k
+    → answerInListed r ≡ listAnswer a table n marks list → k < 2 ^ 32
 unfolding listAnswer
-list-small a table n marks list k h =
+list-small a table n marks list {k} r told answer =
+    let h : accepted (k ∷ []) ≡ listAnswer a table n marks list = rw told at answer in
     let v = accepted-values (listFault a table n (length marks) (length list)) (length (matchesOf table n marks) ∷ []) (k ∷ []) (sym h) in
     let few = list-accepted a table n (length marks) (length list) (v .0) .counted .few in
     let q : length (matchesOf table n marks) ≡ k = head-eq-of-cons-eq (v .1) in
@@ -99,10 +115,11 @@ recomputed-few [] = omega arith
 recomputed-few (kept r ∷ os) = let i = recomputed-few os in omega arith
 recomputed-few (recomputed r ∷ os) = let i = recomputed-few os in omega arith
 
-pub exchange-small : (a table chapter marks : List ℕ) (n e : ℕ) (xs : List ℕ) (count worked : ℕ)
-    → accepted (count ∷ worked ∷ []) ≡ exchangeAnswer a table chapter marks n e xs → (count < 2 ^ 32) × (worked < 2 ^ 32)
+pub exchange-small : (a table chapter marks : List ℕ) (n e : ℕ) (xs : List ℕ) {count worked : ℕ} (r : Exchanged) → r ≡ Replaced count worked
+    → answerInExchanged r ≡ exchangeAnswer a table chapter marks n e xs → (count < 2 ^ 32) × (worked < 2 ^ 32)
 unfolding exchangeAnswer fault newTree
-exchange-small a table chapter marks n e xs count worked h =
+exchange-small a table chapter marks n e xs {count} {worked} r told answer =
+    let h : accepted (count ∷ worked ∷ []) ≡ exchangeAnswer a table chapter marks n e xs = rw told at answer in
     let v = accepted-values (fault a table chapter marks n e xs) _ (count ∷ worked ∷ []) (sym h) in
     let few = exchange-accepted a table n (take n chapter) (length chapter) (length marks) e xs (v .0) .fits .few in
     let q : length (splice a (take n chapter) e xs) ≡ count = cc in

@@ -5,7 +5,7 @@ use mathlib.Core.List.{List, [], _∷_, _++_, append-nil}
 use Prim.Native.Nat.{ℕ, _≤_, min}
 use native.Mathlib.Omega.{arith}
 use lib.ListN.{length, getD, take, drop, replicate, length-replicate}
-use lib.Seq.{length-sets, take-all}
+use lib.Seq.{length-sets, take-all, length-take-le}
 use Rattle.report.specs.Output.{refusedLine, outputOf}
 use Rattle.report.specs.Input.{wordsIn, complete, alphabetIn, ruleIn, chapterIn, programOutput}
 use Rattle.report.proofs.InputLaws.{length-wordsIn}
@@ -24,6 +24,13 @@ module _ {count : ℕ} {before after : List ℕ} (s : Stored count before after)
   lent-words : take (min count (length before)) after ≡ take (length before) (wordsIn (s .bytes))
   lent-words =
       ap₂ (λ (n : ℕ) (l : List ℕ). take (min n (length before)) l) (sym count-words) (s .same) ∙ kept-words before (wordsIn (s .bytes))
+
+-- as many words of a slice of m words as are kept
+pub kept-fit : {n m room : ℕ} (count : ℕ) → n ≡ min count room → m ≡ room → n ≤ m
+kept-fit count e long = omega arith
+
+pub kept-long : {n room : ℕ} (count : ℕ) (words : List ℕ) → n ≡ min count room → length words ≡ room → n ≡ length (take n words)
+kept-long {n} count words e long = sym (length-take-le n words (kept-fit count e long))
 
 three : (l : List ℕ) → length l ≡ 3 → l ≡ getD l 0 0 ∷ getD l 1 0 ∷ getD l 2 0 ∷ []
 three [] h = absurd (omega arith)

@@ -44,17 +44,17 @@ fn answer_input(out: &mut [u8]) -> usize
     let mut rule = [0u32; 65];
     let mut chapter = [0u32; 257];
     let mut complete = read_words(true, 3, &mut counts);
-    complete = read_words(complete, counts[0], &mut alphabet);
-    complete = read_words(complete, counts[1], &mut rule);
-    complete = read_words(complete, counts[2], &mut chapter);
-    let symbols = kept(counts[0], 65);
-    let words = kept(counts[1], 65);
-    let nodes = kept(counts[2], 257);
+    let symbols = counts[0];
+    let words = counts[1];
+    let nodes = counts[2];
+    complete = read_words(complete, symbols, &mut alphabet);
+    complete = read_words(complete, words, &mut rule);
+    complete = read_words(complete, nodes, &mut chapter);
     report(
         complete,
-        &alphabet[..symbols],
-        &rule[..words],
-        &chapter[..nodes],
+        &alphabet[..kept(symbols, 65)],
+        &rule[..kept(words, 65)],
+        &chapter[..kept(nodes, 257)],
         out,
     )
 }

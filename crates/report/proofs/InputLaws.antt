@@ -52,10 +52,12 @@ module _ (words₀ : List ℕ) (at : ℕ) (bytes : List ℕ) (count : ℕ) where
   pub keeping-none : at < length words₀ → count ≡ min (length bytes / 4) (length words₀ - at) → Keeping words₀ at bytes count words₀ 0
   keeping-none h e = record { few = omega arith; whole = omega arith; room = omega arith; long = refl; same = refl }
 
-  pub keeping-more : (words : List ℕ) (i w : ℕ) → Keeping words₀ at bytes count words i → i < count
-      → w ≡ getD bytes (4 * i) 0 + 256 * getD bytes (4 * i + 1) 0 + 65536 * getD bytes (4 * i + 2) 0 + 16777216 * getD bytes (4 * i + 3) 0
+  -- the bytes of the next word are there
+  pub keeping-inside : (words : List ℕ) (i : ℕ) → Keeping words₀ at bytes count words i → i < count → 4 * i + 4 ≤ length bytes
+  keeping-inside words i k h = let whole = k .whole in omega arith
+
+  pub keeping-more : (words : List ℕ) (i w : ℕ) → Keeping words₀ at bytes count words i → i < count → w ≡ wordAt bytes i
       → Keeping words₀ at bytes count (set words (at + i) w) (i + 1)
-  unfolding wordAt
   keeping-more words i w k h e =
       let whole = k .whole in
       let low : i < length bytes / 4 = omega arith in

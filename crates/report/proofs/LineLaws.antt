@@ -8,34 +8,30 @@ use lib.ListN.{length, getD, take, List·getD-eq-default}
 use lib.Seq.{take-suc, take-all}
 use Rattle.words.specs.Chapter.{symbolOf}
 use Rattle.words.specs.Postfix.{startOf}
-use Rattle.report.specs.Decimal.{decimal}
-use Rattle.report.specs.Output.{space, newline, refusedText, nodesText, statesText, hitsText, refusedLine, headLine, hitLine, hitLines}
+use Rattle.report.specs.Output.{space, newline, refusedText, nodesText, statesText, hitsText, field, refusedLine, headLine, hitLine, hitLines}
 use Rattle.report.specs.Writing.{Written}
 use Rattle.report.proofs.WritingLaws.{written-none, written-more, written-same}
 
 -- ---- lines
 
-module _ {out o₁ o₂ o₃ : List ℕ} {n₁ n₂ r : ℕ} (number : ℕ) where
-  pub refused-written : Written 0 refusedText out o₁ n₁ → Written n₁ (decimal number) o₁ o₂ n₂ → Written n₂ newline o₂ o₃ r
-      → Written 0 (refusedLine number) out o₃ r
+module _ {out o₁ o₂ : List ℕ} {n₁ r : ℕ} (number : ℕ) where
+  pub refused-written : Written 0 refusedText out o₁ n₁ → Written n₁ (field number newline) o₁ o₂ r → Written 0 (refusedLine number) out o₂ r
   unfolding refusedLine
-  refused-written p q s = written-more (written-more p q) s
+  refused-written p q = written-more p q
 
-module _ {out o₁ o₂ o₃ o₄ o₅ o₆ o₇ : List ℕ} {n₁ n₂ n₃ n₄ n₅ n₆ r : ℕ} (nodes states hits : ℕ) where
-  pub head-written : Written 0 nodesText out o₁ n₁ → Written n₁ (decimal nodes) o₁ o₂ n₂ → Written n₂ statesText o₂ o₃ n₃
-      → Written n₃ (decimal states) o₃ o₄ n₄ → Written n₄ hitsText o₄ o₅ n₅ → Written n₅ (decimal hits) o₅ o₆ n₆ → Written n₆ newline o₆ o₇ r
-      → Written 0 (headLine nodes states hits) out o₇ r
+module _ {out o₁ o₂ o₃ o₄ o₅ o₆ : List ℕ} {n₁ n₂ n₃ n₄ n₅ r : ℕ} (nodes states hits : ℕ) where
+  pub head-written : Written 0 nodesText out o₁ n₁ → Written n₁ (field nodes space) o₁ o₂ n₂ → Written n₂ statesText o₂ o₃ n₃
+      → Written n₃ (field states space) o₃ o₄ n₄ → Written n₄ hitsText o₄ o₅ n₅ → Written n₅ (field hits newline) o₅ o₆ r
+      → Written 0 (headLine nodes states hits) out o₆ r
   unfolding headLine
-  head-written p q s t u v w = written-more (written-more (written-more (written-more (written-more (written-more p q) s) t) u) v) w
+  head-written p q s t u v = written-more (written-more (written-more (written-more (written-more p q) s) t) u) v
 
-module _ {out o₁ o₂ o₃ o₄ o₅ o₆ : List ℕ} {at n₁ n₂ n₃ n₄ n₅ r : ℕ} (a ch : List ℕ) (i : ℕ) where
+module _ {out o₁ o₂ o₃ : List ℕ} {at n₁ n₂ r : ℕ} (a ch : List ℕ) (i : ℕ) where
   pub hit-written : (symbol start : ℕ) → symbol ≡ symbolOf (getD ch i 0) → start ≡ startOf a ch i
-      → Written at (decimal i) out o₁ n₁ → Written n₁ space o₁ o₂ n₂ → Written n₂ (decimal symbol) o₂ o₃ n₃
-      → Written n₃ space o₃ o₄ n₄ → Written n₄ (decimal (i + 1 - start)) o₄ o₅ n₅ → Written n₅ newline o₅ o₆ r
-      → Written at (hitLine a ch i) out o₆ r
+      → Written at (field i space) out o₁ n₁ → Written n₁ (field symbol space) o₁ o₂ n₂ → Written n₂ (field (i + 1 - start) newline) o₂ o₃ r
+      → Written at (hitLine a ch i) out o₃ r
   unfolding hitLine
-  hit-written symbol start e f p q s t u v =
-      rw (← e, ← f) (written-more (written-more (written-more (written-more (written-more p q) s) t) u) v)
+  hit-written symbol start e f p q s = rw (← e, ← f) (written-more (written-more p q) s)
 
 -- a symbol where there is no node
 pub no-symbol : (ch : List ℕ) (i : ℕ) → length ch ≤ i → 0 ≡ symbolOf (getD ch i 0)

@@ -1,7 +1,7 @@
 -- What the report knows after each call of Compile, Run and List, and what it may write then. Assumes nothing.
-use mathlib.Core.Path.{_≡_, ap, _∙_, sym}
+use mathlib.Core.Path.{_≡_, ap, ap₂, _∙_, sym}
 use mathlib.Core.Bool.{Bool, true, false}
-use mathlib.Core.List.{List, [], _∷_, _++_}
+use mathlib.Core.List.{List, [], _∷_, _++_, head-eq-of-cons-eq}
 use Prim.Native.Nat.{ℕ, _<_, _≤_}
 use native.Mathlib.Omega.{arith}
 use lib.ListN.{length, take, drop, replicate, length-replicate, length-take}
@@ -9,7 +9,8 @@ use Rattle.automaton.specs.Transition.{automatonOf}
 use Rattle.operations.specs.Answer.{refused, accepted}
 use Rattle.operations.specs.Compile.{compiledTable, compileAnswer, compileExit}
 use Rattle.operations.specs.Run.{runAnswer, runExit}
-use Rattle.operations.specs.Listing.{listAnswer, listExit}
+use Rattle.operations.specs.Listing.{matchesOf, listFault, listAnswer, listExit}
+use Rattle.operations.proofs.AcceptedLaws.{accepted-values}
 use Rattle.compiler.specs.declared.Compiled.{Compiled}
 use Rattle.compiler.specs.declared.Compiled.the-variants.{Table, Refused as Compiled·Refused}
 use Rattle.compiler.specs.Answers.{answerIn}
@@ -18,7 +19,10 @@ use Rattle.matcher.specs.declared.Ran.the-variants.{Marked, Refused as Ran·Ref
 use Rattle.matcher.specs.declared.Listed.{Listed}
 use Rattle.matcher.specs.declared.Listed.the-variants.{Matches, Refused as Listed·Refused}
 use Rattle.matcher.specs.Answers.{answerInRan, answerInListed}
+use Rattle.matcher.proofs.CallLaws.{list-accepted as list-fine}
+use Rattle.matcher.proofs.ListingLaws.{matchesOf-few}
 use Rattle.report.specs.Output.{refusedLine, headLine, hitLines, marklistOutput, outputOf}
+use Rattle.report.specs.Stages.{Compiles, Marks}
 use Rattle.report.specs.Writing.{Written}
 use Rattle.report.proofs.WritingLaws.{written-same, written-whole}
 use Rattle.report.proofs.KeptLaws.{complete-output, early-output}
@@ -50,85 +54,121 @@ module _ (complete : Bool) (a e ch : List ℕ) {out out′ : List ℕ} {r : ℕ}
   early-whole t w =
       whole (outputOf complete a e ch) out out′ r (output-short complete a e ch) room (written-same w (sym (early-output complete a e ch t)))
 
-module _ (a e ch : List ℕ) where
-  -- ---- Compile
+-- ---- Compile
 
+module _ (a e ch : List ℕ) where
   pub refused-compiled : {n x : ℕ} {out out′ : List ℕ} (r : Compiled) → r ≡ Compiled·Refused n → answerIn r ≡ compileAnswer a e (zeros 2048)
       → Written 0 (refusedLine n) out out′ x → Written 0 (marklistOutput a e ch) out out′ x
   refused-compiled {n} r q h w =
       let g : refused n ≡ compileAnswer a e (zeros 2048) = rw q at h in
       written-same w (sym (compile-refused a e ch (zeros 2048) n (many 2048) g))
 
-  -- an accepted Compile answered k and left this slice
-  pub record HasTable (table : List ℕ) (k : ℕ) : Type 0 where
-    pub answer : accepted (k ∷ []) ≡ compileAnswer a e (zeros 2048)
-    pub exit : table ≡ compileExit a e (zeros 2048)
+module _ (a e : List ℕ) {table : List ℕ} {k : ℕ} (r : Compiled) (told : r ≡ Table k) (h : answerIn r ≡ compileAnswer a e (zeros 2048))
+    (exit : table ≡ compileExit a e (zeros 2048)) where
+  answer : accepted (k ∷ []) ≡ compileAnswer a e (zeros 2048)
+  answer = rw told at h
 
-  pub has-table : {table : List ℕ} {k : ℕ} (r : Compiled) → r ≡ Table k → answerIn r ≡ compileAnswer a e (zeros 2048)
-      → table ≡ compileExit a e (zeros 2048) → HasTable table k
-  has-table {k} r q h exit = record { answer = rw q at h; exit = exit }
+  table-is : take k table ≡ compiledTable a e
+  table-is = ap (take k) exit ∙ compiled-table a e [] (zeros 2048) k (many 2048) answer
 
-  module _ {table : List ℕ} {k : ℕ} (t : HasTable table k) where
-    table-is : take k table ≡ compiledTable a e
-    table-is = ap (take k) (t .exit) ∙ compiled-table a e ch (zeros 2048) k (many 2048) (t .answer)
+  pub table-long : k ≡ length (take k table)
+  table-long = compiled-count a e [] (zeros 2048) k (many 2048) answer ∙ sym (ap length table-is)
 
-    pub table-long : k ≡ length (take k table)
-    table-long = compiled-count a e ch (zeros 2048) k (many 2048) (t .answer) ∙ sym (ap length table-is)
+  pub table-fits : k ≤ length table
+  table-fits = let l = length-take k table in omega (arith, table-long)
 
-    pub table-fits : k ≤ length table
-    table-fits = let l = length-take k table in omega (arith, table-long)
+  pub compiles : Compiles a e (take k table)
+  compiles = record {
+    slice = zeros 2048;
+    room = many 2048;
+    answer = ap (λ (n : ℕ). accepted (n ∷ [])) (sym table-long) ∙ answer;
+    same = table-is;
+  }
 
-    pub refused-over : {x : ℕ} {out out′ : List ℕ} → 256 < length ch → Written 0 (refusedLine 9) out out′ x
-        → Written 0 (marklistOutput a e ch) out out′ x
-    refused-over h w = written-same w (sym (chapter-over a e ch (zeros 2048) k (many 2048) (t .answer) h))
+-- ---- Run
 
-    -- ---- Run
+module _ {a e table : List ℕ} (t : Compiles a e table) (ch : List ℕ) where
+  pub refused-over : {x : ℕ} {out out′ : List ℕ} → 256 < length ch → Written 0 (refusedLine 9) out out′ x
+      → Written 0 (marklistOutput a e ch) out out′ x
+  refused-over h w = written-same w (sym (chapter-over a e ch (t .slice) (length table) (t .room) (t .answer) h))
 
-    module _ (few : length ch ≤ 256) where
-      pub refused-ran : {n x : ℕ} {out out′ : List ℕ} (r : Ran) → r ≡ Ran·Refused n → answerInRan r ≡ runAnswer a (take k table) ch (zeros 8192)
-          → Written 0 (refusedLine n) out out′ x → Written 0 (marklistOutput a e ch) out out′ x
-      refused-ran {n} r q h w =
-          let g : refused n ≡ runAnswer a (compiledTable a e) ch (zeros 8192) = rw (q, table-is) at h in
-          written-same w (sym (run-refused a e ch (zeros 2048) k (many 2048) (t .answer) few (zeros 8192) n (many 8192) g))
+  module _ (few : length ch ≤ 256) where
+    pub refused-ran : {n x : ℕ} {out out′ : List ℕ} (r : Ran) → r ≡ Ran·Refused n → answerInRan r ≡ runAnswer a table ch (zeros 8192)
+        → Written 0 (refusedLine n) out out′ x → Written 0 (marklistOutput a e ch) out out′ x
+    refused-ran {n} r q h w =
+        let g : refused n ≡ runAnswer a table ch (zeros 8192) = rw q at h in
+        written-same w
+        (sym
+        (run-refused a e ch (t .slice) (length table) (t .room) (t .answer) few (zeros 8192) n (many 8192)
+        (g ∙ ap (λ (l : List ℕ). runAnswer a l ch (zeros 8192)) (t .same))))
 
-      -- ---- an accepted Run, and List
+    pub marked : {n cells : ℕ} {marks : List ℕ} (r : Ran) → r ≡ Marked n cells → answerInRan r ≡ runAnswer a table ch (zeros 8192)
+        → marks ≡ runExit a table ch (zeros 8192) → Marks a e table ch marks
+    marked {n} {cells} r q h exit = record {
+      compiles = t;
+      few = few;
+      slice = zeros 8192;
+      room = many 8192;
+      nodes = n;
+      cells = cells;
+      answer = rw q at h;
+      same = exit;
+    }
 
-      module _ {n cells : ℕ} (r : Ran) (told : r ≡ Marked n cells) (ran : answerInRan r ≡ runAnswer a (take k table) ch (zeros 8192)) where
-        runs : accepted (n ∷ cells ∷ []) ≡ runAnswer a (compiledTable a e) ch (zeros 8192)
-        runs = rw (told, table-is) at ran
+-- ---- List
 
-        module _ (marks : List ℕ) (left : marks ≡ runExit a (take k table) ch (zeros 8192)) where
-          marks-are : marks ≡ runExit a (compiledTable a e) ch (zeros 8192)
-          marks-are = rw table-is at left
+-- an accepted List names at most as many elements as its slice has places
+pub hits-most : (a table : List ℕ) (n : ℕ) (marks : List ℕ) {k : ℕ} (q : Listed) → q ≡ Matches k
+    → answerInListed q ≡ listAnswer a table n marks (zeros 256) → k ≤ 256
+unfolding listAnswer
+hits-most a table n marks {k} q e h =
+    let g : accepted (k ∷ []) ≡ listAnswer a table n marks (zeros 256) = rw e at h in
+    let v = accepted-values (listFault a table n (length marks) (length (zeros 256))) (length (matchesOf table n marks) ∷ []) (k ∷ []) (sym g) in
+    let fits = list-fine a table n (length marks) (length (zeros 256)) (v .0) .list in
+    let room = many 256 in
+    let few = matchesOf-few table marks n in
+    let count : length (matchesOf table n marks) ≡ k = head-eq-of-cons-eq (v .1) in
+    omega arith
 
-          pub never-refused : {f : ℕ} (q : Listed) → q ≡ Listed·Refused f → answerInListed q ≡ listAnswer a (take k table) (length ch) marks (zeros 256) → ⊥
-          never-refused {f} q e′ h =
-              list-accepted a e ch (zeros 2048) k (many 2048) (t .answer) few (zeros 8192) (zeros 256) (many 8192) (many 256) n cells runs f
-              (rw (e′, table-is, marks-are) at h)
+module _ {a e table ch marks : List ℕ} (m : Marks a e table ch marks) where
+  -- the table is the compiled one
+  abbrev t : Compiles a e table
+  t = m .compiles
 
-          -- an accepted List answered `hits` and left this slice
-          module _ {hits : ℕ} (q : Listed) (names : q ≡ Matches hits)
-              (listed : answerInListed q ≡ listAnswer a (take k table) (length ch) marks (zeros 256))
-              (list : List ℕ) (wrote : list ≡ listExit a (take k table) (length ch) marks (zeros 256)) where
-            lists : accepted (hits ∷ []) ≡ listAnswer a (compiledTable a e) (length ch) (runExit a (compiledTable a e) ch (zeros 8192)) (zeros 256)
-            lists = rw (names, table-is, marks-are) at listed
+  abbrev left : List ℕ
+  left = runExit a (compiledTable a e) ch (m .slice)
 
-            list-is : list ≡ listExit a (compiledTable a e) (length ch) (runExit a (compiledTable a e) ch (zeros 8192)) (zeros 256)
-            list-is = rw (table-is, marks-are) at wrote
+  runs : accepted (m .nodes ∷ m .cells ∷ []) ≡ runAnswer a (compiledTable a e) ch (m .slice)
+  runs = m .answer ∙ ap (λ (l : List ℕ). runAnswer a l ch (m .slice)) (t .same)
 
-            pub hits-long : hits ≡ length (take hits list)
-            hits-long =
-                listed-long a e ch (zeros 2048) k (many 2048) (t .answer) few (zeros 8192) (zeros 256) (many 8192) (many 256) n cells runs hits lists
-                ∙ sym (ap (λ (l : List ℕ). length (take hits l)) list-is)
+  marks-are : marks ≡ left
+  marks-are = m .same ∙ ap (λ (l : List ℕ). runExit a l ch (m .slice)) (t .same)
 
-            pub hits-fit : hits ≤ length list
-            hits-fit = let l = length-take hits list in omega (arith, hits-long)
+  same-answer : listAnswer a table (length ch) marks (zeros 256) ≡ listAnswer a (compiledTable a e) (length ch) left (zeros 256)
+  same-answer = ap₂ (λ (l ms : List ℕ). listAnswer a l (length ch) ms (zeros 256)) (t .same) marks-are
 
-            pub lines-written : {states x : ℕ} {out out′ : List ℕ} → states ≡ automatonOf (take k table) .states
-                → Written 0 (headLine (length ch) states (length (take hits list)) ++ hitLines a ch (take hits list)) out out′ x
-                → Written 0 (marklistOutput a e ch) out out′ x
-            lines-written s w =
-                written-same w
-                (sym
-                (listed-output a e ch (zeros 2048) k (many 2048) (t .answer) few (zeros 8192) (zeros 256) (many 8192) (many 256) n cells runs hits lists
-                ∙ rw (← list-is, ← hits-long, s, table-is)))
+  pub never-refused : {f : ℕ} (q : Listed) → q ≡ Listed·Refused f → answerInListed q ≡ listAnswer a table (length ch) marks (zeros 256) → ⊥
+  never-refused {f} q told h =
+      let g : refused f ≡ listAnswer a table (length ch) marks (zeros 256) = rw told at h in
+      list-accepted a e ch (t .slice) (length table) (t .room) (t .answer) (m .few) (m .slice) (zeros 256) (m .room) (many 256) (m .nodes) (m .cells) runs f
+      (g ∙ same-answer)
+
+  pub lines-written : {hits states x : ℕ} {out out′ list : List ℕ} (q : Listed) → q ≡ Matches hits
+      → answerInListed q ≡ listAnswer a table (length ch) marks (zeros 256) → list ≡ listExit a table (length ch) marks (zeros 256)
+      → states ≡ automatonOf table .states
+      → Written 0 (headLine (length ch) states (length (take hits list)) ++ hitLines a ch (take hits list)) out out′ x
+      → Written 0 (marklistOutput a e ch) out out′ x
+  lines-written {hits} {states} {list = list} q told h wrote s w =
+      let g : accepted (hits ∷ []) ≡ listAnswer a table (length ch) marks (zeros 256) = rw told at h in
+      let l : list ≡ listExit a (compiledTable a e) (length ch) left (zeros 256) =
+      wrote ∙ ap₂ (λ (l ms : List ℕ). listExit a l (length ch) ms (zeros 256)) (t .same) marks-are in
+      let z : states ≡ automatonOf (compiledTable a e) .states = s ∙ ap (λ (l : List ℕ). automatonOf l .states) (t .same) in
+      let n : hits ≡ length (take hits list) =
+      listed-long a e ch (t .slice) (length table) (t .room) (t .answer) (m .few) (m .slice) (zeros 256) (m .room) (many 256) (m .nodes) (m .cells) runs hits
+      (g ∙ same-answer)
+      ∙ sym (ap (λ (ls : List ℕ). length (take hits ls)) l) in
+      written-same w
+      (sym
+      (listed-output a e ch (t .slice) (length table) (t .room) (t .answer) (m .few) (m .slice) (zeros 256) (m .room) (many 256) (m .nodes) (m .cells) runs hits
+      (g ∙ same-answer)
+      ∙ rw (← l, ← n, z)))

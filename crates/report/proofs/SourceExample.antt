@@ -1,21 +1,28 @@
--- The source's own example, byte for byte: what the definitions print of its input. Assumes nothing.
+-- The source's own example, byte for byte: what the definitions print of its input. The hits are those of the table of marked
+-- examples. Assumes nothing.
 use Prim.Native.Nat.{ℕ}
-use mathlib.Core.Path.{_≡_, refl}
-use mathlib.Core.List.{List, [], _∷_, flatMap}
+use mathlib.Core.Path.{_≡_, refl, ap, _∙_, sym}
+use mathlib.Core.List.{List, [], _∷_, _++_, map, flatMap}
+use lib.ListN.{replicate}
 use Rattle.words.specs.Word.{kindAt, spareBitsClear, isOf}
 use Rattle.words.specs.Alphabet.{isEntry, rankOf, isConstant, constantsFrom, constantsOf, noAlphabet, wrongConstants}
 use Rattle.words.specs.Expression.{isExpressionWord, wrongLength, noExpressionWords}
 use Rattle.words.specs.Chapter.{isNode, noNodes}
-use Rattle.words.specs.Postfix.{arity, trees, notOneTree, startFrom, valueOn, values}
+use Rattle.words.specs.Postfix.{arity, trees, notOneTree, startFrom}
 use Rattle.automaton.specs.Transition.{transitionsAt, automatonOf}
 use Rattle.automaton.specs.Numbering.{hasEntries, statesOf, portOf, ownTransitions, portsFrom, statesAfter, transitionsFrom, compiled}
-use Rattle.automaton.specs.StateSet.{sizeFor, contains, insert, allContained, move, sweep, sweeps, stateSet}
-use Rattle.operations.specs.Compile.{tooManyStates}
-use Rattle.operations.specs.Marks.{nodeSet, nodeSets}
-use Rattle.operations.specs.Listing.{matchesIn}
+use Rattle.automaton.proofs.CompiledExample.{alphabet, rule}
+use Rattle.operations.specs.Compile.{compiledTable, tooManyStates}
+use Rattle.operations.specs.Marks.{finalOf, nodeSets}
+use Rattle.operations.specs.Run.{runMarks}
+use Rattle.operations.specs.Listing.{matchesIn, matchesOf}
+use Rattle.operations.proofs.RunLaws.{run-writes, matches-nodeSets}
+use Rattle.operations.proofs.Examples.{examples}
 use Rattle.report.specs.Decimal.{digitsWithin, decimal}
-use Rattle.report.specs.Output.{refusedLine, headLine, hitLine, hitLines, wrongChapter, hitsOf, marklistOutput, outputOf}
-use Rattle.report.specs.Input.{wordAt, wordsIn, complete, alphabetIn, ruleIn, chapterIn, programOutput}
+use Rattle.report.specs.Output.{headLine, hitLine, hitLines, wrongChapter, marklistFault, hitsOf, marklistOutput, outputOf}
+use Rattle.report.specs.Input.{wordAt, wordsIn, programOutput}
+use Rattle.report.proofs.KeptLaws.{complete-output, accepted-output}
+use Rattle.report.proofs.ProgramLaws.{program-complete}
 
 -- the counts 7, 9 and 7, then alphabet, rule and chapter, each word low byte first
 abbrev pub exampleInput : List ℕ
@@ -40,11 +47,55 @@ exampleOutput =
     ∷ 51 ∷ 32 ∷ 51 ∷ 32 ∷ 49 ∷ 10
     ∷ 52 ∷ 32 ∷ 53 ∷ 32 ∷ 50 ∷ 10 ∷ []
 
-pub example-printed : programOutput exampleInput ≡ exampleOutput
+-- "Chapter a b f d g h f."
+abbrev chapter : List ℕ
+chapter = 0x7000_0000 ∷ 0x7000_0001 ∷ 0x7000_0004 ∷ 0x7000_0003 ∷ 0x7000_0005 ∷ 0x7000_0006 ∷ 0x7000_0004 ∷ []
+
+-- ---- the hits
+
+abbrev first : ℕ × ℕ × ℕ → ℕ
+first p = p .0
+
+firsts : (f g : ℕ → ℕ) (is : List ℕ) → map first (map (λ i. (i, f i, g i)) is) ≡ is
+firsts f g [] = refl
+firsts f g (i ∷ is) = ap (λ (l : List ℕ). i ∷ l) (firsts f g is)
+
+final-is : finalOf (compiledTable alphabet rule) ≡ compiled alphabet rule .final
+unfolding
+    kindAt rankOf isConstant constantsFrom constantsOf arity hasEntries statesOf portOf ownTransitions portsFrom statesAfter transitionsFrom compiled
+    transitionsAt automatonOf finalOf flatMap
+final-is = refl
+
+hits-are : hitsOf alphabet rule chapter ≡ 2 ∷ 3 ∷ 4 ∷ []
+unfolding hitsOf
+hits-are =
+    let table = compiledTable alphabet rule in
+    let marks = runMarks alphabet table chapter (replicate 7 0) in
+    ap (λ (q : ℕ). matchesIn q 0 (nodeSets alphabet table chapter)) (sym final-is)
+    ∙ sym (matches-nodeSets alphabet table chapter marks (run-writes alphabet table chapter (replicate 7 0)))
+    ∙ sym (firsts _ _ (matchesOf table 7 marks))
+    ∙ ap (map first) (examples .0 .hits)
+
+-- ---- the lines
+
+no-fault : marklistFault alphabet rule chapter ≡ 0
 unfolding
     kindAt spareBitsClear isOf isEntry rankOf isConstant constantsFrom constantsOf noAlphabet wrongConstants isExpressionWord wrongLength
-    noExpressionWords isNode noNodes arity trees notOneTree startFrom valueOn values transitionsAt automatonOf hasEntries statesOf portOf
-    ownTransitions portsFrom statesAfter transitionsFrom compiled sizeFor contains insert allContained move sweep sweeps stateSet tooManyStates
-    nodeSet nodeSets matchesIn digitsWithin decimal refusedLine headLine hitLine hitLines wrongChapter hitsOf marklistOutput outputOf wordAt
-    wordsIn complete alphabetIn ruleIn chapterIn programOutput flatMap
-example-printed = refl
+    noExpressionWords isNode noNodes arity trees notOneTree hasEntries statesOf portOf ownTransitions portsFrom statesAfter transitionsFrom compiled
+    tooManyStates wrongChapter
+no-fault = refl
+
+words-are : wordsIn exampleInput ≡ 7 ∷ 9 ∷ 7 ∷ (alphabet ++ (rule ++ (chapter ++ [])))
+unfolding wordAt wordsIn
+words-are = refl
+
+lines-are : headLine 7 29 3 ++ hitLines alphabet chapter (2 ∷ 3 ∷ 4 ∷ []) ≡ exampleOutput
+unfolding kindAt rankOf arity startFrom digitsWithin decimal headLine hitLine hitLines
+lines-are = refl
+
+pub example-printed : programOutput exampleInput ≡ exampleOutput
+example-printed =
+    program-complete exampleInput 7 9 7 alphabet rule chapter [] words-are refl refl refl
+    ∙ complete-output _ alphabet rule chapter refl
+    ∙ accepted-output alphabet rule chapter no-fault
+    ∙ rw (hits-are, examples .0 .stateCount) lines-are

@@ -1,4 +1,5 @@
 pub mod Decimal
 pub mod Output
 pub mod Input
+pub mod Stages
 pub mod Writing

@@ -18,11 +18,11 @@ use Rattle.report.specs.Decimal.{decimal}
 
 -- ---- texts, in ASCII
 
-abbrev pub space : List ℕ
-space = 32 ∷ []
+abbrev pub space : ℕ
+space = 32
 
-abbrev pub newline : List ℕ
-newline = 10 ∷ []
+abbrev pub newline : ℕ
+newline = 10
 
 -- `refused `
 abbrev pub refusedText : List ℕ
@@ -32,27 +32,30 @@ refusedText = 114 ∷ 101 ∷ 102 ∷ 117 ∷ 115 ∷ 101 ∷ 100 ∷ 32 ∷ []
 abbrev pub nodesText : List ℕ
 nodesText = 110 ∷ 111 ∷ 100 ∷ 101 ∷ 115 ∷ 32 ∷ []
 
--- ` states `
+-- `states `
 abbrev pub statesText : List ℕ
-statesText = 32 ∷ 115 ∷ 116 ∷ 97 ∷ 116 ∷ 101 ∷ 115 ∷ 32 ∷ []
+statesText = 115 ∷ 116 ∷ 97 ∷ 116 ∷ 101 ∷ 115 ∷ 32 ∷ []
 
--- ` hits `
+-- `hits `
 abbrev pub hitsText : List ℕ
-hitsText = 32 ∷ 104 ∷ 105 ∷ 116 ∷ 115 ∷ 32 ∷ []
+hitsText = 104 ∷ 105 ∷ 116 ∷ 115 ∷ 32 ∷ []
 
 -- ---- lines
 
+-- a number, and the byte behind it
+abbrev pub field : ℕ → ℕ → List ℕ
+field n end = decimal n ++ end ∷ []
+
 unfoldable pub refusedLine : ℕ → List ℕ
-refusedLine number = refusedText ++ decimal number ++ newline
+refusedLine number = refusedText ++ field number newline
 
 -- "a head line of element, state and hit counts"
 unfoldable pub headLine : ℕ → ℕ → ℕ → List ℕ
-headLine nodes states hits = nodesText ++ decimal nodes ++ statesText ++ decimal states ++ hitsText ++ decimal hits ++ newline
+headLine nodes states hits = nodesText ++ field nodes space ++ statesText ++ field states space ++ hitsText ++ field hits newline
 
 -- "for each hit the element, its symbol and its subtree's element count"; the subtree ends at the element
 unfoldable pub hitLine : List ℕ → List ℕ → ℕ → List ℕ
-hitLine a ch i =
-    decimal i ++ space ++ decimal (symbolOf (getD ch i 0)) ++ space ++ decimal (i + 1 - startOf a ch i) ++ newline
+hitLine a ch i = field i space ++ field (symbolOf (getD ch i 0)) space ++ field (i + 1 - startOf a ch i) newline
 
 unfoldable pub hitLines : List ℕ → List ℕ → List ℕ → List ℕ
 hitLines a ch [] = []

@@ -1,8 +1,9 @@
 // Words of the input: four bytes each, low byte first.
 ghost use mathlib.Core.Path.{_≡_};
-ghost use Prim.Native.Nat.{_+_, _*_, min};
+ghost use Prim.Native.Nat.{_+_, _*_, _≤_, min};
+ghost use lib.ListN.{length};
 ghost use lib.Seq.{sets};
-ghost use Rattle.report.specs.Input.{wordsIn};
+ghost use Rattle.report.specs.Input.{wordAt, wordsIn};
 
 // The bytes of a word.
 pub const WORD_BYTES: usize = 4;
@@ -11,6 +12,20 @@ fn word_of(first: u8, second: u8, third: u8, fourth: u8) -> u32
     ensures { λ r. ⌜ r ≡ first + 256 * second + 65536 * third + 16777216 * fourth ⌝ }
 {
     first as u32 + 256 * (second as u32) + 65536 * (third as u32) + 16777216 * (fourth as u32)
+}
+
+// Word i of the bytes.
+fn word_at(bytes: &[u8], i: usize) -> u32
+    requires { ⌜ 4 * i + 4 ≤ length (now bytes) ⌝ }
+    ensures { λ r. ⌜ r ≡ wordAt (now (bytes .entry)) i ⌝ }
+{
+    let first = WORD_BYTES * i;
+    word_of(
+        bytes[first],
+        bytes[first + 1],
+        bytes[first + 2],
+        bytes[first + 3],
+    )
 }
 
 fn least(a: usize, b: usize) -> usize
@@ -27,13 +42,7 @@ pub fn keep_words(words: &mut [u32], at: usize, bytes: &[u8])
         let count = least(bytes.len() / WORD_BYTES, words.len() - at);
         let mut i = 0;
         while i < count {
-            let first = WORD_BYTES * i;
-            words[at + i] = word_of(
-                bytes[first],
-                bytes[first + 1],
-                bytes[first + 2],
-                bytes[first + 3],
-            );
+            words[at + i] = word_at(bytes, i);
             i += 1;
         }
     }

@@ -1,9 +1,10 @@
 // What `marklist` reads and prints, as bytes (document 01).
 ghost use mathlib.Core.Path.{_≡_};
-ghost use mathlib.Core.List.{_++_};
-ghost use Prim.Native.Nat.{_≤_};
+ghost use mathlib.Core.List.{List, _++_};
+ghost use Prim.Native.Nat.{ℕ, _≤_};
 ghost use lib.ListN.{length, drop};
 ghost use Rattle.report.specs.Output.{marklistOutput, outputOf};
+ghost use Rattle.report.specs.Stages.{Compiles, Marks};
 ghost use Rattle.report.specs.Writing.{Written};
 use compiler::Compiled;
 use compiler::compile;
@@ -28,39 +29,51 @@ const TABLE_ROOM: usize = 2048;
 
 const MARKS_ROOM: usize = 8192;
 
-// The output for an alphabet, a rule and a chapter. Its own slices are so large that 7, 8, 12 and 13 cannot arise.
-fn report_words(alphabet: &[u32], rule: &[u32], chapter: &[u32], out: &mut [u8]) -> usize
+// Lists the hits in the marks, and writes the head line and the lines of the hits.
+fn report_hits(
+    alphabet: &[u32],
+    table: &[u32],
+    chapter: &[u32],
+    marks: &[u32],
+    out: &mut [u8],
+) -> usize
     ensures { λ r. ⌜
-        Written 0 (marklistOutput (now (alphabet .entry)) (now (rule .entry)) (now (chapter .entry))) (now (out .entry)) (now (out .exit)) r
+        ((rule : List ℕ) → Marks (now (alphabet .entry)) rule (now (table .entry)) (now (chapter .entry)) (now (marks .entry))
+        → Written 0 (marklistOutput (now (alphabet .entry)) rule (now (chapter .entry))) (now (out .entry)) (now (out .exit)) r)
         ⌝ }
 {
-    let mut table = [0u32; TABLE_ROOM];
-    let size = match compile(alphabet, rule, &mut table) {
-        Compiled::Table(size) => size,
-        Compiled::Refused(number) => return write_refused(out, number),
-    };
-    if chapter.len() > CHAPTER_MOST {
-        return write_refused(out, 9);
-    }
-    let mut marks = [0u32; MARKS_ROOM];
-    match run(alphabet, &table[..size], chapter, &mut marks) {
-        Ran::Marked(_, _) => (),
-        Ran::Refused(number) => return write_refused(out, number),
-    }
     let mut hits = [0u32; CHAPTER_MOST];
-    match list(alphabet, &table[..size], chapter.len(), &marks, &mut hits) {
+    match list(alphabet, table, chapter.len(), marks, &mut hits) {
         Listed::Matches(count) => write_lines(
             out,
             alphabet,
             chapter,
-            state_count(&table[..size]),
+            state_count(table),
             &hits[..count],
         ),
         Listed::Refused(number) => write_refused(out, number),
     }
 }
 
-// Writes the output of the words that were read: `complete` says whether the input held all that it announced.
+// Marks the chapter by the table of a rule, and writes the output.
+fn report_chapter(alphabet: &[u32], table: &[u32], chapter: &[u32], out: &mut [u8]) -> usize
+    ensures { λ r. ⌜
+        ((rule : List ℕ) → Compiles (now (alphabet .entry)) rule (now (table .entry))
+        → Written 0 (marklistOutput (now (alphabet .entry)) rule (now (chapter .entry))) (now (out .entry)) (now (out .exit)) r)
+        ⌝ }
+{
+    if chapter.len() > CHAPTER_MOST {
+        return write_refused(out, 9);
+    }
+    let mut marks = [0u32; MARKS_ROOM];
+    match run(alphabet, table, chapter, &mut marks) {
+        Ran::Marked(_, _) => report_hits(alphabet, table, chapter, &marks, out),
+        Ran::Refused(number) => write_refused(out, number),
+    }
+}
+
+// Writes the output of the words that were read: `complete` says whether the input held all that it announced. The slices
+// of the table, the marks and the hits are so large that 7, 8, 12 and 13 cannot arise.
 pub fn report(
     complete: bool,
     alphabet: &[u32],
@@ -75,8 +88,12 @@ pub fn report(
         ≡ outputOf complete (now (alphabet .entry)) (now (rule .entry)) (now (chapter .entry)) ++ drop r (now (out .entry))
         ⌝ }
 {
-    if complete {
-        return report_words(alphabet, rule, chapter, out);
+    if !complete {
+        return write_refused(out, 0);
     }
-    write_refused(out, 0)
+    let mut table = [0u32; TABLE_ROOM];
+    match compile(alphabet, rule, &mut table) {
+        Compiled::Table(size) => report_chapter(alphabet, &table[..size], chapter, out),
+        Compiled::Refused(number) => write_refused(out, number),
+    }
 }

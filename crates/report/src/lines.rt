@@ -5,8 +5,7 @@ ghost use mathlib.Core.Path.{_≡_};
 ghost use mathlib.Core.List.{_++_};
 ghost use lib.ListN.{length, getD};
 ghost use Rattle.words.specs.Chapter.{symbolOf};
-use super::writer::write_byte;
-use super::writer::write_number;
+use super::writer::write_field;
 use super::writer::write_text;
 use words::postfix::subtree_start;
 
@@ -14,22 +13,20 @@ use words::postfix::subtree_start;
 pub fn write_refused(out: &mut [u8], number: u32) -> usize
     ensures { λ r. ⌜ Written 0 (refusedLine number) (now (out .entry)) (now (out .exit)) r ⌝ }
 {
-    let mut next = write_text(out, 0, b"refused ");
-    next = write_number(out, next, number as usize);
-    write_byte(out, next, b'\n')
+    let next = write_text(out, 0, b"refused ");
+    write_field(out, next, number as usize, b'\n')
 }
 
 // The head line: element, state and hit counts.
-pub fn write_head(out: &mut [u8], nodes: usize, states: usize, hits: usize) -> usize
+fn write_head(out: &mut [u8], nodes: usize, states: usize, hits: usize) -> usize
     ensures { λ r. ⌜ Written 0 (headLine nodes states hits) (now (out .entry)) (now (out .exit)) r ⌝ }
 {
     let mut next = write_text(out, 0, b"nodes ");
-    next = write_number(out, next, nodes);
-    next = write_text(out, next, b" states ");
-    next = write_number(out, next, states);
-    next = write_text(out, next, b" hits ");
-    next = write_number(out, next, hits);
-    write_byte(out, next, b'\n')
+    next = write_field(out, next, nodes, b' ');
+    next = write_text(out, next, b"states ");
+    next = write_field(out, next, states, b' ');
+    next = write_text(out, next, b"hits ");
+    write_field(out, next, hits, b'\n')
 }
 
 // The symbol of a node; 0 where there is no such node.
@@ -48,33 +45,9 @@ fn write_hit(out: &mut [u8], at: usize, alphabet: &[u32], chapter: &[u32], hit: 
 {
     let node = hit as usize;
     let size = node + 1 - subtree_start(alphabet, chapter, node);
-    let mut next = write_number(out, at, node);
-    next = write_byte(out, next, b' ');
-    next = write_number(out, next, symbol_of(chapter, node));
-    next = write_byte(out, next, b' ');
-    next = write_number(out, next, size);
-    write_byte(out, next, b'\n')
-}
-
-// The lines of all hits.
-pub fn write_hits(
-    out: &mut [u8],
-    at: usize,
-    alphabet: &[u32],
-    chapter: &[u32],
-    hits: &[u32],
-) -> usize
-    ensures { λ r. ⌜
-        Written at (hitLines (now (alphabet .entry)) (now (chapter .entry)) (now (hits .entry))) (now (out .entry)) (now (out .exit)) r
-        ⌝ }
-{
-    let mut next = at;
-    let mut i = 0;
-    while i < hits.len() {
-        next = write_hit(out, next, alphabet, chapter, hits[i]);
-        i += 1;
-    }
-    next
+    let mut next = write_field(out, at, node, b' ');
+    next = write_field(out, next, symbol_of(chapter, node), b' ');
+    write_field(out, next, size, b'\n')
 }
 
 // The head line and the lines of all hits.
@@ -92,6 +65,11 @@ pub fn write_lines(
         (now (out .entry)) (now (out .exit)) r
         ⌝ }
 {
-    let next = write_head(out, chapter.len(), states, hits.len());
-    write_hits(out, next, alphabet, chapter, hits)
+    let mut next = write_head(out, chapter.len(), states, hits.len());
+    let mut i = 0;
+    while i < hits.len() {
+        next = write_hit(out, next, alphabet, chapter, hits[i]);
+        i += 1;
+    }
+    next
 }

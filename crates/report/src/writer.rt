@@ -1,11 +1,13 @@
 // Writers of bytes: each writes from an index on, as far as the slice reaches, and answers the next index.
 ghost use mathlib.Core.List.{[], _∷_};
 ghost use Rattle.report.specs.Decimal.{decimal};
+ghost use Rattle.report.specs.Output.{field};
 ghost use Rattle.report.specs.Writing.{Written};
 
 // The byte of the digit 0.
 const ZERO: u8 = 48;
 
+// One byte.
 pub fn write_byte(out: &mut [u8], at: usize, byte: u8) -> usize
     ensures { λ r. ⌜ Written at (byte ∷ []) (now (out .entry)) (now (out .exit)) r ⌝ }
 {
@@ -39,4 +41,12 @@ pub fn write_number(out: &mut [u8], at: usize, n: usize) -> usize
     }
     let next = write_number(out, at, n / 10);
     write_byte(out, next, last)
+}
+
+// A number in decimal, and then the byte `end`.
+pub fn write_field(out: &mut [u8], at: usize, n: usize, end: u8) -> usize
+    ensures { λ r. ⌜ Written at (field n end) (now (out .entry)) (now (out .exit)) r ⌝ }
+{
+    let next = write_number(out, at, n);
+    write_byte(out, next, end)
 }

@@ -1,12 +1,13 @@
 -- `haqbylur_compile` meets its contract: it hands on what Compile answers and leaves, and each value fits 32 bits. Assumes nothing.
-use Rattle.exports.proofs.StatusLaws.{accepted-status, first-value, refused-status, refused-value, compiled-table, compiled-refused}
+use native.Mathlib.Omega.{arith}
+use Rattle.exports.proofs.StatusLaws.{compiled-table, compiled-refused}
 use Rattle.exports.proofs.ValueLaws.{compile-small}
 use borrow.Author.Needs.{needs}
 use Rattle.exports.proofs.haqbylur_compile.Statement.{statement}
 use Rattle.exports.proofs.haqbylur_compile.Tie as tie
 
 compile-requires : tie.Need-compile-requires
-compile-requires c κs = search needs
+compile-requires c κs = tt
 
 enum-known-count : tie.Need-enum-known-count
 enum-known-count c = search needs
@@ -14,28 +15,27 @@ enum-known-count c = search needs
 cast-words : tie.Need-cast-words
 cast-words c =
     let call = c .before .before .before .before .before in
-    record { fits = compile-small _ _ _ _ (compiled-table _ (c .before .count .given .1) (call .compile .ensures .0)) }
+    let small = compile-small _ _ _ _ (c .before .count .given .1) (call .compile .ensures .0) in
+    omega arith
 
 enum-known-number : tie.Need-enum-known-number
 enum-known-number c = search needs
 
 same-length : tie.Need-same-length
-same-length c = search needs
+same-length c = c .before .before .before .before .before .compile .kept .1 .1 .0
 
 returns : tie.Need-returns
 returns c =
     let call = c .before .before .before .before .before in
-    let h = compiled-table _ (c .before .count .given .1) (call .compile .ensures .0) in
-    (accepted-status h, (call .compile .ensures .1, first-value _ h))
+    compiled-table _ _ (c .before .count .given .1) (call .compile .ensures .0) (call .compile .ensures .1)
 
 same-length-2 : tie.Need-same-length-2
-same-length-2 c = search needs
+same-length-2 c = c .before .before .before .before .before .compile .kept .1 .1 .0
 
 returns-2 : tie.Need-returns-2
 returns-2 c =
     let call = c .before .before .before .before .before in
-    let h = compiled-refused _ (c .before .number .given .1) (call .compile .ensures .0) in
-    (refused-status h, (call .compile .ensures .1, refused-value 0 h))
+    compiled-refused _ (c .before .number .given .1) (call .compile .ensures .0) (call .compile .ensures .1)
 
 pub haqbylur-compile-spec : {M : Type 1} → statement M
 haqbylur-compile-spec =

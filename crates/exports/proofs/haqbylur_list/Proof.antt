@@ -1,12 +1,13 @@
 -- `haqbylur_list` meets its contract: it hands on what List answers and leaves, and each value fits 32 bits. Assumes nothing.
-use Rattle.exports.proofs.StatusLaws.{accepted-status, first-value, refused-status, refused-value, listed-matches, listed-refused}
+use Rattle.exports.proofs.StatusLaws.{listed-matches, listed-refused}
 use Rattle.exports.proofs.ValueLaws.{list-small}
+use native.Mathlib.Omega.{arith}
 use borrow.Author.Needs.{needs}
 use Rattle.exports.proofs.haqbylur_list.Statement.{statement}
 use Rattle.exports.proofs.haqbylur_list.Tie as tie
 
 list-requires : tie.Need-list-requires
-list-requires c κs = search needs
+list-requires c κs = tt
 
 enum-known-found : tie.Need-enum-known-found
 enum-known-found c = search needs
@@ -14,28 +15,27 @@ enum-known-found c = search needs
 cast-hits : tie.Need-cast-hits
 cast-hits c =
     let call = c .before .before .before .before .before in
-    record { fits = list-small _ _ _ _ _ _ (listed-matches _ (c .before .found .given .1) (call .list .ensures .0)) }
+    let small = list-small _ _ _ _ _ _ (c .before .found .given .1) (call .list .ensures .0) in
+    omega arith
 
 enum-known-number : tie.Need-enum-known-number
 enum-known-number c = search needs
 
 same-length : tie.Need-same-length
-same-length c = search needs
+same-length c = c .before .before .before .before .before .list .kept .1 .1 .1 .1 .0
 
 returns : tie.Need-returns
 returns c =
     let call = c .before .before .before .before .before in
-    let h = listed-matches _ (c .before .found .given .1) (call .list .ensures .0) in
-    (accepted-status h, (call .list .ensures .1, first-value _ h))
+    listed-matches _ _ (c .before .found .given .1) (call .list .ensures .0) (call .list .ensures .1)
 
 same-length-2 : tie.Need-same-length-2
-same-length-2 c = search needs
+same-length-2 c = c .before .before .before .before .before .list .kept .1 .1 .1 .1 .0
 
 returns-2 : tie.Need-returns-2
 returns-2 c =
     let call = c .before .before .before .before .before in
-    let h = listed-refused _ (c .before .number .given .1) (call .list .ensures .0) in
-    (refused-status h, (call .list .ensures .1, refused-value 0 h))
+    listed-refused _ (c .before .number .given .1) (call .list .ensures .0) (call .list .ensures .1)
 
 pub haqbylur-list-spec : {M : Type 1} → statement M
 haqbylur-list-spec =

@@ -8,7 +8,7 @@ use Rattle.marklist.proofs.main.Statement.{statement}
 use Rattle.marklist.proofs.main.Tie as tie
 
 buffer-requires : tie.Need-buffer-requires
-buffer-requires c κs = search needs
+buffer-requires c κs = tt
 
 slice-aggregate-answer-input : tie.Need-slice-aggregate-answer-input
 slice-aggregate-answer-input c = search needs

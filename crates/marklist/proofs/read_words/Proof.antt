@@ -27,10 +27,10 @@ sub-part-bytes : tie.Need-sub-part-bytes Inv-loop μ-loop
 sub-part-bytes c = search needs
 
 part-bytes-requires : tie.Need-part-bytes-requires Inv-loop μ-loop
-part-bytes-requires c κs = search needs
+part-bytes-requires c κs = tt
 
 buffer-requires : tie.Need-buffer-requires Inv-loop μ-loop
-buffer-requires c κs = search needs
+buffer-requires c κs = tt
 
 array-borrow-prefix-buffer : tie.Need-array-borrow-prefix-buffer Inv-loop μ-loop
 array-borrow-prefix-buffer c = search needs
@@ -54,7 +54,7 @@ slice-aggregate-keep-words : tie.Need-slice-aggregate-keep-words Inv-loop μ-loo
 slice-aggregate-keep-words c = part-long _ (c .before .before .before .before .read-full .last .1 .0) _ (omega arith) (c .before .before .before .before .read-full .kept .1 .0)
 
 keep-words-requires : tie.Need-keep-words-requires Inv-loop μ-loop
-keep-words-requires c κs = search needs
+keep-words-requires c κs = tt
 
 add-seen : tie.Need-add-seen Inv-loop μ-loop
 add-seen c = search needs

@@ -4,7 +4,7 @@ use Prim.Native.Nat.{_-_}
 use mathlib.Core.Path.{sym}
 use borrow.Author.Needs.{needs}
 use Rattle.report.specs.Input.{wordsIn}
-use Rattle.report.proofs.InputLaws.{Keeping, keeping-none, keeping-more, keeping-end, sets-past}
+use Rattle.report.proofs.InputLaws.{Keeping, keeping-none, keeping-inside, keeping-more, keeping-end, sets-past}
 use Rattle.report.proofs.input.keep_words.Statement.{statement}
 use Rattle.report.proofs.input.keep_words.Tie as tie
 
@@ -18,37 +18,13 @@ sub-least : tie.Need-sub-least Inv-loop μ-loop
 sub-least c = search needs
 
 least-requires : tie.Need-least-requires Inv-loop μ-loop
-least-requires c κs = search needs
+least-requires c κs = tt
 
 loop-holds : tie.Need-loop-holds Inv-loop μ-loop
 loop-holds c = keeping-none _ _ _ _ (c .before .if1 .taken) (c .least .ensures)
 
-mul-first : tie.Need-mul-first Inv-loop μ-loop
-mul-first c = search needs
-
-shared-slice-read-word-of : tie.Need-shared-slice-read-word-of Inv-loop μ-loop
-shared-slice-read-word-of c = search needs
-
-add-word-of : tie.Need-add-word-of Inv-loop μ-loop
-add-word-of c = search needs
-
-shared-slice-read-word-of-2 : tie.Need-shared-slice-read-word-of-2 Inv-loop μ-loop
-shared-slice-read-word-of-2 c = search needs
-
-add-word-of-2 : tie.Need-add-word-of-2 Inv-loop μ-loop
-add-word-of-2 c = search needs
-
-shared-slice-read-word-of-3 : tie.Need-shared-slice-read-word-of-3 Inv-loop μ-loop
-shared-slice-read-word-of-3 c = search needs
-
-add-word-of-3 : tie.Need-add-word-of-3 Inv-loop μ-loop
-add-word-of-3 c = search needs
-
-shared-slice-read-word-of-4 : tie.Need-shared-slice-read-word-of-4 Inv-loop μ-loop
-shared-slice-read-word-of-4 c = search needs
-
-word-of-requires : tie.Need-word-of-requires Inv-loop μ-loop
-word-of-requires c κs = search needs
+word-at-requires : tie.Need-word-at-requires Inv-loop μ-loop
+word-at-requires c κs = keeping-inside _ _ _ _ _ _ (c .before .loop .inv) (c .loop-test .taken)
 
 add-words : tie.Need-add-words Inv-loop μ-loop
 add-words c = search needs
@@ -67,8 +43,8 @@ loop-less c = search needs
 
 loop-again : tie.Need-loop-again Inv-loop μ-loop
 loop-again c =
-    let test = c .before .before .before .before .before in
-    keeping-more _ _ _ _ _ _ _ (test .before .loop .inv) (test .loop-test .taken) (c .word-of .ensures)
+    let test = c .before in
+    keeping-more _ _ _ _ _ _ _ (test .before .loop .inv) (test .loop-test .taken) (c .word-at .ensures)
 
 same-length : tie.Need-same-length Inv-loop μ-loop
 same-length c = c .before .loop .inv .long
@@ -90,15 +66,7 @@ keep-words-spec =
     sub-least
     least-requires
     loop-holds
-    mul-first
-    shared-slice-read-word-of
-    add-word-of
-    shared-slice-read-word-of-2
-    add-word-of-2
-    shared-slice-read-word-of-3
-    add-word-of-3
-    shared-slice-read-word-of-4
-    word-of-requires
+    word-at-requires
     add-words
     mul-words
     slice-write-words

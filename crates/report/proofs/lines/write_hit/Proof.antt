@@ -11,47 +11,35 @@ add-size : tie.Need-add-size
 add-size c = search needs
 
 subtree-start-requires : tie.Need-subtree-start-requires
-subtree-start-requires c κs = search needs
+subtree-start-requires c κs = tt
 
 sub-size : tie.Need-sub-size
 sub-size c = omega (arith, c .subtree-start .ensures, start-le (c .before .before .before .before .args .alphabet .now) (c .before .before .before .before .args .chapter .now) (c .before .before .before .before .args .hit))
 
-write-number-requires : tie.Need-write-number-requires
-write-number-requires c κs = search needs
-
-write-byte-requires : tie.Need-write-byte-requires
-write-byte-requires c κs = search needs
+write-field-requires : tie.Need-write-field-requires
+write-field-requires c κs = tt
 
 symbol-of-requires : tie.Need-symbol-of-requires
-symbol-of-requires c κs = search needs
+symbol-of-requires c κs = tt
 
-write-number-requires-2 : tie.Need-write-number-requires-2
-write-number-requires-2 c κs = search needs
+write-field-requires-2 : tie.Need-write-field-requires-2
+write-field-requires-2 c κs = tt
 
-write-byte-requires-2 : tie.Need-write-byte-requires-2
-write-byte-requires-2 c κs = search needs
-
-write-number-requires-3 : tie.Need-write-number-requires-3
-write-number-requires-3 c κs = search needs
-
-write-byte-requires-3 : tie.Need-write-byte-requires-3
-write-byte-requires-3 c κs = search needs
+write-field-requires-3 : tie.Need-write-field-requires-3
+write-field-requires-3 c κs = tt
 
 same-length : tie.Need-same-length
 same-length c = search needs
 
 returns : tie.Need-returns
 returns c =
-    let sixth = c .before .before in
-    let fifth = sixth .before .before .before .before in
-    let fourth = fifth .before .before .before .before in
-    let third = fourth .before .before .before .before in
-    let symbol = third .before in
-    let second = symbol .before .before .before .before in
-    let first = second .before .before .before .before in
+    let third = c .before .before in
+    let second = third .before .before .before .before in
+    let symbol = second .before in
+    let first = symbol .before .before .before .before in
     let start = first .before .before in
-    hit-written _ _ _ _ _ (symbol .symbol-of .ensures) (start .subtree-start .ensures) (first .write-number .ensures) (second .write-byte .ensures)
-    (third .write-number2 .ensures) (fourth .write-byte2 .ensures) (fifth .write-number3 .ensures) (sixth .write-byte3 .ensures)
+    hit-written _ _ _ _ _ (symbol .symbol-of .ensures) (start .subtree-start .ensures) (first .write-field .ensures) (second .write-field2 .ensures)
+    (third .write-field3 .ensures)
 
 pub write-hit-spec : {M : Type 1} → statement M
 write-hit-spec =
@@ -60,12 +48,9 @@ write-hit-spec =
     add-size
     subtree-start-requires
     sub-size
-    write-number-requires
-    write-byte-requires
+    write-field-requires
     symbol-of-requires
-    write-number-requires-2
-    write-byte-requires-2
-    write-number-requires-3
-    write-byte-requires-3
+    write-field-requires-2
+    write-field-requires-3
     same-length
     returns)

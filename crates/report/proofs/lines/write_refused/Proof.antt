@@ -1,4 +1,5 @@
 -- `lines::write_refused` meets its contract: the parts of the line are written one after the other. Assumes nothing.
+use mathlib.Core.Path.{_∙_}
 use Rattle.report.proofs.LineLaws.{refused-written}
 use borrow.Author.Needs.{needs}
 use Rattle.report.proofs.lines.write_refused.Statement.{statement}
@@ -8,23 +9,21 @@ slice-aggregate-write-text : tie.Need-slice-aggregate-write-text
 slice-aggregate-write-text c = search needs
 
 write-text-requires : tie.Need-write-text-requires
-write-text-requires c κs = search needs
+write-text-requires c κs = tt
 
-write-number-requires : tie.Need-write-number-requires
-write-number-requires c κs = search needs
-
-write-byte-requires : tie.Need-write-byte-requires
-write-byte-requires c κs = search needs
+write-field-requires : tie.Need-write-field-requires
+write-field-requires c κs = tt
 
 same-length : tie.Need-same-length
-same-length c = search needs
+same-length c =
+    let second = c .before .before in
+    second .write-field .kept .0 ∙ second .before .before .before .before .write-text .kept .0
 
 returns : tie.Need-returns
 returns c =
-    let third = c .before .before in
-    let second = third .before .before .before .before in
+    let second = c .before .before in
     let first = second .before .before .before .before in
-    refused-written _ (first .write-text .ensures) (second .write-number .ensures) (third .write-byte .ensures)
+    refused-written _ (first .write-text .ensures) (second .write-field .ensures)
 
 pub write-refused-spec : {M : Type 1} → statement M
 write-refused-spec =
@@ -32,7 +31,6 @@ write-refused-spec =
     (tie.spec
     slice-aggregate-write-text
     write-text-requires
-    write-number-requires
-    write-byte-requires
+    write-field-requires
     same-length
     returns)

@@ -19,7 +19,7 @@ shared-slice-read-write-byte : tie.Need-shared-slice-read-write-byte Inv-loop μ
 shared-slice-read-write-byte c = search needs
 
 write-byte-requires : tie.Need-write-byte-requires Inv-loop μ-loop
-write-byte-requires c κs = search needs
+write-byte-requires c κs = tt
 
 add-i : tie.Need-add-i Inv-loop μ-loop
 add-i c = search needs
