@@ -45,11 +45,11 @@ module _ (marks : List ℕ) (at : ℕ) (set : StateSet) (b : Bool) (q : b ≡ sa
       ap (λ (m : List ℕ). (m, true)) p
       ∙ sym (ap (λ (x : Bool). cond x (marks, false) (paste marks at set (length set), true)) (test ∙ h))
 
-pub node-updated : {a table ch : List ℕ} {i : ℕ} {marks array : List ℕ} {height : ℕ} → AtNode a table ch i marks array height
+pub node-updated : {a table index ch : List ℕ} {i : ℕ} {marks array : List ℕ} {height : ℕ} → AtNode a table index ch i marks array height
     → (set : StateSet) → set ≡ setFrom a table ch marks i ++ replicate (32 - sizeOf table) 0 → (size : ℕ) → size ≡ sizeOf table
     → (r : List ℕ × Bool) → r ≡ updatedAt marks (i * size) (take size set) → r ≡ recomputeAt a table ch i marks
 unfolding updatedAt recomputeAt storedSet
-node-updated {a} {table} {ch} {i} {marks} g set e size s r p =
+node-updated {a} {table} {index} {ch} {i} {marks} g set e size s r p =
     let new = take size set in
     let old : take (length new) (drop (i * size) marks) ≡ take (sizeOf table) (drop (i * sizeOf table) marks) =
     ap (λ (k : ℕ). take k (drop (i * size) marks)) (sym (set-length g set e size s)) ∙ ap (λ (k : ℕ). take k (drop (i * k) marks)) s in

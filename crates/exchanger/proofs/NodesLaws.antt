@@ -2,10 +2,12 @@
 -- they give together. Assumes nothing.
 use mathlib.Core.Path.{_≡_, refl, ap, _∙_, sym}
 use mathlib.Core.List.{List}
-use Prim.Native.Nat.{ℕ, _-_}
+use Prim.Native.Nat.{ℕ, _-_, _≤_}
 use native.Mathlib.Omega.{arith}
 use lib.ListN.{length}
+use Rattle.tables.specs.Index.{indexOf}
 use Rattle.matcher.specs.Nodes.{rootsOf, Stacked, Rootable, markedFrom, Workable, AtNodes}
+use Rattle.matcher.proofs.ReadyLaws.{table-few}
 use Rattle.exchanger.specs.Climbing.{climbFrom, foot, ClimbStart}
 use Rattle.exchanger.specs.Exchanging.{exchangedFrom, Exchangeable}
 
@@ -21,25 +23,30 @@ module _ {a table ch : List ℕ} {start root : ℕ} {marks : List ℕ} (g : Exch
       let few = g .workable .few in
       record { tree = g .workable .tree; within = omega arith; few = few; room = omega arith }
 
-  pub nodes-marks : (array : List ℕ) (height : ℕ) → length array ≡ 4096 → Stacked array height (rootsOf a ch start)
-      → AtNodes a table ch start root marks array height
-  nodes-marks array height l s =
+  pub nodes-table-few : length table ≤ 2048
+  nodes-table-few = table-few (g .workable)
+
+  pub nodes-marks : (index : List ℕ) → index ≡ indexOf table → (array : List ℕ) (height : ℕ) → length array ≡ 4096 → Stacked array height (rootsOf a ch start)
+      → AtNodes a table index ch start root marks array height
+  nodes-marks index q array height l s =
       let inside = g .inside in
       record {
         workable = workable-long a table ch (length marks) 4096 (length marks) (length array) refl l (g .workable);
+        indexed = q;
         order = g .order;
         inside = omega arith;
         stacked = s;
       }
 
-  pub nodes-climb : (marks′ array : List ℕ) (height : ℕ) → length marks′ ≡ length marks → length array ≡ 4096
-      → Stacked array height (rootsOf a ch root) → ClimbStart a table ch root marks′ array height (root - start)
-  nodes-climb marks′ array height m l s =
+  pub nodes-climb : (index : List ℕ) → index ≡ indexOf table → (marks′ array : List ℕ) (height : ℕ) → length marks′ ≡ length marks → length array ≡ 4096
+      → Stacked array height (rootsOf a ch root) → ClimbStart a table index ch root marks′ array height (root - start)
+  nodes-climb index q marks′ array height m l s =
       let inside = g .inside in
       let few = g .workable .few in
       record {
         nodes = record {
           workable = workable-long a table ch (length marks) 4096 (length marks′) (length array) m l (g .workable);
+          indexed = q;
           order = omega arith;
           inside = omega arith;
           stacked = s;

@@ -22,7 +22,7 @@ pub record Rising (a table ch : List ℕ) (root count : ℕ) (marks₀ array₀ 
   pub few-recomputed : t .recomputed ≤ count + i
   pub same : climbFrom a table ch root (length ch - root) marks₀ (foot count) ≡ climbFrom a table ch i (length ch - i) marks t
 
-module _ (a table ch : List ℕ) (root count : ℕ) (marks₀ array₀ : List ℕ) (height : ℕ) (pre : ClimbStart a table ch root marks₀ array₀ height count) where
+module _ (a table index ch : List ℕ) (root count : ℕ) (marks₀ array₀ : List ℕ) (height : ℕ) (pre : ClimbStart a table index ch root marks₀ array₀ height count) where
   pub rising-none : Rising a table ch root count marks₀ array₀ marks₀ array₀ (foot count) height root
   rising-none = record {
     low = omega arith;
@@ -36,7 +36,7 @@ module _ (a table ch : List ℕ) (root count : ℕ) (marks₀ array₀ : List �
   }
 
   module _ (marks array : List ℕ) (t : Rise) (top i : ℕ) (g : Rising a table ch root count marks₀ array₀ marks array t top i) (l : i < length ch) where
-    pub rising-at : Climbable a table ch i marks array top t
+    pub rising-at : Climbable a table index ch i marks array top t
     rising-at =
         let w = pre .nodes .workable in
         let few = w .few in
@@ -56,6 +56,7 @@ module _ (a table ch : List ℕ) (root count : ℕ) (marks₀ array₀ : List �
               marks-room = rw m (w .marks-room);
               stack-room = rw n (w .stack-room);
             };
+            indexed = pre .nodes .indexed;
             inside = l;
             stacked = g .stacked;
           };

@@ -46,12 +46,12 @@ abbrev pub foot : ℕ → Rise
 foot count = record { reach = 0; recomputed = count; goes = true }
 
 -- what going past node i asks: the counts stay small
-pub record Climbable (a table ch : List ℕ) (i : ℕ) (marks array : List ℕ) (height : ℕ) (t : Rise) : Type 0 where
-  pub at : AtNode a table ch i marks array height
+pub record Climbable (a table index ch : List ℕ) (i : ℕ) (marks array : List ℕ) (height : ℕ) (t : Rise) : Type 0 where
+  pub at : AtNode a table index ch i marks array height
   pub few-reached : t .reach ≤ 4096
   pub few-recomputed : t .recomputed ≤ 8192
 
 -- what the whole loop asks, with `count` nodes recomputed before
-pub record ClimbStart (a table ch : List ℕ) (root : ℕ) (marks array : List ℕ) (height count : ℕ) : Type 0 where
-  pub nodes : AtNodes a table ch root (length ch) marks array height
+pub record ClimbStart (a table index ch : List ℕ) (root : ℕ) (marks array : List ℕ) (height count : ℕ) : Type 0 where
+  pub nodes : AtNodes a table index ch root (length ch) marks array height
   pub few : count ≤ 4096

@@ -32,25 +32,26 @@ fn update_set(marks: &mut [u32], at: usize, set: &[u32]) -> bool
     true
 }
 
-// Recomputes node i from the marks as they stand. Its own words there are still those stored before the call. Answers whether
-// they changed.
+// Recomputes node i from the marks as they stand; the index is the table's. The node's own words there are still those stored
+// before the call. Answers whether they changed.
 fn recompute(
     alphabet: &[u32],
     table: &[u32],
+    index: &[u32],
     nodes: &[u32],
     i: usize,
     marks: &mut [u32],
     stack: &[u32],
     height: usize,
 ) -> bool
-    requires { ⌜ AtNode (now alphabet) (now table) (now nodes) i (now marks) (now stack) height ⌝ }
+    requires { ⌜ AtNode (now alphabet) (now table) (now index) (now nodes) i (now marks) (now stack) height ⌝ }
     ensures { λ r. ⌜
         (now (marks .exit), r)
         ≡ recomputeAt (now (alphabet .entry)) (now (table .entry)) (now (nodes .entry)) i (now (marks .entry))
         ⌝ }
 {
     let size = set_size(table);
-    let set = node_at(alphabet, table, nodes, i, marks, stack, height);
+    let set = node_at(alphabet, table, index, nodes, i, marks, stack, height);
     update_set(marks, i * size, &set[..size])
 }
 
@@ -59,6 +60,7 @@ fn recompute(
 fn climb_node(
     alphabet: &[u32],
     table: &[u32],
+    index: &[u32],
     nodes: &[u32],
     i: usize,
     marks: &mut [u32],
@@ -66,7 +68,7 @@ fn climb_node(
     height: usize,
     rise: Rise,
 ) -> Rise
-    requires { ⌜ Climbable (now alphabet) (now table) (now nodes) i (now marks) (now stack) height rise ⌝ }
+    requires { ⌜ Climbable (now alphabet) (now table) (now index) (now nodes) i (now marks) (now stack) height rise ⌝ }
     ensures { λ r. ⌜
         (now (marks .exit), r)
         ≡ climbStep (now (alphabet .entry)) (now (table .entry)) (now (nodes .entry)) i (now (marks .entry)) rise
@@ -82,7 +84,7 @@ fn climb_node(
             goes: true,
         };
     }
-    let changed = recompute(alphabet, table, nodes, i, marks, stack, height);
+    let changed = recompute(alphabet, table, index, nodes, i, marks, stack, height);
     Rise {
         reach: 1,
         recomputed: recomputed + 1,
@@ -95,6 +97,7 @@ fn climb_node(
 pub fn climb(
     alphabet: &[u32],
     table: &[u32],
+    index: &[u32],
     nodes: &[u32],
     root: usize,
     marks: &mut [u32],
@@ -102,7 +105,7 @@ pub fn climb(
     height: usize,
     count: usize,
 ) -> usize
-    requires { ⌜ ClimbStart (now alphabet) (now table) (now nodes) root (now marks) (now stack) height count ⌝ }
+    requires { ⌜ ClimbStart (now alphabet) (now table) (now index) (now nodes) root (now marks) (now stack) height count ⌝ }
     ensures { λ r. ⌜
         (now (marks .exit), r)
         ≡ climbFrom (now (alphabet .entry)) (now (table .entry)) (now (nodes .entry)) root (length (now (nodes .entry)) - root) (now (marks .entry)) (foot count)
@@ -116,7 +119,7 @@ pub fn climb(
     let mut top = height;
     let mut i = root;
     while i < nodes.len() {
-        rise = climb_node(alphabet, table, nodes, i, marks, stack, top, rise);
+        rise = climb_node(alphabet, table, index, nodes, i, marks, stack, top, rise);
         if !rise.goes {
             return rise.recomputed;
         }

@@ -17,11 +17,12 @@ use matcher::nodes::mark_nodes;
 use matcher::nodes::stack_roots;
 use slices::moves::copy_words;
 use tables::head::set_size;
+use tables::index::index_of;
 use words::postfix::subtree_start;
 
-// Works out the replacement's nodes, from `start` up to its root, over a stack with the roots of the nodes before. At the
-// root's place in the marks are the old element's words: if the root's differ from them, goes on with the ancestors. Answers
-// how many nodes were worked out.
+// Works out the replacement's nodes, from `start` up to its root, over a stack with the roots of the nodes before and one
+// index of the table for all. At the root's place in the marks are the old element's words: if the root's differ from them,
+// goes on with the ancestors. Answers how many nodes were worked out.
 fn recompute_nodes(
     alphabet: &[u32],
     table: &[u32],
@@ -36,12 +37,24 @@ fn recompute_nodes(
         ≡ exchangedFrom (now (alphabet .entry)) (now (table .entry)) (now (nodes .entry)) start root (now (marks .entry))
         ⌝ }
 {
+    let index = index_of(table);
     let mut stack = [0u32; 4096];
     let base = stack_roots(alphabet, nodes, start, &mut stack);
-    let top = mark_nodes(alphabet, table, nodes, start, root, marks, &mut stack, base);
+    let top = mark_nodes(
+        alphabet,
+        table,
+        &index,
+        nodes,
+        start,
+        root,
+        marks,
+        &mut stack,
+        base,
+    );
     climb(
         alphabet,
         table,
+        &index,
         nodes,
         root,
         marks,

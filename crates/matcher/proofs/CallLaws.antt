@@ -2,7 +2,7 @@
 use mathlib.Core.Path.{_≡_, refl, _∙_, sym}
 use mathlib.Core.Bool.{true, false}
 use mathlib.Core.List.{List, [], _∷_, _++_}
-use Prim.Native.Nat.{ℕ, _*_, _≤_}
+use Prim.Native.Nat.{ℕ, _+_, _*_, _<_, _≤_}
 use native.Mathlib.Omega.{arith}
 use lib.ListN.{length}
 use lib.Dec.{ltb}
@@ -20,6 +20,7 @@ use Rattle.operations.proofs.AcceptedLaws.{Counted, count-right, marks-fit, run
 use Rattle.matcher.specs.Faults.{tableRefusals, tableFault}
 use Rattle.matcher.specs.Nodes.{Workable}
 use Rattle.matcher.proofs.FaultLaws.{one-refuses, one-passes}
+use Rattle.matcher.proofs.ReadyLaws.{row-inside}
 
 -- ---- 1, 2 and 8
 
@@ -170,3 +171,8 @@ list-accepted a table n room places h =
       marks = marks-fit table n room (f .1 .1 .1 .1 .0);
       list = ltb-false places n (f .1 .1 .1 .1 .1 .0);
     }
+
+-- node i's words lie inside the marks
+pub list-row : (a table : List ℕ) (n room places : ℕ) → listFault a table n room places ≡ 0 → (size : ℕ) → size ≡ sizeOf table
+    → (i : ℕ) → i < n → i * size + size ≤ room
+list-row a table n room places h size s i l = row-inside i n size room l (rw s (list-accepted a table n room places h .marks))

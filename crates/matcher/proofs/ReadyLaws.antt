@@ -15,9 +15,9 @@ use Rattle.words.proofs.TestLaws.{and-true, all-right}
 use Rattle.words.proofs.WordLaws.{isNode-facts}
 use Rattle.automaton.specs.Transition.{automatonOf}
 use Rattle.automaton.specs.StateSet.{StateSet, stateSet}
-use Rattle.automaton.proofs.TableLaws.{isTable-sizes}
+use Rattle.automaton.proofs.TableLaws.{isTable-tables, isTable-sizes}
 use Rattle.operations.specs.Marks.{sizeOf, nodeSet}
-use Rattle.tables.specs.Ready.{Ready, RowsInside, childSets}
+use Rattle.tables.specs.Ready.{Ready, Prepared, RowsInside, childSets}
 use Rattle.slices.proofs.RefitLaws.{take-drop}
 use Rattle.matcher.specs.Nodes.{setFrom, Workable, AtNode}
 use Rattle.matcher.proofs.RootLaws.{arity-fits, roots-few, stacked-children, length-children, children-below, below-getD}
@@ -35,13 +35,17 @@ pub size-few : {a table ch : List ℕ} {marksRoom stackRoom : ℕ} → Workable 
 unfolding sizeOf
 size-few {a} {table} g = isTable-sizes a table (g .checked) .size-most
 
+-- a table has at most 2,048 words
+pub table-few : {a table ch : List ℕ} {marksRoom stackRoom : ℕ} → Workable a table ch marksRoom stackRoom → length table ≤ 2048
+table-few {a} {table} g = isTable-tables a (omega (arith, g .alphabet)) table .0 (g .checked) .fits
+
 pub node-word : (a ch : List ℕ) (i : ℕ) → all (isNode a) ch ≡ true → i < length ch → isNode a (getD ch i 0) ≡ true
 node-word a ch i h l =
     let w = getD ch i 0 in
     let t = subst (λ (k : List ℕ). all (isNode a) k ≡ true) (split-at ch i 0 l) h in
     and-true (isNode a w) (all (isNode a) (drop (suc i) ch)) (all-right (isNode a) (take i ch) (w ∷ drop (suc i) ch) t) .0
 
-module _ {a table ch : List ℕ} {i : ℕ} {marks array : List ℕ} {height : ℕ} (g : AtNode a table ch i marks array height)
+module _ {a table index ch : List ℕ} {i : ℕ} {marks array : List ℕ} {height : ℕ} (g : AtNode a table index ch i marks array height)
     (r : ℕ) (e : r ≡ arity a (getD ch i 0)) where
   pub node-fits : r ≤ height
   node-fits = let f = arity-fits a ch i (g .workable .tree) (g .inside) in omega (arith, g .stacked .height-is)
@@ -65,16 +69,20 @@ module _ {a table ch : List ℕ} {i : ℕ} {marks array : List ℕ} {height : �
       row-inside (getD (childrenOf a ch i) k 0) (length ch) (sizeOf table) (length marks)
       (omega (arith, below-getD i (childrenOf a ch i) k (children-below a ch i (omega arith)) l)) (g .workable .marks-room)
 
-  pub node-ready : Ready table (symbolOf (getD ch i 0)) marks part
+  node-ready : Ready table (symbolOf (getD ch i 0)) marks part
   node-ready = record {
     alphabet = a;
     short = g .workable .alphabet;
     checked = g .workable .checked;
+    symbol-below = omega arith;
     rank =
         sym (isNode-facts a (getD ch i 0) (node-word a ch i (g .workable .nodes) (g .inside)) .arity-rank)
         ∙ sym (ap length node-children ∙ length-children a ch i (g .workable .tree) (g .inside));
     rows = subst (RowsInside (sizeOf table) marks) (sym node-children) rows;
   }
+
+  pub node-prepared : Prepared table index (symbolOf (getD ch i 0)) marks part
+  node-prepared = record { ready = node-ready; indexed = g .indexed }
 
   pub node-set-is : (set : StateSet)
       → set ≡ stateSet (automatonOf table) (symbolOf (getD ch i 0)) (childSets (sizeOf table) marks part) ++ replicate (32 - sizeOf table) 0

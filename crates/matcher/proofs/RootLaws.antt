@@ -109,21 +109,22 @@ module _ (a ch : List ℕ) where
 
 -- ---- one node more
 
+-- the stack has a place above its top
+pub root-room : {a ch : List ℕ} {i : ℕ} {array : List ℕ} {h : ℕ} → AtRoot a ch i array h → h < length array
+root-room {a} {ch} {i} g =
+    let inside = g .inside in
+    let f = roots-few a ch i (omega arith) in
+    omega (arith, g .stacked .height-is, g .room)
+
 module _ {a ch : List ℕ} {i : ℕ} {array : List ℕ} {h : ℕ} (g : AtRoot a ch i array h) (r : ℕ) (e : r ≡ arity a (getD ch i 0)) where
   pub root-fits : r ≤ h
   root-fits = let f = arity-fits a ch i (g .tree) (g .inside) in omega (arith, g .stacked .height-is)
-
-  pub root-room : h - r < length array
-  root-room =
-      let inside = g .inside in
-      let f = roots-few a ch i (omega arith) in
-      omega (arith, g .stacked .height-is, g .room)
 
   pub root-pushed : Stacked (set array (h - r) i) (h - r + 1) (rootsOf a ch (i + 1))
   root-pushed =
       let q : i ∷ drop r (rootsOf a ch i) ≡ rootsOf a ch (i + 1) =
       ap (λ (k : ℕ). i ∷ drop k (rootsOf a ch i)) e ∙ sym (numbers-more a ch i (g .inside)) ∙ ap (rootsOf a ch) (sym (add-one i)) in
-      subst (Stacked (set array (h - r) i) (h - r + 1)) q (stacked-push array h (rootsOf a ch i) r i (g .stacked) root-fits root-room)
+      subst (Stacked (set array (h - r) i) (h - r + 1)) q (stacked-push array h (rootsOf a ch i) r i (g .stacked) root-fits (omega (arith, root-room g)))
 
 -- ---- the stack in a loop over the nodes
 

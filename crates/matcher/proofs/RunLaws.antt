@@ -10,10 +10,11 @@ use Rattle.operations.specs.Answer.{refused, accepted}
 use Rattle.operations.specs.Marks.{sizeOf, nodeSets}
 use Rattle.operations.specs.Run.{runFault, runMarks, cellsIn, runAnswer, runExit}
 use Rattle.operations.proofs.RunLaws.{run-writes, run-length}
+use Rattle.tables.specs.Index.{indexOf}
 use Rattle.matcher.specs.Nodes.{markedFrom, Workable, AtNodes}
 use Rattle.matcher.proofs.RootLaws.{stacked-none}
 use Rattle.matcher.proofs.MarkLaws.{marked-run}
-use Rattle.matcher.proofs.ReadyLaws.{words-few, size-few}
+use Rattle.matcher.proofs.ReadyLaws.{words-few, size-few, table-few}
 use Rattle.matcher.proofs.FaultLaws.{answer-refused, answer-accepted, exit-refused, exit-accepted}
 use Rattle.matcher.proofs.CallLaws.{run-workable}
 
@@ -21,13 +22,18 @@ module _ (a table ch marks : List ℕ) (h : runFault a table ch (length marks) �
   workable : Workable a table ch (length marks) 4096
   workable = run-workable a table ch (length marks) 4096 h (omega arith)
 
-  -- the stack is empty, and has a place for each node
-  pub run-nodes : (array : List ℕ) → length array ≡ 4096 → AtNodes a table ch 0 (length ch) marks array 0
+  pub run-table-few : length table ≤ 2048
+  run-table-few = table-few workable
+
+  -- the first n nodes can be worked out: the index is the table's, and the stack is empty and has a place for each node
+  pub run-nodes : (index : List ℕ) → index ≡ indexOf table → (n : ℕ) → n ≤ length ch → (array : List ℕ) → length array ≡ 4096
+      → AtNodes a table index ch 0 n marks array 0
   unfolding stackGiven
-  run-nodes array e = record {
+  run-nodes index q n l array e = record {
     workable = run-workable a table ch (length marks) (length array) h (omega arith);
+    indexed = q;
     order = omega arith;
-    inside = omega arith;
+    inside = l;
     stacked = stacked-none array;
   }
 

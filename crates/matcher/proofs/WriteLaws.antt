@@ -14,7 +14,7 @@ use Rattle.matcher.proofs.ReadyLaws.{row-inside, words-few, size-few}
 
 -- ---- one node
 
-module _ {a table ch : List ℕ} {i : ℕ} {marks array : List ℕ} {height : ℕ} (g : AtNode a table ch i marks array height)
+module _ {a table index ch : List ℕ} {i : ℕ} {marks array : List ℕ} {height : ℕ} (g : AtNode a table index ch i marks array height)
     (set : StateSet) (e : set ≡ setFrom a table ch marks i ++ replicate (32 - sizeOf table) 0)
     (size : ℕ) (s : size ≡ sizeOf table) where
   pub set-front : take size set ≡ setFrom a table ch marks i
@@ -54,7 +54,7 @@ pub record Marking (a table ch : List ℕ) (from to : ℕ) (marks₀ array₀ ma
   pub marks-are : marks ≡ markedFrom a table ch from (i - from) marks₀
   pub stacked : Stacked array top (rootsOf a ch i)
 
-module _ (a table ch : List ℕ) (from to : ℕ) (marks₀ array₀ : List ℕ) (height : ℕ) (pre : AtNodes a table ch from to marks₀ array₀ height) where
+module _ (a table index ch : List ℕ) (from to : ℕ) (marks₀ array₀ : List ℕ) (height : ℕ) (pre : AtNodes a table index ch from to marks₀ array₀ height) where
   pub marking-none : Marking a table ch from to marks₀ array₀ marks₀ array₀ height from
   unfolding markedFrom
   marking-none =
@@ -69,7 +69,7 @@ module _ (a table ch : List ℕ) (from to : ℕ) (marks₀ array₀ : List ℕ) 
       }
 
   module _ (marks array : List ℕ) (top i : ℕ) (g : Marking a table ch from to marks₀ array₀ marks array top i) (l : i < to) where
-    pub marking-node : AtNode a table ch i marks array top
+    pub marking-node : AtNode a table index ch i marks array top
     marking-node =
         let w = pre .workable in
         let m = g .marks-long in
@@ -85,6 +85,7 @@ module _ (a table ch : List ℕ) (from to : ℕ) (marks₀ array₀ : List ℕ) 
             marks-room = rw m (w .marks-room);
             stack-room = rw n (w .stack-room);
           };
+          indexed = pre .indexed;
           inside = omega arith;
           stacked = g .stacked;
         }

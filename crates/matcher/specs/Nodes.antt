@@ -12,6 +12,7 @@ use Rattle.words.specs.Postfix.{oneTree, stackGiven, childrenOf}
 use Rattle.automaton.specs.Table.{isTable}
 use Rattle.automaton.specs.StateSet.{StateSet}
 use Rattle.operations.specs.Marks.{sizeOf, nodeSet, storedSet}
+use Rattle.tables.specs.Index.{indexOf}
 
 -- the roots of the trees that the first j nodes make, the last one first
 abbrev pub rootsOf : List ℕ → List ℕ → ℕ → List ℕ
@@ -60,15 +61,17 @@ pub record Workable (a table ch : List ℕ) (marksRoom stackRoom : ℕ) : Type 0
   pub marks-room : length ch * sizeOf table ≤ marksRoom
   pub stack-room : length ch ≤ stackRoom
 
--- what working out node i asks
-pub record AtNode (a table ch : List ℕ) (i : ℕ) (marks array : List ℕ) (height : ℕ) : Type 0 where
+-- what working out node i asks; the index is the table's
+pub record AtNode (a table index ch : List ℕ) (i : ℕ) (marks array : List ℕ) (height : ℕ) : Type 0 where
   pub workable : Workable a table ch (length marks) (length array)
+  pub indexed : index ≡ indexOf table
   pub inside : i < length ch
   pub stacked : Stacked array height (rootsOf a ch i)
 
 -- what working out the nodes from `from` up to `to` asks
-pub record AtNodes (a table ch : List ℕ) (from to : ℕ) (marks array : List ℕ) (height : ℕ) : Type 0 where
+pub record AtNodes (a table index ch : List ℕ) (from to : ℕ) (marks array : List ℕ) (height : ℕ) : Type 0 where
   pub workable : Workable a table ch (length marks) (length array)
+  pub indexed : index ≡ indexOf table
   pub order : from ≤ to
   pub inside : to ≤ length ch
   pub stacked : Stacked array height (rootsOf a ch from)

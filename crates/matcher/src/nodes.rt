@@ -43,17 +43,18 @@ pub fn stack_roots(alphabet: &[u32], nodes: &[u32], count: usize, stack: &mut [u
 }
 
 // The state set of node i, worked out from its children's in the marks, and zeros behind it. The children are on top of the
-// stack.
+// stack; the index is the table's.
 pub fn node_at(
     alphabet: &[u32],
     table: &[u32],
+    index: &[u32],
     nodes: &[u32],
     i: usize,
     marks: &[u32],
     stack: &[u32],
     height: usize,
 ) -> [u32; 32]
-    requires { ⌜ AtNode (now alphabet) (now table) (now nodes) i (now marks) (now stack) height ⌝ }
+    requires { ⌜ AtNode (now alphabet) (now table) (now index) (now nodes) i (now marks) (now stack) height ⌝ }
     ensures { λ r. ⌜
         r
         ≡ setFrom (now (alphabet .entry)) (now (table .entry)) (now (nodes .entry)) (now (marks .entry)) i
@@ -64,6 +65,7 @@ pub fn node_at(
     let children = arity(alphabet, w);
     node_set(
         table,
+        index,
         w % LOW_BYTE,
         marks,
         &stack[height - children..height],
@@ -74,19 +76,20 @@ pub fn node_at(
 pub fn mark_node(
     alphabet: &[u32],
     table: &[u32],
+    index: &[u32],
     nodes: &[u32],
     i: usize,
     marks: &mut [u32],
     stack: &[u32],
     height: usize,
 )
-    requires { ⌜ AtNode (now alphabet) (now table) (now nodes) i (now marks) (now stack) height ⌝ }
+    requires { ⌜ AtNode (now alphabet) (now table) (now index) (now nodes) i (now marks) (now stack) height ⌝ }
     ensures { λ _. ⌜
         now (marks .exit) ≡ markedAt (now (alphabet .entry)) (now (table .entry)) (now (nodes .entry)) i (now (marks .entry))
         ⌝ }
 {
     let size = set_size(table);
-    let set = node_at(alphabet, table, nodes, i, marks, stack, height);
+    let set = node_at(alphabet, table, index, nodes, i, marks, stack, height);
     write_set_at(marks, i * size, &set[..size]);
 }
 
@@ -94,6 +97,7 @@ pub fn mark_node(
 pub fn mark_nodes(
     alphabet: &[u32],
     table: &[u32],
+    index: &[u32],
     nodes: &[u32],
     from: usize,
     to: usize,
@@ -101,7 +105,7 @@ pub fn mark_nodes(
     stack: &mut [u32],
     height: usize,
 ) -> usize
-    requires { ⌜ AtNodes (now alphabet) (now table) (now nodes) from to (now marks) (now stack) height ⌝ }
+    requires { ⌜ AtNodes (now alphabet) (now table) (now index) (now nodes) from to (now marks) (now stack) height ⌝ }
     ensures marks { λ _. ⌜
         now (marks .exit)
         ≡ markedFrom (now (alphabet .entry)) (now (table .entry)) (now (nodes .entry)) from (to - from) (now (marks .entry))
@@ -111,7 +115,7 @@ pub fn mark_nodes(
     let mut top = height;
     let mut i = from;
     while i < to {
-        mark_node(alphabet, table, nodes, i, marks, stack, top);
+        mark_node(alphabet, table, index, nodes, i, marks, stack, top);
         top = push_root(alphabet, nodes, i, stack, top);
         i += 1;
     }

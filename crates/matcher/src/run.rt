@@ -12,6 +12,7 @@ use super::faults::wrong_count;
 use super::nodes::mark_nodes;
 use slices::sets::count_cells;
 use tables::head::set_size;
+use tables::index::index_of;
 use words::chapter::tree_fault;
 
 // Document 01's number of the refusal, the first that applies, or 0; `room` is the length of the marks slice.
@@ -44,8 +45,19 @@ fn run_accepted(alphabet: &[u32], table: &[u32], chapter: &[u32], marks: &mut [u
         ⌝ }
 {
     let count = chapter.len();
+    let index = index_of(table);
     let mut stack = [0u32; 4096];
-    mark_nodes(alphabet, table, chapter, 0, count, marks, &mut stack, 0);
+    mark_nodes(
+        alphabet,
+        table,
+        &index,
+        chapter,
+        0,
+        count,
+        marks,
+        &mut stack,
+        0,
+    );
     count_cells(&marks[..count * set_size(table)])
 }
 

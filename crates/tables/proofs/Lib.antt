@@ -3,7 +3,13 @@ pub mod MaskLaws
 pub mod CheckLaws
 pub mod ScanLaws
 pub mod SourceLaws
-pub mod GrowthLaws
+pub mod WordLaws
+pub mod StackLaws
+pub mod SearchLaws
+pub mod FollowLaws
+pub mod SymbolLaws
+pub mod EpsilonLaws
 pub mod StartLaws
-pub mod PassLaws
 pub mod NodeLaws
+pub mod ChainLaws
+pub mod IndexLaws

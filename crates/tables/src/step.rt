@@ -1,45 +1,22 @@
 // A node's state set from its symbol and its children's state sets.
 ghost use mathlib.Core.Path.{_≡_};
 ghost use mathlib.Core.List.{_++_};
-ghost use Prim.Native.Nat.{_-_, _<_};
-ghost use lib.ListN.{drop, replicate};
+ghost use Prim.Native.Nat.{_+_, _-_};
+ghost use lib.ListN.{length, drop, replicate};
 ghost use Rattle.automaton.specs.Transition.{automatonOf, sourcesAt};
 ghost use Rattle.automaton.specs.StateSet.{allContained, stateSet};
 ghost use Rattle.operations.specs.Marks.{sizeOf};
-ghost use Rattle.tables.specs.Ready.{Ready, childSets};
-ghost use Rattle.tables.specs.Growth.{Put, Sources, Firing, Given, GivenAt, Followed, Passed, indexAt};
-ghost use Rattle.tables.specs.Growth.{fires as Growth·fires};
+ghost use Rattle.tables.specs.Ready.{Prepared, childSets};
+ghost use Rattle.tables.specs.Growth.{Sources, Room, Put, Seeding, Searched, Closing, ClosingAt, Followed};
 use super::head::STATE_RANGE;
-use super::head::SYMBOL_RANGE;
 use super::head::set_size;
+use super::index::KEYS;
+use super::index::STATE_KEYS;
 use super::set::contains;
 use super::set::insert;
-use words::word::CLOSURE;
-use words::word::EMPTY;
-use words::word::ENTRY;
-use words::word::EPSILON;
-use words::word::HEAD;
-use words::word::KIND_UNIT;
-use words::word::NODE;
-use words::word::PRODUCT;
-use words::word::SOURCE;
-use words::word::SYMBOL;
-use words::word::TRANSITION;
-use words::word::UNION;
 
-// Puts state s into the set, if it is wanted and not in it, and says whether it was put.
-fn put(set: &mut [u32], s: usize, wanted: bool) -> bool
-    ensures { λ r. ⌜ Put (now (set .entry)) (now (set .exit)) s wanted r ⌝ }
-{
-    if !wanted {
-        return false;
-    }
-    if contains(set, s) {
-        return false;
-    }
-    insert(set, s);
-    true
-}
+// Sets of at most so many words are those of at most 64 states, for which a short stack is enough.
+const FEW_WORDS: usize = 2;
 
 // Whether the part states from word `at` on are all in the children's sets.
 fn sources_contained(table: &[u32], at: usize, size: usize, marks: &[u32], children: &[u32]) -> bool
@@ -61,103 +38,120 @@ fn sources_contained(table: &[u32], at: usize, size: usize, marks: &[u32], child
     true
 }
 
-// Whether the symbol transition at word i is on the symbol and its part states are in the children's sets.
-fn fires(table: &[u32], i: usize, symbol: u32, size: usize, marks: &[u32], children: &[u32]) -> bool
-    requires { ⌜ Firing (now table) i symbol size (now marks) (now children) ⌝ }
-    ensures { λ r. ⌜ r ≡ Growth·fires (now (table .entry)) i symbol (childSets size (now (marks .entry)) (now (children .entry))) ⌝ }
+// Puts state s into the set and on the stack, if it is not in the set. Answers the stack's height.
+fn reach(set: &mut [u32], pending: &mut [u32], top: usize, s: usize) -> usize
+    requires { ⌜ Room (now set) (now pending) top s ⌝ }
+    ensures { λ r. ⌜ Put (now (set .entry)) (now (pending .entry)) top s (now (set .exit)) (now (pending .exit)) r ⌝ }
 {
-    let w = table[i];
-    if w / STATE_RANGE % SYMBOL_RANGE != symbol {
-        return false;
+    if contains(set, s) {
+        return top;
     }
-    sources_contained(table, i + 1, size, marks, children)
+    insert(set, s);
+    pending[top] = s as u32;
+    top + 1
 }
 
-// Follows the transition that begins at word i, if one does, and says whether it added a state.
-fn follow(
+// Follows the transitions on the symbol whose part states are in the children's sets: the states that need no epsilon
+// transition. Answers the stack's height.
+fn follow_symbol(
     table: &[u32],
-    i: usize,
+    index: &[u32],
     symbol: u32,
     size: usize,
     marks: &[u32],
     children: &[u32],
     set: &mut [u32],
-) -> bool
-    requires { ⌜ GivenAt (now table) i symbol size (now marks) (now children) (now set) ⌝ }
+    pending: &mut [u32],
+) -> usize
+    requires { ⌜ Seeding (now table) (now index) symbol size (now marks) (now children) (now set) (now pending) ⌝ }
     ensures { λ r. ⌜
-        Followed (now (table .entry)) symbol (childSets size (now (marks .entry)) (now (children .entry))) i (now (set .entry)) (now (set .exit)) r
+        Searched (now (table .entry)) symbol (childSets size (now (marks .entry)) (now (children .entry))) (now (set .exit)) (now (pending .exit)) r
         ⌝ }
 {
-    let w = table[i];
-    let kind = w / KIND_UNIT;
-    let above = (w / STATE_RANGE % STATE_RANGE) as usize;
-    let below = (w % STATE_RANGE) as usize;
-    match kind {
-        ENTRY => false,
-        SYMBOL => false,
-        EMPTY => false,
-        UNION => false,
-        PRODUCT => false,
-        CLOSURE => false,
-        NODE => false,
-        HEAD => false,
-        TRANSITION => {
-            let wanted = fires(table, i, symbol, size, marks, children);
-            put(set, below, wanted)
+    let mut top = 0;
+    let mut i = index[symbol as usize] as usize;
+    while 0 < i {
+        if sources_contained(table, i + 1, size, marks, children) {
+            let target = (table[i] % STATE_RANGE) as usize;
+            top = reach(set, pending, top, target);
         }
-        EPSILON => {
-            let wanted = contains(set, above);
-            put(set, below, wanted)
-        }
-        SOURCE => false,
-        _ => false,
+        i = index[KEYS + i] as usize;
     }
+    top
 }
 
-// The k-th word of a pass over n words.
-fn index_at(down: bool, n: usize, k: usize) -> usize
-    requires { ⌜ k < n ⌝ }
-    ensures { λ r. ⌜ r ≡ indexAt down n k ⌝ }
-{
-    if down {
-        return n - 1 - k;
-    }
-    k
-}
-
-// Follows the transitions of the whole table, from the last word to the first or from the first to the last, and says
-// whether a state was added.
-fn pass(
+// Follows the epsilon transitions from state p. Answers the stack's height.
+fn follow_epsilons(
     table: &[u32],
+    index: &[u32],
+    p: usize,
+    set: &mut [u32],
+    pending: &mut [u32],
+    top: usize,
+) -> usize
+    requires { ⌜ ClosingAt (now table) (now index) p (now set) (now pending) top ⌝ }
+    ensures { λ r. ⌜
+        Followed (now (table .entry)) (256 + p) 0 (now (set .entry)) (now (pending .entry)) top (now (set .exit)) (now (pending .exit)) r
+        ⌝ }
+{
+    let mut height = top;
+    let mut i = index[STATE_KEYS + p] as usize;
+    while 0 < i {
+        let target = (table[i] % STATE_RANGE) as usize;
+        height = reach(set, pending, height, target);
+        i = index[KEYS + i] as usize;
+    }
+    height
+}
+
+// Follows the epsilon transitions from the states on the stack, until none is left.
+fn follow_pending(table: &[u32], index: &[u32], set: &mut [u32], pending: &mut [u32], top: usize)
+    requires { ⌜ Closing (now table) (now index) (now set) (now pending) top ⌝ }
+    ensures { λ _. ⌜
+        Followed (now (table .entry)) 0 (length (now (table .entry))) (now (set .entry)) (now (pending .entry)) top (now (set .exit)) (now (pending .exit)) 0
+        ⌝ }
+{
+    let mut height = top;
+    while 0 < height {
+        height -= 1;
+        let p = pending[height] as usize;
+        height = follow_epsilons(table, index, p, set, pending, height);
+    }
+}
+
+// Works out the state set of a node into a set of zeros, with a stack for the pending states.
+fn work_out(
+    table: &[u32],
+    index: &[u32],
     symbol: u32,
     size: usize,
     marks: &[u32],
     children: &[u32],
-    down: bool,
     set: &mut [u32],
-) -> bool
-    requires { ⌜ Given (now table) symbol size (now marks) (now children) (now set) ⌝ }
-    ensures { λ r. ⌜
-        Passed (now (table .entry)) symbol (childSets size (now (marks .entry)) (now (children .entry))) (now (set .entry)) (now (set .exit)) r
+    pending: &mut [u32],
+)
+    requires { ⌜ Seeding (now table) (now index) symbol size (now marks) (now children) (now set) (now pending) ⌝ }
+    ensures { λ _. ⌜
+        now (set .exit)
+        ≡ stateSet (automatonOf (now (table .entry))) symbol
+        (childSets (sizeOf (now (table .entry))) (now (marks .entry)) (now (children .entry)))
+        ++ replicate (32 - sizeOf (now (table .entry))) 0
         ⌝ }
 {
-    let mut changed = false;
-    let mut k = 0;
-    while k < table.len() {
-        let i = index_at(down, table.len(), k);
-        if follow(table, i, symbol, size, marks, children, set) {
-            changed = true;
-        }
-        k += 1;
-    }
-    changed
+    let top = follow_symbol(table, index, symbol, size, marks, children, set, pending);
+    follow_pending(table, index, set, pending, top);
 }
 
-// The state set of a node with this symbol over the children with these node numbers, and zeros behind it. The passes change
-// direction, since a compiled table's transitions lead from its later words' entries to those of earlier words and from the
-// earlier words' exits to those of later words.
-pub fn node_set(table: &[u32], symbol: u32, marks: &[u32], children: &[u32]) -> [u32; 32]
-    requires { ⌜ Ready (now table) symbol (now marks) (now children) ⌝ }
+// The state set of a node with this symbol over the children with these node numbers, and zeros behind it. The stack has
+// room for every state, and a short one is sooner cleared.
+pub fn node_set(
+    table: &[u32],
+    index: &[u32],
+    symbol: u32,
+    marks: &[u32],
+    children: &[u32],
+) -> [u32; 32]
+    requires { ⌜ Prepared (now table) (now index) symbol (now marks) (now children) ⌝ }
     ensures { λ r. ⌜
         r
         ≡ stateSet (automatonOf (now (table .entry))) symbol
@@ -167,11 +161,30 @@ pub fn node_set(table: &[u32], symbol: u32, marks: &[u32], children: &[u32]) -> 
 {
     let size = set_size(table);
     let mut set = [0u32; 32];
-    let mut down = false;
-    let mut changed = true;
-    while changed {
-        changed = pass(table, symbol, size, marks, children, down, &mut set);
-        down = !down;
+    if size <= FEW_WORDS {
+        let mut pending = [0u32; 64];
+        work_out(
+            table,
+            index,
+            symbol,
+            size,
+            marks,
+            children,
+            &mut set,
+            &mut pending,
+        );
+        return set;
     }
+    let mut pending = [0u32; 1024];
+    work_out(
+        table,
+        index,
+        symbol,
+        size,
+        marks,
+        children,
+        &mut set,
+        &mut pending,
+    );
     set
 }

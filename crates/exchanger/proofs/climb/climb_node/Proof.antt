@@ -13,11 +13,11 @@ shared-slice-read-arity c = search needs
 arity-requires : tie.Need-arity-requires
 arity-requires c κs = search needs
 
-sub-t17 : tie.Need-sub-t17
-sub-t17 c = search needs
+sub-t18 : tie.Need-sub-t18
+sub-t18 c = search needs
 
-add-t18 : tie.Need-add-t18
-add-t18 c = search needs
+add-t19 : tie.Need-add-t19
+add-t19 c = search needs
 
 returns : tie.Need-returns
 returns c = step-beside _ _ _ _ _ _ _ (c .before .arity .ensures) (c .if1 .taken)
@@ -25,8 +25,8 @@ returns c = step-beside _ _ _ _ _ _ _ (c .before .arity .ensures) (c .if1 .taken
 recompute-requires : tie.Need-recompute-requires
 recompute-requires c κs = search needs
 
-add-t13 : tie.Need-add-t13
-add-t13 c = search needs
+add-t14 : tie.Need-add-t14
+add-t14 c = search needs
 
 same-length : tie.Need-same-length
 same-length c = search needs
@@ -44,10 +44,10 @@ climb-node-spec =
     mul-arity
     shared-slice-read-arity
     arity-requires
-    sub-t17
-    add-t18
+    sub-t18
+    add-t19
     returns
     recompute-requires
-    add-t13
+    add-t14
     same-length
     returns-2)

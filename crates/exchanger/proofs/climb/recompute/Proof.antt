@@ -11,7 +11,7 @@ abbrev sized : tie.After-node-at → tie.After-set-size
 sized n = n .before .before
 
 abbrev start : tie.After-node-at → tie.Start
-start n = sized n .before .before .before .before .before .before
+start n = sized n .before .before .before .before .before .before .before
 
 set-size-requires : tie.Need-set-size-requires
 set-size-requires c κs = search needs

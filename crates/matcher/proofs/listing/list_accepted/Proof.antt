@@ -1,10 +1,9 @@
 -- `listing::list_accepted` meets its contract: the loop keeps that the matches among the first i nodes are written.
 -- Assumes nothing.
-use Prim.Native.Nat.{_-_, _*_, _≤_}
+use Prim.Native.Nat.{_+_, _-_, _*_, _≤_}
 use native.Mathlib.Omega.{arith}
 use lib.ListN.{length}
-use Rattle.matcher.proofs.CallLaws.{list-accepted}
-use Rattle.matcher.proofs.ReadyLaws.{row-inside}
+use Rattle.matcher.proofs.CallLaws.{list-accepted, list-row}
 use Rattle.matcher.proofs.ListingLaws.{Found, found-none, found-more, found-end, part-set, matchesOf-few}
 use borrow.Author.Needs.{needs}
 use Rattle.matcher.proofs.listing.list_accepted.Statement.{statement}
@@ -25,18 +24,22 @@ final-state-requires c κs = search needs
 loop-holds : tie.Need-loop-holds Inv-loop μ-loop
 loop-holds c = (search needs, found-none _ _ _)
 
--- the state sets of all nodes lie inside the marks
-row : (c : tie.In-loop Inv-loop μ-loop) → c .before .before .before .before .before .before .before .before .args .count * c .before .before .before .set-size .result ≤ length (c .before .before .before .before .before .before .before .before .args .marks .now)
-row c = rw (c .before .before .before .set-size .ensures) (list-accepted _ _ _ _ _ (c .before .before .before .before .before .before .before .before .pre) .marks)
+abbrev start : tie.At-loop Inv-loop μ-loop → tie.Start Inv-loop μ-loop
+start l = l .before .before .before .before .before .before .before
+
+-- node i's words lie inside the marks
+row : (c : tie.In-loop Inv-loop μ-loop)
+    → c .before .loop .i * c .before .before .before .set-size .result + c .before .before .before .set-size .result ≤ length (start (c .before) .args .marks .now)
+row c = list-row _ _ _ _ _ (start (c .before) .pre) _ (c .before .before .before .set-size .ensures) _ (c .loop-test .taken)
 
 mul-at : tie.Need-mul-at Inv-loop μ-loop
-mul-at c = let h = row-inside _ _ _ _ (c .loop-test .taken) (row c) in omega arith
+mul-at c = omega (arith, row c)
 
 add-list-node : tie.Need-add-list-node Inv-loop μ-loop
-add-list-node c = let h = row-inside _ _ _ _ (c .loop-test .taken) (row c) in omega arith
+add-list-node c = omega (arith, row c)
 
 mul-list-node : tie.Need-mul-list-node Inv-loop μ-loop
-mul-list-node c = let h = row-inside _ _ _ _ (c .loop-test .taken) (row c) in omega arith
+mul-list-node c = omega (arith, row c)
 
 sub-list-node : tie.Need-sub-list-node Inv-loop μ-loop
 sub-list-node c = search needs
@@ -45,14 +48,14 @@ part-list-node-start : tie.Need-part-list-node-start Inv-loop μ-loop
 part-list-node-start c = search needs
 
 part-list-node-end : tie.Need-part-list-node-end Inv-loop μ-loop
-part-list-node-end c = let h = row-inside _ _ _ _ (c .loop-test .taken) (row c) in omega arith
+part-list-node-end c = omega (arith, row c)
 
 list-node-requires : tie.Need-list-node-requires Inv-loop μ-loop
 list-node-requires c κs =
     let loop = c .before .before .before in
     let taken = c .before .before .loop-test .taken in
-    let call = list-accepted _ _ _ _ _ (loop .before .before .before .before .before .before .before .pre) in
-    let few = matchesOf-few (loop .before .before .before .before .before .before .before .args .table .now) (loop .before .before .before .before .before .before .before .args .marks .now) (loop .loop .i) in
+    let call = list-accepted _ _ _ _ _ (start loop .pre) in
+    let few = matchesOf-few (start loop .args .table .now) (start loop .args .marks .now) (loop .loop .i) in
     let found = loop .loop .inv .1 in
     (omega (arith, call .list, found .count, found .long), omega (arith, call .counted .few))
 
@@ -66,11 +69,10 @@ loop-again : tie.Need-loop-again Inv-loop μ-loop
 loop-again c =
     let test = c .before .before .before .before .before in
     let loop = test .before in
-    let start = loop .before .before .before .before .before .before .before in
     let node = c .before .before .list-node in (
       search needs,
       found-more _ _ _ _ _ _ _ _ _ _ (loop .loop .inv .1) (part-set _ _ _ (loop .loop .i) (loop .before .before .set-size .ensures))
-          (loop .before .final-state .ensures) (omega (arith, test .loop-test .taken, list-accepted _ _ _ _ _ (start .pre) .list))
+          (loop .before .final-state .ensures) (omega (arith, test .loop-test .taken, list-accepted _ _ _ _ _ (start loop .pre) .list))
           (node .ensures .0) (node .ensures .1) (search needs),
     )
 

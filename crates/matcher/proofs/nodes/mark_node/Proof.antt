@@ -7,7 +7,7 @@ use Rattle.matcher.proofs.nodes.mark_node.Statement.{statement}
 use Rattle.matcher.proofs.nodes.mark_node.Tie as tie
 
 abbrev start : tie.After-node-at → tie.Start
-start n = n .before .before .before .before .before .before .before .before
+start n = n .before .before .before .before .before .before .before .before .before
 
 set-size-requires : tie.Need-set-size-requires
 set-size-requires c κs = search needs

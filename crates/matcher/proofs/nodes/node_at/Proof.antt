@@ -1,12 +1,12 @@
 -- `nodes::node_at` meets its contract: the part of the stack that is lent holds the node's children. Assumes nothing.
 use native.Mathlib.Omega.{arith}
-use Rattle.matcher.proofs.ReadyLaws.{node-fits, node-height, node-ready, node-set-is}
+use Rattle.matcher.proofs.ReadyLaws.{node-fits, node-height, node-prepared, node-set-is}
 use borrow.Author.Needs.{needs}
 use Rattle.matcher.proofs.nodes.node_at.Statement.{statement}
 use Rattle.matcher.proofs.nodes.node_at.Tie as tie
 
 abbrev start : tie.After-arity → tie.Start
-start c = c .before .before .before .before .before .before .before
+start c = c .before .before .before .before .before .before .before .before
 
 mul-w : tie.Need-mul-w
 mul-w c = search needs
@@ -33,7 +33,7 @@ part-node-set-end : tie.Need-part-node-set-end
 part-node-set-end c = let h = node-height (start c .pre) _ (c .arity .ensures) in omega arith
 
 node-set-requires : tie.Need-node-set-requires
-node-set-requires c κs = node-ready (start (c .before) .pre) _ (c .before .arity .ensures)
+node-set-requires c κs = node-prepared (start (c .before) .pre) _ (c .before .arity .ensures)
 
 returns : tie.Need-returns
 returns c = node-set-is (start (c .before .before) .pre) _ (c .before .before .arity .ensures) _ (c .node-set .ensures)

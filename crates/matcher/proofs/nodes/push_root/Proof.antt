@@ -24,13 +24,13 @@ cast-stack : tie.Need-cast-stack
 cast-stack c = search needs
 
 mul-stack : tie.Need-mul-stack
-mul-stack c = let h = root-room (start c .pre) _ (c .arity .ensures) in omega arith
+mul-stack c = omega (arith, root-room (start c .pre))
 
 slice-write-stack : tie.Need-slice-write-stack
-slice-write-stack c = root-room (start c .pre) _ (c .arity .ensures)
+slice-write-stack c = omega (arith, root-room (start c .pre))
 
 add-result : tie.Need-add-result
-add-result c = let h = root-room (start c .pre) _ (c .arity .ensures) in omega arith
+add-result c = omega (arith, root-room (start c .pre))
 
 same-length : tie.Need-same-length
 same-length c = search needs

@@ -4,19 +4,29 @@ use mathlib.Core.Path.{sym}
 use Prim.Native.Nat.{ℕ}
 use native.Mathlib.Omega.{arith}
 use lib.ListN.{length-replicate}
-use Rattle.matcher.proofs.RunLaws.{run-nodes, run-left, run-room, run-few, run-part, run-cells}
+use Rattle.matcher.proofs.RunLaws.{run-table-few, run-nodes, run-left, run-room, run-few, run-part, run-cells}
 use borrow.Author.Needs.{needs}
 use Rattle.matcher.proofs.run.run_accepted.Statement.{statement}
 use Rattle.matcher.proofs.run.run_accepted.Tie as tie
 
 abbrev start : tie.After-mark-nodes → tie.Start
-start n = n .before .before .before .before .before .before .before
+start n = n .before .before .before .before .before .before .before .before .before
+
+index-of-requires : tie.Need-index-of-requires
+index-of-requires c κs =
+    let s = c .before .before .before .before in
+    run-table-few _ _ (s .args .chapter .now) (s .args .marks .now) (s .pre)
 
 slice-aggregate-mark-nodes : tie.Need-slice-aggregate-mark-nodes
 slice-aggregate-mark-nodes c = search needs
 
+slice-aggregate-mark-nodes-2 : tie.Need-slice-aggregate-mark-nodes-2
+slice-aggregate-mark-nodes-2 c = search needs
+
 mark-nodes-requires : tie.Need-mark-nodes-requires
-mark-nodes-requires c κs = run-nodes _ _ _ _ (c .before .before .before .before .before .before .pre) _ (length-replicate {A = ℕ} 4096 0)
+mark-nodes-requires c κs =
+    let made = c .before .before .before in
+    run-nodes _ _ _ _ (made .before .before .before .before .before .pre) _ (made .index-of .ensures) _ (omega arith) _ (length-replicate {A = ℕ} 4096 0)
 
 set-size-requires : tie.Need-set-size-requires
 set-size-requires c κs = search needs
@@ -57,7 +67,9 @@ pub run-accepted-spec : {M : Type 1} → statement M
 run-accepted-spec =
     tie.close
     (tie.spec
+    index-of-requires
     slice-aggregate-mark-nodes
+    slice-aggregate-mark-nodes-2
     mark-nodes-requires
     set-size-requires
     mul-count-cells

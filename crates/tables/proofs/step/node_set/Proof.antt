@@ -1,55 +1,49 @@
--- `tables::step::node_set` meets its contract: each pass that is not the last adds a state, and what the last pass leaves
--- holds the seeds, is closed under the epsilon transitions and holds reached states only. Assumes nothing.
-use mathlib.Core.Path.{sym}
+-- `tables::step::node_set` meets its contract: with either stack there is room for every state. Assumes nothing.
+use native.Mathlib.Omega.{arith}
 use borrow.Author.Needs.{needs}
-use Rattle.tables.specs.Ready.{childSets}
-use Rattle.tables.proofs.NodeLaws.{Growing, growing-none, growing-given, growing-more, growing-end, measure, measure-falls}
+use Rattle.tables.proofs.NodeLaws.{node-seeding, node-seeding-few}
 use Rattle.tables.proofs.step.node_set.Statement.{statement}
 use Rattle.tables.proofs.step.node_set.Tie as tie
 
-abbrev Inv-loop : tie.InvT-loop
-Inv-loop table symbol marks children size set₀ down₀ changed₀ set down changed = Growing table symbol (childSets size marks children) set changed
-
-abbrev μ-loop : tie.MeasureT-loop
-μ-loop table symbol marks children size set₀ down₀ changed₀ set down changed = measure table set changed
-
-set-size-requires : tie.Need-set-size-requires Inv-loop μ-loop
+set-size-requires : tie.Need-set-size-requires
 set-size-requires c κs = search needs
 
-loop-holds : tie.Need-loop-holds Inv-loop μ-loop
-loop-holds c = growing-none _ _ _
+slice-aggregate-work-out : tie.Need-slice-aggregate-work-out
+slice-aggregate-work-out c = search needs
 
-slice-aggregate-pass : tie.Need-slice-aggregate-pass Inv-loop μ-loop
-slice-aggregate-pass c = sym (c .before .before .loop .inv .size)
+slice-aggregate-work-out-2 : tie.Need-slice-aggregate-work-out-2
+slice-aggregate-work-out-2 c = search needs
 
-pass-requires : tie.Need-pass-requires Inv-loop μ-loop
-pass-requires c κs =
-    let l = c .before .before in
-    growing-given (l .before .before .before .before .before .pre) (l .before .set-size .ensures) (l .loop .inv)
+work-out-requires : tie.Need-work-out-requires
+work-out-requires c κs =
+    let d = c .before .before in
+    node-seeding-few (d .before .before .before .before .before .before .pre) (d .before .set-size .ensures) (omega arith)
 
-loop-less : tie.Need-loop-less Inv-loop μ-loop
-loop-less c =
-    let t = c .before .before .before in
-    measure-falls (t .loop-test .taken) (c .before .pass .ensures)
+returns : tie.Need-returns
+returns c = search needs
 
-loop-again : tie.Need-loop-again Inv-loop μ-loop
-loop-again c = growing-more (c .before .before .before .before .loop .inv) (c .before .pass .ensures)
+slice-aggregate-work-out-3 : tie.Need-slice-aggregate-work-out-3
+slice-aggregate-work-out-3 c = search needs
 
-returns : tie.Need-returns Inv-loop μ-loop
-returns c =
-    let l = c .before in
-    growing-end (l .before .before .before .before .before .pre) (l .before .set-size .ensures) (l .loop .inv) (c .loop-test .left)
+slice-aggregate-work-out-4 : tie.Need-slice-aggregate-work-out-4
+slice-aggregate-work-out-4 c = search needs
+
+work-out-requires-2 : tie.Need-work-out-requires-2
+work-out-requires-2 c κs = node-seeding (c .before .before .before .before .before .before .before .before .pre) (c .before .before .before .set-size .ensures)
+
+returns-2 : tie.Need-returns-2
+returns-2 c = search needs
 
 pub node-set-spec : {M : Type 1} → statement M
 node-set-spec =
     tie.close
     (tie.spec
-    Inv-loop
-    μ-loop
     set-size-requires
-    loop-holds
-    slice-aggregate-pass
-    pass-requires
-    loop-less
-    loop-again
-    returns)
+    slice-aggregate-work-out
+    slice-aggregate-work-out-2
+    work-out-requires
+    returns
+    slice-aggregate-work-out-3
+    slice-aggregate-work-out-4
+    work-out-requires-2
+    returns-2)
