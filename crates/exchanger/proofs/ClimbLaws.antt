@@ -1,61 +1,75 @@
 -- Laws of the loop over the replacement's root and the nodes behind it: one node, and the loop's invariant. Assumes nothing.
-use mathlib.Core.Path.{_≡_, refl, ap, ap₂, _∙_, sym, subst}
-use mathlib.Core.Bool.{Bool, true, false, cond}
-use mathlib.Core.List.{List, _++_}
+use mathlib.Core.Path.{_≡_, ap, ap₂, _∙_, sym, subst}
+use mathlib.Core.Bool.{Bool, true, false, not, cond}
+use mathlib.Core.List.{List, _++_, append-assoc}
 use Prim.Native.Nat.{ℕ, suc, _+_, _-_, _*_, _<_, _≤_}
 use native.Mathlib.Omega.{arith}
-use lib.ListN.{length, getD, take, drop, replicate}
-use lib.Seq.{paste}
+use lib.ListN.{length, getD, take, drop, replicate, take-append-drop}
+use lib.Seq.{paste, take-take, drop-drop}
 use lib.Dec.{ltb}
 use borrow.Author.Tests.{lt-ltb, le-ltb}
 use Rattle.words.specs.Postfix.{arity}
 use Rattle.automaton.specs.StateSet.{StateSet}
 use Rattle.operations.specs.Marks.{sizeOf, storedSet, sameWords}
+use Rattle.operations.proofs.MarksLaws.{same-words}
 use Rattle.matcher.specs.Nodes.{setFrom, markedAt, AtNode}
-use Rattle.matcher.proofs.WriteLaws.{set-front, set-length, set-written}
+use Rattle.matcher.proofs.ReadyLaws.{row-inside, words-few, size-few}
+use Rattle.matcher.proofs.WriteLaws.{set-front, set-written}
 use Rattle.exchanger.specs.declared.climb.Rise.{Rise}
-use Rattle.exchanger.specs.Climbing.{updatedAt, recomputeAt, climbStep, climbFrom}
+use Rattle.exchanger.specs.Climbing.{recomputeAt, climbStep, climbFrom}
 
 -- ---- one node is recomputed
 
+-- writing the words that stand there changes nothing
+paste-same : (l : List ℕ) (at n : ℕ) → paste l at (take n (drop at l)) n ≡ l
+paste-same l at n =
+    ap₂ (λ (u v : List ℕ). take at l ++ u ++ v) (take-take n n (drop at l) (omega arith)) (sym (drop-drop n at l))
+    ∙ append-assoc (take at l) (take n (drop at l)) (drop n (drop at l))
+    ∙ ap (λ (u : List ℕ). take at l ++ u) (take-append-drop n (drop at l)) ∙ take-append-drop at l
+
 module _ (a table ch : List ℕ) (i : ℕ) (marks : List ℕ) where
+  abbrev new : StateSet
+  new = setFrom a table ch marks i
+
   abbrev same : Bool
   same = sameWords (setFrom a table ch marks i) (storedSet (sizeOf table) marks i)
 
+  marked-same : same ≡ true → markedAt a table ch i marks ≡ marks
+  unfolding markedAt storedSet
+  marked-same h =
+      ap (λ (r : StateSet). paste marks (i * sizeOf table) r (sizeOf table)) (same-words new (storedSet (sizeOf table) marks i) h)
+      ∙ paste-same marks (i * sizeOf table) (sizeOf table)
+
   pub recomputed-same : same ≡ true → (marks, false) ≡ recomputeAt a table ch i marks
   unfolding recomputeAt
-  recomputed-same h = sym (ap (λ (x : Bool). cond x (marks, false) (markedAt a table ch i marks, true)) h)
+  recomputed-same h = sym (ap₂ (λ (m : List ℕ) (x : Bool). (m, not x)) (marked-same h) h)
 
   pub recomputed-changed : same ≡ false → (markedAt a table ch i marks, true) ≡ recomputeAt a table ch i marks
   unfolding recomputeAt
-  recomputed-changed h = sym (ap (λ (x : Bool). cond x (marks, false) (markedAt a table ch i marks, true)) h)
+  recomputed-changed h = sym (ap (λ (x : Bool). (markedAt a table ch i marks, not x)) h)
 
--- the set's words are compared with those in the marks, and written where they differ
-module _ (marks : List ℕ) (at : ℕ) (set : StateSet) (b : Bool) (q : b ≡ sameWords set (take (at + length set - at) (drop at marks))) where
-  test : sameWords set (take (length set) (drop at marks)) ≡ b
-  test = let n : at + length set - at ≡ length set = omega arith in sym (q ∙ ap (λ (k : ℕ). sameWords set (take k (drop at marks))) n)
+-- the node's words lie inside the marks, and their places are small numbers
+module _ {a table index ch : List ℕ} {i : ℕ} {marks array : List ℕ} {height : ℕ} (g : AtNode a table index ch i marks array height)
+    (size : ℕ) (s : size ≡ sizeOf table) where
+  pub row-room : i * size + size ≤ length marks
+  row-room = rw s (row-inside i (length ch) (sizeOf table) (length marks) (g .inside) (g .workable .marks-room))
 
-  pub update-same : b ≡ true → (marks, false) ≡ updatedAt marks at set
-  unfolding updatedAt
-  update-same h = sym (ap (λ (x : Bool). cond x (marks, false) (paste marks at set (length set), true)) (test ∙ h))
+  pub row-small : i * size + size ≤ 131072
+  row-small = row-inside i (length ch) size 131072 (g .inside) (words-few (length ch) size (g .workable .few) (rw s (size-few (g .workable))))
 
-  pub update-changed : b ≡ false → (marks′ : List ℕ) → marks′ ≡ paste marks at set (length set) → (marks′, true) ≡ updatedAt marks at set
-  unfolding updatedAt
-  update-changed h marks′ p =
-      ap (λ (m : List ℕ). (m, true)) p
-      ∙ sym (ap (λ (x : Bool). cond x (marks, false) (paste marks at set (length set), true)) (test ∙ h))
-
-pub node-updated : {a table index ch : List ℕ} {i : ℕ} {marks array : List ℕ} {height : ℕ} → AtNode a table index ch i marks array height
+-- the first words of the set that is worked out are compared with the node's words in the marks, and written there
+pub node-recomputed : {a table index ch : List ℕ} {i : ℕ} {marks array : List ℕ} {height : ℕ} → AtNode a table index ch i marks array height
     → (set : StateSet) → set ≡ setFrom a table ch marks i ++ replicate (32 - sizeOf table) 0 → (size : ℕ) → size ≡ sizeOf table
-    → (r : List ℕ × Bool) → r ≡ updatedAt marks (i * size) (take size set) → r ≡ recomputeAt a table ch i marks
-unfolding updatedAt recomputeAt storedSet
-node-updated {a} {table} {index} {ch} {i} {marks} g set e size s r p =
-    let new = take size set in
-    let old : take (length new) (drop (i * size) marks) ≡ take (sizeOf table) (drop (i * sizeOf table) marks) =
-    ap (λ (k : ℕ). take k (drop (i * size) marks)) (sym (set-length g set e size s)) ∙ ap (λ (k : ℕ). take k (drop (i * k) marks)) s in
-    p
-    ∙ ap₂ (λ (b : Bool) (m : List ℕ). cond b (marks, false) (m, true))
-    (ap₂ sameWords (set-front g set e size s) old) (set-written g set e size s (paste marks (i * size) new (length new)) refl)
+    → (b : Bool) → b ≡ sameWords (take size set) (take (i * size + size - i * size) (drop (i * size) marks))
+    → (marks′ : List ℕ) → marks′ ≡ paste marks (i * size) (take size set) (length (take size set))
+    → (marks′, not b) ≡ recomputeAt a table ch i marks
+unfolding recomputeAt storedSet
+node-recomputed {a} {table} {index} {ch} {i} {marks} g set e size s b q marks′ p =
+    let n : i * size + size - i * size ≡ size = omega arith in
+    ap₂ (λ (m : List ℕ) (x : Bool). (m, not x)) (set-written g set e size s marks′ p)
+    (q
+    ∙ ap₂ (λ (l : StateSet) (k : ℕ). sameWords l (take k (drop (i * size) marks))) (set-front g set e size s) n
+    ∙ ap (λ (k : ℕ). sameWords (setFrom a table ch marks i) (take k (drop (i * k) marks))) s)
 
 -- ---- one node is passed
 

@@ -1,26 +1,19 @@
 -- What the loop over the replacement's root and the nodes behind it does, node by node. These definitions serve inner functions. Assumes
 -- nothing.
 use Prim.Native.Nat.{ℕ, zero, suc, _+_, _-_, _≤_}
-use mathlib.Core.Bool.{Bool, true, false, cond}
+use mathlib.Core.Bool.{Bool, true, not, cond}
 use mathlib.Core.List.{List}
-use lib.ListN.{length, getD, take, drop}
-use lib.Seq.{paste}
+use lib.ListN.{length, getD}
 use lib.Dec.{ltb}
 use Rattle.words.specs.Postfix.{arity}
-use Rattle.automaton.specs.StateSet.{StateSet}
 use Rattle.operations.specs.Marks.{sizeOf, storedSet, sameWords}
 use Rattle.matcher.specs.Nodes.{setFrom, markedAt, AtNode, AtNodes}
 use Rattle.exchanger.specs.declared.climb.Rise.{Rise}
 
--- A set's words are written from index `at` on, and whether they differ from those that stand there.
-unfoldable pub updatedAt : List ℕ → ℕ → StateSet → List ℕ × Bool
-updatedAt marks at set =
-    cond (sameWords set (take (length set) (drop at marks))) (marks, false) (paste marks at set (length set), true)
-
--- Node i is recomputed. If its words are those that stand in the marks, nothing changes; otherwise they are written.
+-- Node i is recomputed: its words are written, and whether they differ from those that stood there.
 unfoldable pub recomputeAt : List ℕ → List ℕ → List ℕ → ℕ → List ℕ → List ℕ × Bool
 recomputeAt a table ch i marks =
-    cond (sameWords (setFrom a table ch marks i) (storedSet (sizeOf table) marks i)) (marks, false) (markedAt a table ch i marks, true)
+    (markedAt a table ch i marks, not (sameWords (setFrom a table ch marks i) (storedSet (sizeOf table) marks i)))
 
 -- Of the trees that the nodes before i make, the last `reach` are the one that holds the replacement and those above it. A
 -- node that takes fewer is no ancestor, and nothing is done. Any other is an ancestor, or the replacement's root, before which

@@ -1,9 +1,9 @@
 // The replacement's root and then its ancestors, nearest first: each is recomputed, until one keeps its words.
 ghost use mathlib.Core.Path.{_≡_};
-ghost use Prim.Native.Nat.{_+_, _-_, _≤_};
+ghost use Prim.Native.Nat.{_-_};
 ghost use lib.ListN.{length};
 ghost use Rattle.matcher.specs.Nodes.{AtNode};
-ghost use Rattle.exchanger.specs.Climbing.{updatedAt, recomputeAt, climbStep, climbFrom, foot, Climbable, ClimbStart};
+ghost use Rattle.exchanger.specs.Climbing.{recomputeAt, climbStep, climbFrom, foot, Climbable, ClimbStart};
 use matcher::nodes::node_at;
 use matcher::nodes::push_root;
 use slices::sets::same_words;
@@ -17,19 +17,6 @@ pub struct Rise {
     pub reach: usize,
     pub recomputed: usize,
     pub goes: bool,
-}
-
-// Writes the words of one set from index `at` on, unless the same stand there. Answers whether they changed.
-fn update_set(marks: &mut [u32], at: usize, set: &[u32]) -> bool
-    requires { ⌜ at + length (now set) ≤ length (now marks) ⌝ }
-    ensures { λ r. ⌜ (now (marks .exit), r) ≡ updatedAt (now (marks .entry)) at (now (set .entry)) ⌝ }
-{
-    let stored = &marks[at..at + set.len()];
-    if same_words(set, stored) {
-        return false;
-    }
-    write_set_at(marks, at, set);
-    true
 }
 
 // Recomputes node i from the marks as they stand; the index is the table's. The node's own words there are still those stored
@@ -51,8 +38,12 @@ fn recompute(
         ⌝ }
 {
     let size = set_size(table);
+    let at = i * size;
     let set = node_at(alphabet, table, index, nodes, i, marks, stack, height);
-    update_set(marks, i * size, &set[..size])
+    let new = &set[..size];
+    let same = same_words(new, &marks[at..at + size]);
+    write_set_at(marks, at, new);
+    !same
 }
 
 // Goes past node i. A node that takes only roots above the one whose tree holds the replacement is no ancestor of it: its
