@@ -28,25 +28,20 @@ paste-same l at n =
     ∙ ap (λ (u : List ℕ). take at l ++ u) (take-append-drop n (drop at l)) ∙ take-append-drop at l
 
 module _ (a table ch : List ℕ) (i : ℕ) (marks : List ℕ) where
-  abbrev new : StateSet
-  new = setFrom a table ch marks i
-
-  abbrev same : Bool
-  same = sameWords (setFrom a table ch marks i) (storedSet (sizeOf table) marks i)
-
-  marked-same : same ≡ true → markedAt a table ch i marks ≡ marks
+  marked-same : sameWords (setFrom a table ch marks i) (storedSet (sizeOf table) marks i) ≡ true → markedAt a table ch i marks ≡ marks
   unfolding markedAt storedSet
   marked-same h =
-      ap (λ (r : StateSet). paste marks (i * sizeOf table) r (sizeOf table)) (same-words new (storedSet (sizeOf table) marks i) h)
+      ap (λ (r : StateSet). paste marks (i * sizeOf table) r (sizeOf table)) (same-words (setFrom a table ch marks i) (storedSet (sizeOf table) marks i) h)
       ∙ paste-same marks (i * sizeOf table) (sizeOf table)
 
-  pub recomputed-same : same ≡ true → (marks, false) ≡ recomputeAt a table ch i marks
+  pub recomputed-is : (b : Bool) → sameWords (setFrom a table ch marks i) (storedSet (sizeOf table) marks i) ≡ b
+      → (markedAt a table ch i marks, not b) ≡ recomputeAt a table ch i marks
   unfolding recomputeAt
-  recomputed-same h = sym (ap₂ (λ (m : List ℕ) (x : Bool). (m, not x)) (marked-same h) h)
+  recomputed-is b h = sym (ap (λ (x : Bool). (markedAt a table ch i marks, not x)) h)
 
-  pub recomputed-changed : same ≡ false → (markedAt a table ch i marks, true) ≡ recomputeAt a table ch i marks
-  unfolding recomputeAt
-  recomputed-changed h = sym (ap (λ (x : Bool). (markedAt a table ch i marks, not x)) h)
+  pub recomputed-same : sameWords (setFrom a table ch marks i) (storedSet (sizeOf table) marks i) ≡ true
+      → (marks, false) ≡ recomputeAt a table ch i marks
+  recomputed-same h = ap (λ (m : List ℕ). (m, false)) (sym (marked-same h)) ∙ recomputed-is true h
 
 -- the node's words lie inside the marks, and their places are small numbers
 module _ {a table index ch : List ℕ} {i : ℕ} {marks array : List ℕ} {height : ℕ} (g : AtNode a table index ch i marks array height)

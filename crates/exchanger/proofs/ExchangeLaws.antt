@@ -1,14 +1,14 @@
 -- The loops of an accepted Exchange leave the state sets of the outcomes in the marks and answer how many are recomputed,
 -- whatever the stored marks are; and the words of the chapter are those of the new tree. Assumes nothing.
 use mathlib.Core.Path.{_≡_, refl, ap, ap₂, _∙_, sym, subst}
-use mathlib.Core.Bool.{Bool, true, false, cond}
+use mathlib.Core.Bool.{Bool, true, false, not, cond}
 use mathlib.Core.List.{List, [], _∷_, _++_, flatten, map}
 use Prim.Native.Nat.{ℕ, zero, suc, _+_, _-_, _*_, _<_, _≤_}
 use native.Mathlib.Omega.{arith}
 use native.Mathlib.Nat.{add-zero}
 use native.Mathlib.Numerals.{add-one}
-use lib.ListN.{length, getD, take, drop, set, length-map, length-append, List·getD-append}
-use lib.Seq.{paste, slice, getD-drop, getD-append-add, getD-set-same, getD-set-other, set-getD, take-take}
+use lib.ListN.{length, getD, take, drop, length-map, length-append, List·getD-append}
+use lib.Seq.{paste, slice, getD-drop, getD-append-add, getD-set-same, getD-set-other, take-take}
 use Rattle.words.specs.Lists.{listFrom}
 use Rattle.words.specs.Postfix.{startOf, isAncestor, splice}
 use Rattle.words.proofs.TestLaws.{Tested, holds, fails, tested}
@@ -18,7 +18,7 @@ use Rattle.words.proofs.HoldingLaws.{holding-first}
 use Rattle.automaton.specs.StateSet.{StateSet}
 use Rattle.operations.specs.Marks.{sizeOf, storedSet, sameWords, refit}
 use Rattle.operations.specs.Exchange.{setIn, recomputedIn, outcomesAfter, fault, newTree, outcomes}
-use Rattle.operations.proofs.MarksLaws.{length-flatten, take-refit, same-words}
+use Rattle.operations.proofs.MarksLaws.{length-flatten, take-refit}
 use Rattle.operations.proofs.RuleLaws.{follows-length, follows-outcomes}
 use Rattle.operations.proofs.LoopLaws.{setAt, upwards}
 use Rattle.operations.proofs.LoopLaws as loops
@@ -26,9 +26,9 @@ use Rattle.operations.proofs.ExchangeLoops.{movedSets, replacedSets, exchangedS
 use Rattle.matcher.specs.Nodes.{setFrom, markedFrom}
 use Rattle.matcher.proofs.MarkLaws.{Holding, holding-set, setFrom-rows, markedAt-rows}
 use Rattle.exchanger.specs.declared.climb.Rise.{Rise}
-use Rattle.exchanger.specs.Climbing.{climbFrom, foot}
+use Rattle.exchanger.specs.Climbing.{climbStep, climbFrom, foot}
 use Rattle.exchanger.specs.Exchanging.{exchangedFrom}
-use Rattle.exchanger.proofs.ClimbLaws.{recomputed-same, recomputed-changed, step-ancestor, climb-goes, climb-stops}
+use Rattle.exchanger.proofs.ClimbLaws.{recomputed-is, step-ancestor, climb-goes, climb-stops}
 use Rattle.exchanger.proofs.UpwardLaws.{Upward, Same, climb-upwards}
 use Rattle.exchanger.proofs.TailLaws.{tail-filled}
 use Rattle.exchanger.proofs.CallLaws.{Numbers, numbers, accepted-call, length-used, chapter-fits}
@@ -76,7 +76,7 @@ module _ (a table chapter marks : List ℕ) (n e : ℕ) (xs : List ℕ) (ok : fa
   abbrev replaced : ℕ → List StateSet
   replaced = replacedSets a table stored used e xs gap
 
-  -- the node before the replacement's root, counted from where it begins
+  -- how many nodes the replacement has below its root
   abbrev m : ℕ
   m = length xs - 1
 
@@ -168,13 +168,6 @@ module _ (a table chapter marks : List ℕ) (n e : ℕ) (xs : List ℕ) (ok : fa
     tests : sameWords (setAt rows (s + length xs - 1)) (stored e) ≡ sameWords new old
     tests = ap₂ sameWords (root-is ∙ sym new-is) (sym old-is)
 
-    -- if they are the same, the sets are those that stand there
-    rows-kept : sameWords new old ≡ true → rows ≡ replaced m
-    unfolding replacedSets
-    rows-kept b =
-        let same : v ≡ setAt (replaced m) (s + m) = sym new-is ∙ same-words new old b ∙ old-is ∙ sym (root-kept m (omega arith)) in
-        ap (λ (r : StateSet). set (replaced m) (s + m) r) same ∙ set-getD (replaced m) (s + m) []
-
     behind : (t : Rise) → t .reach ≡ 1 → t .recomputed ≡ length xs
         → Same a table tree used e rest above
         (climbFrom a table tree (suc (s + m)) left work t) (upwards a table tree above (s + length xs) left rows (length xs))
@@ -213,11 +206,12 @@ module _ (a table chapter marks : List ℕ) (n e : ℕ) (xs : List ℕ) (ok : fa
         ap₂ (λ (i c : ℕ). climbFrom a table tree i (length tree - i) (markedFrom a table tree s c moved) (foot c)) at count
         ∙ ap (λ (i : ℕ). climbFrom a table tree (s + m) i before (foot m)) more
 
-    onward : sameWords new old ≡ false → climbed ≡ climbFrom a table tree (suc (s + m)) left work (record { reach = 1; recomputed = m + 1; goes = true })
+    -- the root is worked out, and the loop is behind it
+    step-root : (b : Bool) → sameWords new old ≡ b
+        → (work, record { reach = 1; recomputed = m + 1; goes = not b }) ≡ climbStep a table tree (s + m) before (foot m)
     unfolding markedFrom
-    onward b =
-        climb-goes a table tree (s + m) before (foot m) left work (record { reach = 1; recomputed = m + 1; goes = true })
-        (step-ancestor a table tree (s + m) before (foot m) _ refl (omega arith) (work, true) (recomputed-changed a table tree (s + m) before b)) refl
+    step-root b h =
+        step-ancestor a table tree (s + m) before (foot m) _ refl (omega arith) (work, not b) (recomputed-is a table tree (s + m) before b h)
 
     abbrev up : List StateSet × ℕ
     up = upwards a table tree above (s + length xs) left rows (length xs)
@@ -239,13 +233,9 @@ module _ (a table chapter marks : List ℕ) (n e : ℕ) (xs : List ℕ) (ok : fa
 
         go : Tested (sameWords new old) → Same a table tree used e rest above climbed (cond (sameWords new old) (rows, length xs) up)
         go (holds b) =
-            let t : Rise = record { reach = 1; recomputed = m + 1; goes = false } in
-            let p : climbed ≡ (before, m + 1) =
-            climb-stops a table tree (s + m) before (foot m) left before t
-            (step-ancestor a table tree (s + m) before (foot m) _ refl (omega arith) (before, false) (recomputed-same a table tree (s + m) before b)) refl in
-            rw (p, b) (record { sets = rw (rows-kept b) before-holds; count = count })
+            rw (climb-stops a table tree (s + m) before (foot m) left work _ (step-root true b) refl, b) (record { sets = work-holds; count = count })
         go (fails b) =
-            rw (onward b, b) (behind (record { reach = 1; recomputed = m + 1; goes = true }) refl count)
+            rw (climb-goes a table tree (s + m) before (foot m) left work _ (step-root false b) refl, b) (behind _ refl count)
 
     pub left-outcomes : (marks′ : List ℕ) (count : ℕ)
         → (marks′, count) ≡ exchangedFrom a table (splice a (take n chapter) e xs) (startOf a (take n chapter) e) (startOf a (take n chapter) e + length xs - 1) moved

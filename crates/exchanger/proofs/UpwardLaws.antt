@@ -19,7 +19,7 @@ use Rattle.matcher.specs.Nodes.{setFrom, markedAt}
 use Rattle.matcher.proofs.MarkLaws.{Holding, holding-set, setFrom-rows, markedAt-rows}
 use Rattle.exchanger.specs.declared.climb.Rise.{Rise}
 use Rattle.exchanger.specs.Climbing.{climbFrom}
-use Rattle.exchanger.proofs.ClimbLaws.{recomputed-same, recomputed-changed, step-beside, step-ancestor, climb-goes, climb-stops}
+use Rattle.exchanger.proofs.ClimbLaws.{recomputed-is, recomputed-same, step-beside, step-ancestor, climb-goes, climb-stops}
 
 -- two functions that agree from i and from j on
 module _ {A : Type 0} (f g : ℕ → A) (i j : ℕ) (h : (t : ℕ) → f (i + t) ≡ g (j + t)) where
@@ -138,7 +138,7 @@ module _ (a table ch used : List ℕ) (e : ℕ) (rest : List ℕ) (above : ℕ �
             let rows′ = set rows i (loops.setFrom a table ch i rows) in
             let p : climbs i (suc n) marks t ≡ climbs (suc i) n marks′ t′ =
             climb-goes a table ch i marks t n marks′ t′
-            (step-ancestor a table ch i marks t r refl (omega arith) (marks′, true) (recomputed-changed a table ch i marks b)) refl in
+            (step-ancestor a table ch i marks t r refl (omega arith) (marks′, true) (recomputed-is a table ch i marks false b)) refl in
             let q : ups i (suc n) rows (t .recomputed) ≡ ups (suc i) n rows′ (t .recomputed + 1) =
             upwards-onward a table ch above i n rows (t .recomputed) up (tests ∙ b) in
             rw (p, q)

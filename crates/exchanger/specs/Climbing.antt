@@ -1,5 +1,5 @@
--- What the loop over the replacement's root and the nodes behind it does, node by node. These definitions serve inner functions. Assumes
--- nothing.
+-- What the loop over the replacement's root and the nodes behind it does, node by node. These definitions serve inner
+-- functions. Assumes nothing.
 use Prim.Native.Nat.{ℕ, zero, suc, _+_, _-_, _≤_}
 use mathlib.Core.Bool.{Bool, true, not, cond}
 use mathlib.Core.List.{List}
