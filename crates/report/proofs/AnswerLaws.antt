@@ -20,7 +20,7 @@ use Rattle.automaton.specs.Numbering.{compiled}
 use Rattle.automaton.specs.Table.{noTable}
 use Rattle.automaton.proofs.CompiledTable.{table-most, compiled-isTable}
 use Rattle.operations.specs.Answer.{refused, accepted}
-use Rattle.operations.specs.Compile.{compiledTable, tooManyStates, tableTooLong, compileFault, compileAnswer, compileExit}
+use Rattle.operations.specs.Compile.{compiledTable, tooManyStates, tableTooLong, compileFault, compileAnswer}
 use Rattle.operations.specs.Marks.{sizeOf, finalOf, nodeSets}
 use Rattle.operations.specs.Run.{wrongCount, fewMarks, runFault, runMarks, runAnswer, runExit}
 use Rattle.operations.specs.Listing.{listTooShort, listFault, matchesIn, matchesOf, listAnswer, listExit}
@@ -90,12 +90,6 @@ module _ (a e : List ℕ) where
 
     known : CompileAccepted a e slice k
     known = compile-accepted a e slice k (sym h)
-
-    pub compiled-count : k ≡ length (compiledTable a e)
-    compiled-count = known .count
-
-    pub compiled-table : take k (compileExit a e slice) ≡ compiledTable a e
-    compiled-table = known .table
 
     -- the refusals that are left
     pub left-fault : marklistFault a e ch ≡ refusal ((9, wrongChapter ch) ∷ treeRefusals a ch)

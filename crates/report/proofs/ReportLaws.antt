@@ -11,6 +11,7 @@ use Rattle.operations.specs.Compile.{compiledTable, compileAnswer, compileExit}
 use Rattle.operations.specs.Run.{runAnswer, runExit}
 use Rattle.operations.specs.Listing.{matchesOf, listFault, listAnswer, listExit}
 use Rattle.operations.proofs.AcceptedLaws.{accepted-values}
+use Rattle.operations.proofs.CompileLaws.{CompileAccepted, compile-accepted}
 use Rattle.compiler.specs.declared.Compiled.{Compiled}
 use Rattle.compiler.specs.declared.Compiled.the-variants.{Table, Refused as Compiled·Refused}
 use Rattle.compiler.specs.Answers.{answerIn}
@@ -27,13 +28,13 @@ use Rattle.report.specs.Writing.{Written}
 use Rattle.report.proofs.WritingLaws.{written-same, written-whole}
 use Rattle.report.proofs.KeptLaws.{complete-output, early-output}
 use Rattle.report.proofs.OutputLength.{output-short}
-use Rattle.report.proofs.AnswerLaws.{compile-refused, compiled-count, compiled-table, chapter-over, run-refused, list-accepted, listed-long, listed-output}
+use Rattle.report.proofs.AnswerLaws.{compile-refused, chapter-over, run-refused, list-accepted, listed-long, listed-output}
 
 -- the slices as they are lent first
 abbrev zeros : ℕ → List ℕ
 zeros n = replicate n 0
 
-many : (n : ℕ) → length (zeros n) ≡ n
+pub many : (n : ℕ) → length (zeros n) ≡ n
 many n = length-replicate {A = ℕ} n 0
 
 -- ---- the whole output, in a slice that it fits
@@ -63,24 +64,27 @@ module _ (a e ch : List ℕ) where
       let g : refused n ≡ compileAnswer a e (zeros 2048) = rw q at h in
       written-same w (sym (compile-refused a e ch (zeros 2048) n (many 2048) g))
 
-module _ (a e : List ℕ) {table : List ℕ} {k : ℕ} (r : Compiled) (told : r ≡ Table k) (h : answerIn r ≡ compileAnswer a e (zeros 2048))
-    (exit : table ≡ compileExit a e (zeros 2048)) where
-  answer : accepted (k ∷ []) ≡ compileAnswer a e (zeros 2048)
+module _ (a e slice : List ℕ) {table : List ℕ} {k : ℕ} (r : Compiled) (told : r ≡ Table k) (h : answerIn r ≡ compileAnswer a e slice)
+    (exit : table ≡ compileExit a e slice) where
+  answer : accepted (k ∷ []) ≡ compileAnswer a e slice
   answer = rw told at h
 
+  known : CompileAccepted a e slice k
+  known = compile-accepted a e slice k (sym answer)
+
   table-is : take k table ≡ compiledTable a e
-  table-is = ap (take k) exit ∙ compiled-table a e [] (zeros 2048) k (many 2048) answer
+  table-is = ap (take k) exit ∙ known .table
 
   pub table-long : k ≡ length (take k table)
-  table-long = compiled-count a e [] (zeros 2048) k (many 2048) answer ∙ sym (ap length table-is)
+  table-long = known .count ∙ sym (ap length table-is)
 
   pub table-fits : k ≤ length table
   table-fits = let l = length-take k table in omega (arith, table-long)
 
-  pub compiles : Compiles a e (take k table)
-  compiles = record {
-    slice = zeros 2048;
-    room = many 2048;
+  pub compiles : length slice ≡ 2048 → Compiles a e (take k table)
+  compiles room = record {
+    slice = slice;
+    room = room;
     answer = ap (λ (n : ℕ). accepted (n ∷ [])) (sym table-long) ∙ answer;
     same = table-is;
   }

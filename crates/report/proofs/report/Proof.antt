@@ -1,7 +1,7 @@
 -- `report` meets its contract: each return writes what the laws of Compile say of its answer, and the output fits the slice,
 -- so all of it is written. Assumes nothing.
 use borrow.Author.Tests.{not-true, not-false}
-use Rattle.report.proofs.ReportLaws.{complete-whole, early-whole, refused-compiled, table-long, table-fits, compiles}
+use Rattle.report.proofs.ReportLaws.{complete-whole, early-whole, refused-compiled, table-long, table-fits, compiles, many}
 use borrow.Author.Needs.{needs}
 use Rattle.report.proofs.report.Statement.{statement}
 use Rattle.report.proofs.report.Tie as tie
@@ -25,10 +25,10 @@ enum-known-size : tie.Need-enum-known-size
 enum-known-size c = search needs
 
 array-share-prefix-table : tie.Need-array-share-prefix-table
-array-share-prefix-table c = table-fits _ _ _ (c .before .size .given .1) (c .before .before .before .before .compile .ensures .0) (c .before .before .before .before .compile .ensures .1)
+array-share-prefix-table c = table-fits _ _ _ _ (c .before .size .given .1) (c .before .before .before .before .compile .ensures .0) (c .before .before .before .before .compile .ensures .1)
 
 slice-aggregate-report-chapter : tie.Need-slice-aggregate-report-chapter
-slice-aggregate-report-chapter c = table-long _ _ _ (c .before .before .size .given .1) (c .before .before .before .before .before .compile .ensures .0) (c .before .before .before .before .before .compile .ensures .1)
+slice-aggregate-report-chapter c = table-long _ _ _ _ (c .before .before .size .given .1) (c .before .before .before .before .before .compile .ensures .0) (c .before .before .before .before .before .compile .ensures .1)
 
 report-chapter-requires : tie.Need-report-chapter-requires
 report-chapter-requires c κs = tt
@@ -46,7 +46,7 @@ returns-2 : tie.Need-returns-2
 returns-2 c =
     let call = c .before .before .before .before .before .before .before .before .before .compile in
     complete-whole _ _ _ _ (c .before .before .before .before .before .before .before .before .before .before .before .before .before .before .before .before .pre) (not-false _ (c .before .before .before .before .before .before .before .before .before .before .before .if1 .left))
-    (c .before .before .report-chapter .ensures _ (compiles _ _ _ (c .before .before .before .before .before .before .size .given .1) (call .ensures .0) (call .ensures .1)))
+    (c .before .before .report-chapter .ensures _ (compiles _ _ _ _ (c .before .before .before .before .before .before .size .given .1) (call .ensures .0) (call .ensures .1) (many 2048)))
 
 same-length-3 : tie.Need-same-length-3
 same-length-3 c = c .before .before .write-refused2 .kept .0
