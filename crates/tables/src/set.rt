@@ -49,14 +49,14 @@ fn mask(b: usize) -> u32
     MASKS[b]
 }
 
-// Whether the set has state s; a state beyond the set's words is not in it.
+// Whether the set has state s; a state beyond the set's words is not in it. The bit is shifted to the lowest place and not
+// masked, since a constant table is copied at each use.
 pub fn contains(set: &[u32], s: usize) -> bool
     ensures { λ r. ⌜ r ≡ StateSet·contains (now (set .entry)) s ⌝ }
 {
     let at = s / WORD_BITS;
     if at < set.len() {
-        let one = mask(s % WORD_BITS);
-        return set[at] & one != 0;
+        return (set[at] >> (s % WORD_BITS) as u32) % 2 == 1;
     }
     false
 }
