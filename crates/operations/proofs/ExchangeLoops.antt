@@ -1,5 +1,5 @@
 -- What the loops of Exchange do, over the list of state sets: the sets move, those of the replacement are recomputed node by
--- node, its root is compared with the set saved before the moves, and the loop behind goes upwards. The sets are then those of
+-- node, its root is compared with the old element's set as it was stored, and the loop behind goes upwards. The sets are then those of
 -- the outcomes, and the count is theirs, whatever the stored sets are. Assumes nothing.
 use mathlib.Core.Path.{_≡_, refl, ap, ap₂, _∙_, sym, subst}
 use mathlib.Core.Bool.{true, cond}
@@ -43,7 +43,7 @@ module _ (a table : List ℕ) (stored : ℕ → StateSet) (ch : List ℕ) (e : �
   replacedSets zero = movedSets
   replacedSets (suc k) = set (replacedSets k) (s + k) (setFrom a table tree (s + k) (replacedSets k))
 
-  -- all sets, and how many are recomputed; the old element's set was saved before the moves
+  -- all sets, and how many are recomputed; the old element's set is the one stored before the moves
   unfoldable pub exchangedSets : List StateSet × ℕ
   exchangedSets =
       cond (sameWords (setAt (replacedSets (length x)) (s + length x - 1)) (stored e))
