@@ -50,15 +50,7 @@ copied-behind s₀ at ws n s k i g l room enough =
 pub zero-at : (n k : ℕ) → k < n → _≡_ {A = ℕ} 0 (getD (replicate n 0) k 0)
 zero-at n k h = sym (getD-replicate n k 0 0 h)
 
-pub drop-replicate : (n m x : ℕ) → drop n (replicate m x) ≡ replicate (m - n) x
-drop-replicate zero m x = ap (λ (i : ℕ). replicate i x) (let e : m ≡ m - 0 = omega arith in e)
-drop-replicate (suc n) zero x = ap (λ (i : ℕ). replicate i x) (let e : 0 ≡ 0 - suc n = omega arith in e)
-drop-replicate (suc n) (suc m) x = drop-replicate n m x ∙ ap (λ (i : ℕ). replicate i x) (let e : m - n ≡ suc m - suc n = omega arith in e)
-
 -- ---- all words copied to the front
 
 pub paste-front : (s₀ ws : List ℕ) → paste s₀ 0 ws (length ws) ≡ ws ++ drop (length ws) s₀
 paste-front s₀ ws = ap₂ (λ (l : List ℕ) (i : ℕ). l ++ drop i s₀) (take-length ws) (zero-add (length ws))
-
-pub paste-zeros : (m : ℕ) (ws : List ℕ) → paste (replicate m 0) 0 ws (length ws) ≡ ws ++ replicate (m - length ws) 0
-paste-zeros m ws = paste-front (replicate m 0) ws ∙ ap (λ (l : List ℕ). ws ++ l) (drop-replicate (length ws) m 0)

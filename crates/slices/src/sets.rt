@@ -1,14 +1,14 @@
-// State sets in the marks: one is written or read, two are compared, and the ones of all are counted.
+// State sets in the marks: one is written, two are compared, and the ones of all are counted.
 ghost use mathlib.Core.Path.{_≡_};
 ghost use mathlib.Core.List.{_++_};
-ghost use Prim.Native.Nat.{_+_, _-_, _≤_};
-ghost use lib.ListN.{length, drop, replicate};
+ghost use Prim.Native.Nat.{_+_, _≤_};
+ghost use lib.ListN.{length, drop};
 ghost use lib.Seq.{paste};
 ghost use Rattle.operations.specs.Marks.{sameWords};
 ghost use Rattle.operations.specs.Run.{cellsIn};
 
 // Writes the words of one set to the front of the part that is lent.
-pub fn write_set(part: &mut [u32], set: &[u32])
+fn write_set(part: &mut [u32], set: &[u32])
     requires { ⌜ length (now set) ≤ length (now part) ⌝ }
     ensures { λ _. ⌜ now (part .exit) ≡ now (set .entry) ++ drop (length (now (set .entry))) (now (part .entry)) ⌝ }
 {
@@ -25,20 +25,6 @@ pub fn write_set_at(marks: &mut [u32], at: usize, set: &[u32])
     ensures { λ _. ⌜ now (marks .exit) ≡ paste (now (marks .entry)) at (now (set .entry)) (length (now (set .entry))) ⌝ }
 {
     write_set(&mut marks[at..], set);
-}
-
-// The words of one set, and zeros behind them.
-pub fn read_set(part: &[u32]) -> [u32; 32]
-    requires { ⌜ length (now part) ≤ 32 ⌝ }
-    ensures { λ r. ⌜ r ≡ now (part .entry) ++ replicate (32 - length (now (part .entry))) 0 ⌝ }
-{
-    let mut set = [0u32; 32];
-    let mut k = 0;
-    while k < part.len() {
-        set[k] = part[k];
-        k += 1;
-    }
-    set
 }
 
 // Whether two sets have the same words.
