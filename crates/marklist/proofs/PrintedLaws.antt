@@ -6,7 +6,8 @@ use Prim.Native.Nat.{ℕ, _≤_, min}
 use native.Mathlib.Omega.{arith}
 use lib.ListN.{length, getD, take, drop, replicate, length-replicate}
 use lib.Seq.{length-sets, take-all, length-take-le}
-use Rattle.report.specs.Output.{refusedLine, outputOf}
+use Rattle.lines.specs.Line.{refusedLine}
+use Rattle.report.specs.Output.{outputOf}
 use Rattle.report.specs.Input.{wordsIn, complete, alphabetIn, ruleIn, chapterIn, programOutput}
 use Rattle.report.proofs.InputLaws.{length-wordsIn}
 use Rattle.report.proofs.OutputLength.{output-short}

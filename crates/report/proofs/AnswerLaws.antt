@@ -28,7 +28,8 @@ use Rattle.operations.proofs.AcceptedLaws.{accepted-values, right-count, run-ac
 use Rattle.operations.proofs.RunLaws.{run-exit, run-writes, run-length, matches-nodeSets}
 use Rattle.operations.proofs.CompileLaws.{CompileAccepted, compile-accepted}
 use Rattle.operations.proofs.Demand1.{refused-by}
-use Rattle.report.specs.Output.{refusedLine, headLine, hitLines, wrongChapter, marklistFault, hitsOf, marklistOutput}
+use Rattle.lines.specs.Line.{refusedLine, headLine, hitLines}
+use Rattle.report.specs.Output.{wrongChapter, marklistFault, hitsOf, marklistOutput}
 use Rattle.report.proofs.KeptLaws.{refused-output, accepted-output}
 
 -- ---- Compile, with a table slice of 2,048 words

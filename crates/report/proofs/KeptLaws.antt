@@ -13,7 +13,8 @@ use Rattle.words.specs.Alphabet.{noAlphabet, wrongConstants}
 use Rattle.words.specs.Expression.{wrongLength, noExpressionWords}
 use Rattle.words.specs.Postfix.{notOneTree}
 use Rattle.operations.specs.Compile.{tooManyStates}
-use Rattle.report.specs.Output.{refusedLine, wrongChapter, marklistFault, reportLines, marklistOutput, outputOf}
+use Rattle.lines.specs.Line.{refusedLine}
+use Rattle.report.specs.Output.{wrongChapter, marklistFault, reportLines, marklistOutput, outputOf}
 
 -- ---- a refused call prints its number, any other the lines
 

@@ -1,6 +1,3 @@
-pub mod WritingLaws
-pub mod DecimalLaws
-pub mod LineLaws
 pub mod InputLaws
 pub mod KeptLaws
 pub mod OutputLength

@@ -10,7 +10,8 @@ use lib.ListN.{length, getD, take, drop, length-append, length-take, List·getD-
 use lib.Seq.{sets, drop-drop, take-at, drop-at, getD-append-add, ext-getD}
 use borrow.Author.Tests.{le-leb, lt-leb}
 use Rattle.words.proofs.ListLaws.{sets-append, sets-whole}
-use Rattle.report.specs.Output.{refusedLine, marklistOutput, outputOf}
+use Rattle.lines.specs.Line.{refusedLine}
+use Rattle.report.specs.Output.{marklistOutput, outputOf}
 use Rattle.report.specs.Input.{wordAt, wordsIn, countIn, announced, complete, alphabetIn, ruleIn, chapterIn, programOutput}
 use Rattle.report.proofs.InputLaws.{length-wordsIn, getD-wordsIn, sets-take}
 use Rattle.report.proofs.KeptLaws.{kept-output}

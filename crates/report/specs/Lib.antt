@@ -1,5 +1,3 @@
-pub mod Decimal
 pub mod Output
 pub mod Input
 pub mod Stages
-pub mod Writing

@@ -5,7 +5,7 @@ ghost use Prim.Native.Nat.{ℕ, _≤_};
 ghost use lib.ListN.{length, drop};
 ghost use Rattle.report.specs.Output.{marklistOutput, outputOf};
 ghost use Rattle.report.specs.Stages.{Compiles, Marks};
-ghost use Rattle.report.specs.Writing.{Written};
+ghost use Rattle.lines.specs.Writing.{Written};
 use compiler::Compiled;
 use compiler::compile;
 use lines::write_lines;
@@ -17,8 +17,6 @@ use matcher::run::run;
 use tables::head::state_count;
 
 pub mod input;
-mod lines;
-mod writer;
 
 // The most elements of a chapter here.
 pub const CHAPTER_MOST: usize = 256;

@@ -1,8 +1,8 @@
--- `lines::symbol_of` meets its contract: behind the last node the default is read, whose symbol is 0. Assumes nothing.
-use Rattle.report.proofs.LineLaws.{no-symbol}
+-- `symbol_of` meets its contract: behind the last node the default is read, whose symbol is 0. Assumes nothing.
+use Rattle.lines.proofs.LineLaws.{no-symbol}
 use borrow.Author.Needs.{needs}
-use Rattle.report.proofs.lines.symbol_of.Statement.{statement}
-use Rattle.report.proofs.lines.symbol_of.Tie as tie
+use Rattle.lines.proofs.symbol_of.Statement.{statement}
+use Rattle.lines.proofs.symbol_of.Tie as tie
 
 mul-result : tie.Need-mul-result
 mul-result c = search needs

@@ -1,9 +1,9 @@
--- `lines::write_refused` meets its contract: the parts of the line are written one after the other. Assumes nothing.
+-- `write_refused` meets its contract: the parts of the line are written one after the other. Assumes nothing.
 use mathlib.Core.Path.{_∙_}
-use Rattle.report.proofs.LineLaws.{refused-written}
+use Rattle.lines.proofs.LineLaws.{refused-written}
 use borrow.Author.Needs.{needs}
-use Rattle.report.proofs.lines.write_refused.Statement.{statement}
-use Rattle.report.proofs.lines.write_refused.Tie as tie
+use Rattle.lines.proofs.write_refused.Statement.{statement}
+use Rattle.lines.proofs.write_refused.Tie as tie
 
 slice-aggregate-write-text : tie.Need-slice-aggregate-write-text
 slice-aggregate-write-text c = search needs

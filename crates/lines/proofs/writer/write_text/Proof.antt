@@ -2,9 +2,9 @@
 use Prim.Native.Nat.{_-_}
 use lib.ListN.{length}
 use borrow.Author.Needs.{needs}
-use Rattle.report.proofs.WritingLaws.{Texted, texted-none, texted-more, texted-end}
-use Rattle.report.proofs.writer.write_text.Statement.{statement}
-use Rattle.report.proofs.writer.write_text.Tie as tie
+use Rattle.lines.proofs.WritingLaws.{Texted, texted-none, texted-more, texted-end}
+use Rattle.lines.proofs.writer.write_text.Statement.{statement}
+use Rattle.lines.proofs.writer.write_text.Tie as tie
 
 abbrev Inv-loop : tie.InvT-loop
 Inv-loop out₀ at text next₀ i₀ out next i = Texted text at out₀ out next i

@@ -1,8 +1,8 @@
--- `lines::write_head` meets its contract: the parts of the line are written one after the other. Assumes nothing.
-use Rattle.report.proofs.LineLaws.{head-written}
+-- `write_head` meets its contract: the parts of the line are written one after the other. Assumes nothing.
+use Rattle.lines.proofs.LineLaws.{head-written}
 use borrow.Author.Needs.{needs}
-use Rattle.report.proofs.lines.write_head.Statement.{statement}
-use Rattle.report.proofs.lines.write_head.Tie as tie
+use Rattle.lines.proofs.write_head.Statement.{statement}
+use Rattle.lines.proofs.write_head.Tie as tie
 
 slice-aggregate-write-text : tie.Need-slice-aggregate-write-text
 slice-aggregate-write-text c = search needs

@@ -1,11 +1,11 @@
--- `lines::write_hit` meets its contract: the parts of the line are written one after the other, and a subtree begins at or
+-- `write_hit` meets its contract: the parts of the line are written one after the other, and a subtree begins at or
 -- before its last node. Assumes nothing.
 use native.Mathlib.Omega.{arith}
 use Rattle.words.proofs.PostfixLaws.{start-le}
-use Rattle.report.proofs.LineLaws.{hit-written}
+use Rattle.lines.proofs.LineLaws.{hit-written}
 use borrow.Author.Needs.{needs}
-use Rattle.report.proofs.lines.write_hit.Statement.{statement}
-use Rattle.report.proofs.lines.write_hit.Tie as tie
+use Rattle.lines.proofs.write_hit.Statement.{statement}
+use Rattle.lines.proofs.write_hit.Tie as tie
 
 add-size : tie.Need-add-size
 add-size c = search needs

@@ -1,13 +1,13 @@
--- `lines::write_lines` meets its contract: the loop writes the hit lines one after the other behind the head line.
+-- `write_lines` meets its contract: the loop writes the hit lines one after the other behind the head line.
 -- Assumes nothing.
 use Prim.Native.Nat.{_-_}
 use mathlib.Core.Path.{_∙_}
 use lib.ListN.{length}
 use borrow.Author.Needs.{needs}
-use Rattle.report.proofs.WritingLaws.{written-more}
-use Rattle.report.proofs.LineLaws.{Hit, hit-none, hit-more, hit-end}
-use Rattle.report.proofs.lines.write_lines.Statement.{statement}
-use Rattle.report.proofs.lines.write_lines.Tie as tie
+use Rattle.lines.proofs.WritingLaws.{written-more}
+use Rattle.lines.proofs.LineLaws.{Hit, hit-none, hit-more, hit-end}
+use Rattle.lines.proofs.write_lines.Statement.{statement}
+use Rattle.lines.proofs.write_lines.Tie as tie
 
 abbrev Inv-loop : tie.InvT-loop
 Inv-loop out₀ alphabet chapter states hits next₀ i₀ out next i = Hit alphabet chapter hits next₀ out₀ out next i

@@ -3,16 +3,16 @@
 use mathlib.Core.Path.{_∙_}
 use native.Mathlib.Omega.{arith}
 use borrow.Author.Needs.{needs}
-use Rattle.report.proofs.DecimalLaws.{number-one, number-several}
+use Rattle.lines.proofs.DecimalLaws.{number-one, number-several}
 use Prim.Native.Nat.{ℕ, _<_}
 use borrow.Fn.Kinds.{In}
 use borrow.Fn.PlainCycle.{Measures, is, falls, and}
-use Rattle.report.proofs.writer.write_number.Reads as write-number
-use Rattle.report.proofs.writer.write_number.Kinds as write-number-kinds
-use Rattle.report.proofs.writer.+write_number.Lts-write_number as write-number-lts
-use Rattle.report.proofs.writer.write_byte.Reads as write-byte-reads
-use Rattle.report.proofs.writer.+write_number.{statement}
-use Rattle.report.proofs.writer.+write_number.Tie.{close}
+use Rattle.lines.proofs.writer.write_number.Reads as write-number
+use Rattle.lines.proofs.writer.write_number.Kinds as write-number-kinds
+use Rattle.lines.proofs.writer.+write_number.Lts-write_number as write-number-lts
+use Rattle.lines.proofs.writer.write_byte.Reads as write-byte-reads
+use Rattle.lines.proofs.writer.+write_number.{statement}
+use Rattle.lines.proofs.writer.+write_number.Tie.{close}
 
 abbrev μ-write-number : Measures 1 write-number-kinds.ps ℕ
 μ-write-number κs a = a .1 .1 .0
