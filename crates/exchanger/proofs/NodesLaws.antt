@@ -5,7 +5,7 @@ use mathlib.Core.List.{List}
 use Prim.Native.Nat.{ℕ, _-_, _≤_}
 use native.Mathlib.Omega.{arith}
 use lib.ListN.{length}
-use Rattle.tables.specs.Index.{indexOf}
+use Rattle.step.specs.Index.{indexOf}
 use Rattle.matcher.specs.Nodes.{rootsOf, Stacked, Rootable, markedFrom, Workable, AtNodes}
 use Rattle.matcher.proofs.ReadyLaws.{table-few}
 use Rattle.exchanger.specs.Climbing.{climbFrom, foot, ClimbStart}

@@ -16,8 +16,8 @@ use super::replace::move_tail;
 use matcher::nodes::mark_nodes;
 use matcher::nodes::stack_roots;
 use slices::moves::copy_words;
+use step::index::index_of;
 use tables::head::set_size;
-use tables::index::index_of;
 use words::postfix::subtree_start;
 
 // Works out the replacement's nodes, from `start` up to its root, over a stack with the roots of the nodes before and one

@@ -17,7 +17,7 @@ use Rattle.automaton.specs.Transition.{automatonOf}
 use Rattle.automaton.specs.StateSet.{StateSet, stateSet}
 use Rattle.automaton.proofs.TableLaws.{isTable-tables, isTable-sizes}
 use Rattle.operations.specs.Marks.{sizeOf, nodeSet}
-use Rattle.tables.specs.Ready.{Ready, Prepared, RowsInside, childSets}
+use Rattle.step.specs.Ready.{Ready, Prepared, RowsInside, childSets}
 use Rattle.slices.proofs.RefitLaws.{take-drop}
 use Rattle.matcher.specs.Nodes.{setFrom, Workable, AtNode}
 use Rattle.matcher.proofs.RootLaws.{arity-fits, roots-few, stacked-children, length-children, children-below, below-getD}

@@ -10,7 +10,7 @@ use Rattle.operations.specs.Answer.{refused, accepted}
 use Rattle.operations.specs.Marks.{sizeOf, nodeSets}
 use Rattle.operations.specs.Run.{runFault, runMarks, cellsIn, runAnswer, runExit}
 use Rattle.operations.proofs.RunLaws.{run-writes, run-length}
-use Rattle.tables.specs.Index.{indexOf}
+use Rattle.step.specs.Index.{indexOf}
 use Rattle.matcher.specs.Nodes.{markedFrom, Workable, AtNodes}
 use Rattle.matcher.proofs.RootLaws.{stacked-none}
 use Rattle.matcher.proofs.MarkLaws.{marked-run}

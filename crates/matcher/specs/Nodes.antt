@@ -12,7 +12,7 @@ use Rattle.words.specs.Postfix.{oneTree, stackGiven, childrenOf}
 use Rattle.automaton.specs.Table.{isTable}
 use Rattle.automaton.specs.StateSet.{StateSet}
 use Rattle.operations.specs.Marks.{sizeOf, nodeSet, storedSet}
-use Rattle.tables.specs.Index.{indexOf}
+use Rattle.step.specs.Index.{indexOf}
 
 -- the roots of the trees that the first j nodes make, the last one first
 abbrev pub rootsOf : List ℕ → List ℕ → ℕ → List ℕ

@@ -7,8 +7,8 @@ ghost use lib.ListN.{replicate};
 ghost use Rattle.operations.specs.Marks.{sizeOf};
 ghost use Rattle.matcher.specs.Nodes.{rootsOf, Stacked, Rootable, AtRoot, setFrom, markedAt, markedFrom, AtNode, AtNodes};
 use slices::sets::write_set_at;
+use step::node::node_set;
 use tables::head::set_size;
-use tables::step::node_set;
 use words::alphabet::LOW_BYTE;
 use words::postfix::arity;
 

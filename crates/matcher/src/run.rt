@@ -11,8 +11,8 @@ use super::faults::table_fault;
 use super::faults::wrong_count;
 use super::nodes::mark_nodes;
 use slices::sets::count_cells;
+use step::index::index_of;
 use tables::head::set_size;
-use tables::index::index_of;
 use words::chapter::tree_fault;
 
 // Document 01's number of the refusal, the first that applies, or 0; `room` is the length of the marks slice.

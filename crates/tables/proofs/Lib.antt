@@ -2,14 +2,3 @@ pub mod Constants
 pub mod MaskLaws
 pub mod CheckLaws
 pub mod ScanLaws
-pub mod SourceLaws
-pub mod WordLaws
-pub mod StackLaws
-pub mod SearchLaws
-pub mod FollowLaws
-pub mod SymbolLaws
-pub mod EpsilonLaws
-pub mod StartLaws
-pub mod NodeLaws
-pub mod ChainLaws
-pub mod IndexLaws

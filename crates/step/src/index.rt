@@ -1,0 +1,73 @@
+// An index of a table, made once for all nodes: for each symbol and each state a chain of the words at which transitions begin.
+ghost use mathlib.Core.Path.{_≡_};
+ghost use Prim.Native.Nat.{_≤_};
+ghost use lib.ListN.{length};
+ghost use Rattle.step.specs.Index.{keyOf, indexedAt, indexOf, Insertable};
+use tables::head::STATE_RANGE;
+use tables::head::SYMBOL_RANGE;
+use words::word::CLOSURE;
+use words::word::EMPTY;
+use words::word::ENTRY;
+use words::word::EPSILON;
+use words::word::HEAD;
+use words::word::KIND_UNIT;
+use words::word::NODE;
+use words::word::PRODUCT;
+use words::word::SOURCE;
+use words::word::SYMBOL;
+use words::word::TRANSITION;
+use words::word::UNION;
+
+// The numbers that a symbol may have; the keys of the states stand behind them, and behind all keys the words' next words.
+pub const STATE_KEYS: usize = 256;
+
+pub const KEYS: usize = 1280;
+
+// The key of a word.
+fn key(w: u32) -> usize
+    ensures { λ r. ⌜ r ≡ keyOf w ⌝ }
+{
+    let kind = w / KIND_UNIT;
+    let symbol = (w / STATE_RANGE % SYMBOL_RANGE) as usize;
+    let from = (w / STATE_RANGE % STATE_RANGE) as usize;
+    match kind {
+        ENTRY => KEYS,
+        SYMBOL => KEYS,
+        EMPTY => KEYS,
+        UNION => KEYS,
+        PRODUCT => KEYS,
+        CLOSURE => KEYS,
+        NODE => KEYS,
+        HEAD => KEYS,
+        TRANSITION => symbol,
+        EPSILON => STATE_KEYS + from,
+        SOURCE => KEYS,
+        _ => KEYS,
+    }
+}
+
+// Puts word i in front of its key's chain.
+fn put_word(table: &[u32], i: usize, index: &mut [u32])
+    requires { ⌜ Insertable (now table) i (now index) ⌝ }
+    ensures { λ _. ⌜ now (index .exit) ≡ indexedAt (now (table .entry)) i (now (index .entry)) ⌝ }
+{
+    let at = key(table[i]);
+    if at < KEYS {
+        index[KEYS + i] = index[at];
+        index[at] = i as u32;
+    }
+}
+
+// The index of a table.
+pub fn index_of(table: &[u32]) -> [u32; 3328]
+    requires { ⌜ length (now table) ≤ 2048 ⌝ }
+    ensures { λ r. ⌜ r ≡ indexOf (now (table .entry)) ⌝ }
+{
+    let mut index = [0u32; 3328];
+    let mut i = table.len();
+    while 0 < i {
+        i -= 1;
+        put_word(table, i, &mut index);
+    }
+    index
+}
