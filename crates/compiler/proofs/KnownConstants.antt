@@ -18,7 +18,7 @@ use Rattle.words.proofs.AlphabetLaws.{constantsOf-isConstant}
 use Rattle.words.proofs.ConstantLaws.{constants-ascending}
 use Rattle.words.proofs.ExpressionWordLaws.{ExpressionWord, symbolWord, emptyWord, unionWord, productWord, closureWord, expressionWord}
 use Rattle.automaton.specs.Numbering.{numbered, lookup}
-use Rattle.emitter.specs.Ports.{EachOnce}
+use Rattle.ports.specs.Ports.{EachOnce}
 use Rattle.emitter.specs.Emission.{Listed, Takes}
 
 -- ---- each constant stands once

@@ -17,8 +17,8 @@ use Rattle.words.proofs.KindLaws.{kindAt-number}
 use Rattle.words.proofs.ScanLaws.{drop-step, drop-end}
 use Rattle.words.proofs.ExpressionWordLaws.{ExpressionWord, symbolWord, emptyWord, unionWord, productWord, closureWord, expressionWord}
 use Rattle.automaton.specs.Numbering.{Port, hasEntries, statesOf, portOf, statesAfter}
-use Rattle.emitter.specs.Ports.{entriesIn, exitIn, portIn, fullPort}
-use Rattle.emitter.proofs.PortLaws.{entries-every, entries-none, entries-own}
+use Rattle.ports.specs.Ports.{entriesIn, exitIn, portIn, fullPort}
+use Rattle.ports.proofs.PortLaws.{entries-every, entries-none, entries-own}
 
 -- ---- how many states a word has
 

@@ -1,5 +1,3 @@
-pub mod WritingLaws
-pub mod PortLaws
 pub mod EntryLaws
 pub mod FanLaws
 pub mod OwnLaws

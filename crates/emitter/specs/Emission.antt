@@ -9,8 +9,8 @@ use lib.Dec.{eqb}
 use Rattle.words.specs.Word.{sourceKind, numberOf, wordOf, lowByte}
 use Rattle.automaton.specs.Numbering.{entryFor}
 pub use Rattle.automaton.specs.Numbering.{constantTransitions}
-use Rattle.emitter.specs.Writing.{lastIndex}
-use Rattle.emitter.specs.Ports.{EachOnce, exitIn, portsIn}
+use Rattle.ports.specs.Writing.{lastIndex}
+use Rattle.ports.specs.Ports.{EachOnce, exitIn, portsIn}
 
 -- the children's entries for a constant
 abbrev pub childEntries : List ℕ → List ℕ → ℕ → List ℕ

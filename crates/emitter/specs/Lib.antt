@@ -1,3 +1,1 @@
-pub mod Writing
-pub mod Ports
 pub mod Emission

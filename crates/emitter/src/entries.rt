@@ -3,15 +3,15 @@ ghost use Prim.Native.Nat.{suc, _+_, _≤_, _<_};
 ghost use lib.ListN.{length, getD};
 ghost use Rattle.automaton.specs.Transition.{transitionsWords};
 ghost use Rattle.automaton.specs.Numbering.{numbered, epsilons, fan};
-ghost use Rattle.emitter.specs.Writing.{Wrote, lastIndex};
-ghost use Rattle.emitter.specs.Ports.{Low, statesIn};
+ghost use Rattle.ports.specs.Writing.{Wrote, lastIndex};
+ghost use Rattle.ports.specs.Ports.{Low, statesIn};
 ghost use Rattle.emitter.specs.Emission.{Emits, childEntries, productEntries, closureEntries};
-use super::port::Entry;
-use super::port::entry_at;
-use super::writer::push_epsilon;
+use ports::port::Entry;
+use ports::port::entry_at;
+use ports::writer::push_epsilon;
 
 // "A move that names a missing entry is omitted."
-pub fn push_to(out: &mut [u32], at: usize, from: u32, to: Entry) -> usize
+pub(crate) fn push_to(out: &mut [u32], at: usize, from: u32, to: Entry) -> usize
     requires { ⌜ (at < lastIndex) × ((from < 4096) × Low to) ⌝ }
     ensures { λ r. ⌜ Wrote 1 at (transitionsWords (epsilons from (statesIn to))) (now (out .entry)) (now (out .exit)) r ⌝ }
 {
@@ -22,7 +22,7 @@ pub fn push_to(out: &mut [u32], at: usize, from: u32, to: Entry) -> usize
 }
 
 // From the entry for constant k to the children's entries for it.
-pub fn push_to_children(
+fn push_to_children(
     constants: &[u32],
     ports: &[u32],
     out: &mut [u32],
@@ -102,7 +102,7 @@ fn push_closure_entry(
 }
 
 // From each entry of a word with this exit to the children's entries.
-pub fn push_entries(
+pub(crate) fn push_entries(
     constants: &[u32],
     ports: &[u32],
     out: &mut [u32],
@@ -127,7 +127,7 @@ pub fn push_entries(
 }
 
 // The same for a product over c.
-pub fn push_product_entries(
+pub(crate) fn push_product_entries(
     constants: &[u32],
     ports: &[u32],
     out: &mut [u32],
@@ -154,7 +154,7 @@ pub fn push_product_entries(
 }
 
 // The same for a closure over c.
-pub fn push_closure_entries(
+pub(crate) fn push_closure_entries(
     constants: &[u32],
     ports: &[u32],
     out: &mut [u32],

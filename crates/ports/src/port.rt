@@ -2,7 +2,7 @@
 ghost use mathlib.Core.Path.{_≡_};
 ghost use Prim.Native.Nat.{_+_, _*_, _≤_, _<_};
 ghost use lib.ListN.{length, getD};
-ghost use Rattle.emitter.specs.Ports.{EachOnce, EntryOf, exitIn};
+ghost use Rattle.ports.specs.Ports.{EachOnce, EntryOf, exitIn};
 
 // An entry for each constant, in states behind the exit.
 pub const EVERY: u32 = 64;

@@ -1,8 +1,8 @@
--- `emitter::port::entry_at` meets its contract: the entries number says which of the laws applies. Assumes nothing.
+-- `ports::port::entry_at` meets its contract: the entries number says which of the laws applies. Assumes nothing.
 use borrow.Author.Needs.{needs}
-use Rattle.emitter.proofs.PortLaws.{entry-every, entry-none, entry-own, entry-other}
-use Rattle.emitter.proofs.port.entry_at.Statement.{statement}
-use Rattle.emitter.proofs.port.entry_at.Tie as tie
+use Rattle.ports.proofs.PortLaws.{entry-every, entry-none, entry-own, entry-other}
+use Rattle.ports.proofs.port.entry_at.Statement.{statement}
+use Rattle.ports.proofs.port.entry_at.Tie as tie
 
 exit-of-requires : tie.Need-exit-of-requires
 exit-of-requires c κs = search needs

@@ -1,4 +1,4 @@
--- Ports (a word's exit and entries) as numbers, and an entry that may be missing. It serves the emitter's inner functions.
+-- Ports (a word's exit and entries) as numbers, and an entry that may be missing. It serves the inner functions of Compile.
 -- Assumes nothing.
 use Prim.Native.Nat.{ℕ, suc, _+_, _/_, _%_, _<_}
 use mathlib.Core.Path.{_≡_}
@@ -7,8 +7,8 @@ use mathlib.Core.Bool.{cond}
 use lib.ListN.{length, getD}
 use lib.Dec.{eqb}
 use Rattle.automaton.specs.Numbering.{Port, numbered, lookup, entryFor}
-use Rattle.emitter.specs.declared.port.Entry.{Entry}
-use Rattle.emitter.specs.declared.port.Entry.the-variants.{Missing, State}
+use Rattle.ports.specs.declared.port.Entry.{Entry}
+use Rattle.ports.specs.declared.port.Entry.the-variants.{Missing, State}
 
 -- the entries that a number below 128 says, for a word with exit x: 64 one for each constant behind the exit, 65 none, and
 -- any other number the exit as entry for this constant

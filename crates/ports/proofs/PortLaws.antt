@@ -6,8 +6,8 @@ use native.Mathlib.Omega.{arith}
 use lib.ListN.{length, getD}
 use borrow.Author.Tests.{eq-eqb, ne-eqb}
 use Rattle.automaton.specs.Numbering.{numbered}
-use Rattle.emitter.specs.declared.port.Entry.the-variants.{Missing, State}
-use Rattle.emitter.specs.Ports.{entriesIn, exitIn, EachOnce, EntryOf}
+use Rattle.ports.specs.declared.port.Entry.the-variants.{Missing, State}
+use Rattle.ports.specs.Ports.{entriesIn, exitIn, EachOnce, EntryOf}
 
 -- ---- the entries that a number says
 
