@@ -1,4 +1,3 @@
-pub mod FaultLaws
 pub mod TailLaws
 pub mod ClimbLaws
 pub mod RiseLaws

@@ -1,4 +1,3 @@
-pub mod Faults
 pub mod Tail
 pub mod Climbing
 pub mod Exchanging

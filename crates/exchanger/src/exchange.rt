@@ -11,10 +11,10 @@ ghost use Rattle.exchanger.specs.Exchanging.{exchangedFrom, Exchangeable
 ghost use Rattle.exchanger.specs.Answers.{answerIn};
 use super::Exchanged;
 use super::climb::climb;
-use super::faults::exchange_fault;
 use super::replace::move_tail;
 use matcher::nodes::mark_nodes;
 use matcher::nodes::stack_roots;
+use refusals::exchange::exchange_fault;
 use slices::moves::copy_words;
 use step::index::index_of;
 use tables::head::set_size;

@@ -15,7 +15,7 @@ use Rattle.matcher.specs.Nodes.{markedFrom, Workable, AtNodes}
 use Rattle.matcher.proofs.RootLaws.{stacked-none}
 use Rattle.matcher.proofs.MarkLaws.{marked-run}
 use Rattle.matcher.proofs.ReadyLaws.{words-few, size-few, table-few}
-use Rattle.matcher.proofs.FaultLaws.{answer-refused, answer-accepted, exit-refused, exit-accepted}
+use Rattle.matcher.proofs.AnswerLaws.{answer-refused, answer-accepted, exit-refused, exit-accepted}
 use Rattle.matcher.proofs.CallLaws.{run-workable}
 
 module _ (a table ch marks : List ℕ) (h : runFault a table ch (length marks) ≡ 0) where

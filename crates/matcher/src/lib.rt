@@ -1,5 +1,4 @@
 // Run and List (document 01): state sets for the nodes of a tree, and the matches.
-pub mod faults;
 pub mod listing;
 pub mod nodes;
 pub mod run;

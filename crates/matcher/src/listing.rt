@@ -7,33 +7,10 @@ ghost use lib.Seq.{sets};
 ghost use Rattle.operations.specs.Listing.{listFault, matchesIn, matchesOf, listAnswer, listExit};
 ghost use Rattle.matcher.specs.Answers.{answerInListed};
 use super::Listed;
-use super::faults::few_marks;
-use super::faults::table_fault;
-use super::faults::wrong_count;
+use refusals::list::list_fault;
 use tables::head::final_state;
 use tables::head::set_size;
 use tables::set::contains;
-
-// Document 01's number of the refusal, the first that applies, or 0; `room` and `places` are the lengths of the marks and
-// of the list slice.
-fn list_fault(alphabet: &[u32], table: &[u32], count: usize, room: usize, places: usize) -> u32
-    ensures { λ r. ⌜ r ≡ listFault (now (alphabet .entry)) (now (table .entry)) count room places ⌝ }
-{
-    let first = table_fault(alphabet, table);
-    if first != 0 {
-        return first;
-    }
-    if wrong_count(count) {
-        return 9;
-    }
-    if few_marks(table, count, room) {
-        return 12;
-    }
-    if places < count {
-        return 13;
-    }
-    0
-}
 
 // Writes the number of a node behind the matches found so far if its state set holds the final state; answers how many
 // matches there are then.

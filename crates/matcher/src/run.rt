@@ -6,35 +6,11 @@ ghost use Rattle.operations.specs.Marks.{nodeSets};
 ghost use Rattle.operations.specs.Run.{runFault, runMarks, cellsIn, runAnswer, runExit};
 ghost use Rattle.matcher.specs.Answers.{answerInRan};
 use super::Ran;
-use super::faults::few_marks;
-use super::faults::table_fault;
-use super::faults::wrong_count;
 use super::nodes::mark_nodes;
+use refusals::run::run_fault;
 use slices::sets::count_cells;
 use step::index::index_of;
 use tables::head::set_size;
-use words::chapter::tree_fault;
-
-// Document 01's number of the refusal, the first that applies, or 0; `room` is the length of the marks slice.
-fn run_fault(alphabet: &[u32], table: &[u32], chapter: &[u32], room: usize) -> u32
-    ensures { λ r. ⌜ r ≡ runFault (now (alphabet .entry)) (now (table .entry)) (now (chapter .entry)) room ⌝ }
-{
-    let first = table_fault(alphabet, table);
-    if first != 0 {
-        return first;
-    }
-    if wrong_count(chapter.len()) {
-        return 9;
-    }
-    let second = tree_fault(alphabet, chapter);
-    if second != 0 {
-        return second;
-    }
-    if few_marks(table, chapter.len(), room) {
-        return 12;
-    }
-    0
-}
 
 // Marks the chapter of a call that is not refused, and answers the number of ones.
 fn run_accepted(alphabet: &[u32], table: &[u32], chapter: &[u32], marks: &mut [u32]) -> usize

@@ -1,0 +1,4 @@
+pub mod SharedLaws
+pub mod RunLaws
+pub mod ListLaws
+pub mod ExchangeLaws

@@ -1,0 +1,60 @@
+-- `list::list_fault` meets its contract: it asks the conditions in their order. Assumes nothing.
+use mathlib.Core.Path.{sym, _∙_}
+use borrow.Author.Tests.{lt-ltb, le-ltb}
+use Rattle.operations.proofs.AcceptedLaws.{count-right}
+use Rattle.refusals.proofs.ListLaws.{list-table, list-count, list-marks, list-short, list-none}
+use borrow.Author.Needs.{needs}
+use Rattle.refusals.proofs.list.list_fault.Statement.{statement}
+use Rattle.refusals.proofs.list.list_fault.Tie as tie
+
+table-fault-requires : tie.Need-table-fault-requires
+table-fault-requires c κs = search needs
+
+returns : tie.Need-returns
+returns c = list-table _ _ _ _ _ _ (c .before .table-fault .ensures) (c .if1 .taken)
+
+wrong-count-requires : tie.Need-wrong-count-requires
+wrong-count-requires c κs = search needs
+
+returns-2 : tie.Need-returns-2
+returns-2 c =
+    let first = c .before .before in
+    list-count _ _ _ _ _ (sym (first .before .table-fault .ensures) ∙ first .if1 .left) (sym (c .before .wrong-count .ensures) ∙ c .if2 .taken)
+
+few-marks-requires : tie.Need-few-marks-requires
+few-marks-requires c κs = count-right _ (sym (c .before .wrong-count .ensures) ∙ c .if2 .left) .few
+
+returns-3 : tie.Need-returns-3
+returns-3 c =
+    let count = c .before .before in
+    let first = count .before .before in
+    list-marks _ _ _ _ _ (sym (first .before .table-fault .ensures) ∙ first .if1 .left) (sym (count .before .wrong-count .ensures) ∙ count .if2 .left) (sym (c .before .few-marks .ensures) ∙ c .if3 .taken)
+
+returns-4 : tie.Need-returns-4
+returns-4 c =
+    let marks = c .before in
+    let count = marks .before .before in
+    let first = count .before .before in
+    list-short _ _ _ _ _ (sym (first .before .table-fault .ensures) ∙ first .if1 .left) (sym (count .before .wrong-count .ensures) ∙ count .if2 .left)
+    (sym (marks .before .few-marks .ensures) ∙ marks .if3 .left) (lt-ltb _ _ (c .if4 .taken))
+
+returns-5 : tie.Need-returns-5
+returns-5 c =
+    let marks = c .before in
+    let count = marks .before .before in
+    let first = count .before .before in
+    list-none _ _ _ _ _ (sym (first .before .table-fault .ensures) ∙ first .if1 .left) (sym (count .before .wrong-count .ensures) ∙ count .if2 .left)
+    (sym (marks .before .few-marks .ensures) ∙ marks .if3 .left) (le-ltb _ _ (c .if4 .left))
+
+pub list-fault-spec : {M : Type 1} → statement M
+list-fault-spec =
+    tie.close
+    (tie.spec
+    table-fault-requires
+    returns
+    wrong-count-requires
+    returns-2
+    few-marks-requires
+    returns-3
+    returns-4
+    returns-5)

@@ -1,0 +1,127 @@
+// Exchange's refusals, each with its number, in document 01's order.
+ghost use mathlib.Core.Path.{_≡_};
+ghost use Prim.Native.Nat.{_≤_};
+ghost use lib.ListN.{length, take};
+ghost use Rattle.words.specs.Refusal.{refusal};
+ghost use Rattle.operations.specs.Exchange.{noReplacement, resultTooLong, exchangeFault};
+ghost use Rattle.refusals.specs.Exchange.{markedRefusals, changeRefusals};
+use super::shared::ELEMENTS_MOST;
+use super::shared::few_marks;
+use super::shared::table_fault;
+use super::shared::wrong_count;
+use words::chapter::tree_fault;
+use words::postfix::subtree_start;
+
+// Of the alphabet, the table and the marked chapter: 1, 2, 8, 9, 10, 11 or 12, the first that applies, or 0.
+fn marked_fault(alphabet: &[u32], table: &[u32], chapter: &[u32], count: usize, room: usize) -> u32
+    ensures { λ r. ⌜
+        r
+        ≡ refusal
+        (markedRefusals (now (alphabet .entry)) (now (table .entry)) count (take count (now (chapter .entry))) (length (now (chapter .entry))) room)
+        ⌝ }
+{
+    let fault = table_fault(alphabet, table);
+    if fault != 0 {
+        return fault;
+    }
+    if wrong_count(count) {
+        return 9;
+    }
+    if count > chapter.len() {
+        return 9;
+    }
+    let shape = tree_fault(alphabet, &chapter[..count]);
+    if shape != 0 {
+        return shape;
+    }
+    if few_marks(table, count, room) {
+        return 12;
+    }
+    0
+}
+
+// Whether the words are no replacement: none, too many, or no tree over the alphabet.
+fn no_replacement(alphabet: &[u32], replacement: &[u32]) -> bool
+    ensures { λ r. ⌜ r ≡ noReplacement (now (alphabet .entry)) (now (replacement .entry)) ⌝ }
+{
+    if wrong_count(replacement.len()) {
+        return true;
+    }
+    tree_fault(alphabet, replacement) != 0
+}
+
+// Whether a result of `count` elements is too long; the chapter slice has `places` words and the marks slice `room`.
+fn result_too_long(table: &[u32], count: usize, places: usize, room: usize) -> bool
+    ensures { λ r. ⌜ r ≡ resultTooLong (now (table .entry)) count places room ⌝ }
+{
+    if count > ELEMENTS_MOST {
+        return true;
+    }
+    if count > places {
+        return true;
+    }
+    few_marks(table, count, room)
+}
+
+// Of the element and the replacement: 14, 15 or 16, the first that applies, or 0. For 16 the result's length is known: what
+// stands before the element's subtree, the replacement, and what stands behind.
+fn change_fault(
+    alphabet: &[u32],
+    table: &[u32],
+    used: &[u32],
+    places: usize,
+    room: usize,
+    element: usize,
+    replacement: &[u32],
+) -> u32
+    requires { ⌜ length (now used) ≤ 4096 ⌝ }
+    ensures { λ r. ⌜
+        r
+        ≡ refusal
+        (changeRefusals (now (alphabet .entry)) (now (table .entry)) (now (used .entry)) places room element (now (replacement .entry)))
+        ⌝ }
+{
+    if element >= used.len() {
+        return 14;
+    }
+    if no_replacement(alphabet, replacement) {
+        return 15;
+    }
+    let start = subtree_start(alphabet, used, element);
+    let behind = used.len() - element - 1;
+    let count = start + replacement.len() + behind;
+    if result_too_long(table, count, places, room) {
+        return 16;
+    }
+    0
+}
+
+// Document 01's number of the first refusal that applies, or 0.
+pub fn exchange_fault(
+    alphabet: &[u32],
+    table: &[u32],
+    chapter: &[u32],
+    count: usize,
+    room: usize,
+    element: usize,
+    replacement: &[u32],
+) -> u32
+    ensures { λ r. ⌜
+        r
+        ≡ exchangeFault (now (alphabet .entry)) (now (table .entry)) count (take count (now (chapter .entry))) (length (now (chapter .entry))) room element (now (replacement .entry))
+        ⌝ }
+{
+    let marked = marked_fault(alphabet, table, chapter, count, room);
+    if marked != 0 {
+        return marked;
+    }
+    change_fault(
+        alphabet,
+        table,
+        &chapter[..count],
+        chapter.len(),
+        room,
+        element,
+        replacement,
+    )
+}
