@@ -58,16 +58,6 @@ module _ {A : Automaton} {f : ℕ} {rs : List StateSet} {r : StateSet} where
   pub isStateSet-reached : IsStateSet A f rs r → (q : ℕ) → (contains r q ≡ true) ↔ Reached (A .transitions) f rs q
   isStateSet-reached i q = (i .reached q, seeded-closed-all (A .transitions) f rs (In r) (i .seeded) (i .closed))
 
-  pub reached-isStateSet : length r ≡ sizeFor (A .states) → Words r → ((q : ℕ) → (contains r q ≡ true) ↔ Reached (A .transitions) f rs q) → IsStateSet A f rs r
-  reached-isStateSet l w h =
-      record {
-        size = l;
-        words = w;
-        seeded = λ ps q m e. h q .1 (bySymbol m e);
-        closed = λ p q m e. h q .1 (byEpsilon m (h p .0 e));
-        reached = λ q. h q .0;
-      }
-
 pub isStateSet-unique : {A : Automaton} {f : ℕ} {rs : List StateSet} {r t : StateSet} → IsStateSet A f rs r → IsStateSet A f rs t → r ≡ t
 isStateSet-unique {r = r} {t = t} i j =
     contains-determines r t (i .size ∙ sym (j .size)) (i .words) (j .words)
@@ -134,7 +124,3 @@ module _ (A : Automaton) (f : ℕ) (rs : List StateSet) where
     -- every set with these facts is the state set
     pub stateSet-unique : {r : StateSet} → IsStateSet A f rs r → r ≡ stateSet A f rs
     stateSet-unique i = isStateSet-unique i stateSet-is
-
-    pub stateSet-unique-reached : (r : StateSet) → length r ≡ sizeFor (A .states) → Words r
-        → ((q : ℕ) → (contains r q ≡ true) ↔ Reached (A .transitions) f rs q) → r ≡ stateSet A f rs
-    stateSet-unique-reached r l w h = stateSet-unique (reached-isStateSet l w h)

@@ -103,14 +103,6 @@ module _ (a : List ℕ) (few : length a ≤ 256) where
   pub isTable-words : (table : List ℕ) → isTable a table ≡ true → tableWords (automatonOf table) ≡ table
   isTable-words table h = let i = isTable-over table h in ap tableWords (automatonOf-table i) ∙ i .words
 
-  -- the same of the automaton that is read from the words
-  pub isTable-automatonOf : (table : List ℕ)
-      → (isTable a table ≡ true) ↔ ((length table ≤ 2048) × AutomatonOver a (automatonOf table) × (tableWords (automatonOf table) ≡ table))
-  isTable-automatonOf table = (
-    λ h. (isTable-over table h .fits, isTable-automaton table h, isTable-words table h),
-    λ t. isTable-tables table .1 (record { automaton = automatonOf table; over = t .1; words = t .2; fits = t .0 }),
-  )
-
 -- ---- sizes
 
 -- a state set of a table has 1 to 32 words

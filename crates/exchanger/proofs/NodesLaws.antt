@@ -1,6 +1,6 @@
 -- Laws of the steps that recompute nodes behind an exchange: what each step asks, shown of what the first one asks, and what
 -- they give together. Assumes nothing.
-use mathlib.Core.Path.{_≡_, refl, ap, _∙_, sym}
+use mathlib.Core.Path.{_≡_, refl, ap, _∙_}
 use mathlib.Core.List.{List}
 use Prim.Native.Nat.{ℕ, _-_, _≤_}
 use native.Mathlib.Omega.{arith}

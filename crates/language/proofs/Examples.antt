@@ -4,9 +4,9 @@ use Prim.Native.Nat.{ℕ, zero, suc}
 use mathlib.Core.Path.{_≡_, refl, sym}
 use mathlib.Core.Logic.{inl, inr, _↔_}
 use native.Mathlib.Omega.{arith}
-use Rattle.words.specs.Tree.{Tree, Trees, node, none, more}
+use Rattle.words.specs.Tree.{Tree, node, none, more}
 use Rattle.language.specs.Expression.{Expression, symbol, empty, union, product, closure, noneᵉ, moreᵉ}
-use Rattle.language.specs.Membership.{constant, only, Substitution, Substitutions, atConstant, atSymbol, atNone, atMore, Step, Member, Members}
+use Rattle.language.specs.Membership.{constant, only, atConstant, atSymbol, atNone, atMore, Step, Member}
 use Rattle.language.proofs.SubstitutionLaws.{constant-under}
 
 abbrev pub a : ℕ

@@ -20,7 +20,7 @@ use Rattle.operations.proofs.RunLaws.{run-writes, matches-nodeSets}
 use Rattle.operations.proofs.Examples.{examples}
 use Rattle.lines.specs.Decimal.{digitsWithin, decimal}
 use Rattle.lines.specs.Line.{headLine, hitLine, hitLines}
-use Rattle.report.specs.Output.{wrongChapter, marklistFault, hitsOf, marklistOutput, outputOf}
+use Rattle.report.specs.Output.{wrongChapter, marklistFault, hitsOf}
 use Rattle.report.specs.Input.{wordAt, wordsIn, programOutput}
 use Rattle.report.proofs.KeptLaws.{complete-output, accepted-output}
 use Rattle.report.proofs.ProgramLaws.{program-complete}

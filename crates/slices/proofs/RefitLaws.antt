@@ -5,7 +5,7 @@ use mathlib.Core.List.{List, [], _∷_, _++_, append-assoc}
 use Prim.Native.Nat.{ℕ, zero, suc, _+_, _-_, _≤_, max}
 use native.Mathlib.Omega.{arith}
 use lib.ListN.{length, take, drop, replicate, length-append, length-replicate}
-use lib.Seq.{paste, slice, length-slice, length-take-le, take-all, take-append-le, take-take, take-at, drop-at, drop-drop, drop-append-add}
+use lib.Seq.{paste, slice, length-slice, length-take-le, take-all, take-at, drop-drop, drop-append-add}
 use Rattle.operations.specs.Marks.{refit}
 
 pub take-drop : (t n : ℕ) (l : List ℕ) → t ≤ n → take (n - t) (drop t l) ≡ slice t n l
@@ -44,40 +44,3 @@ module _ (l ws : List ℕ) (n : ℕ) where
       ∙ append-assoc ws zeros (drop (k + (n - k)) (ws ++ drop k l))
       ∙ ap (λ (u : List ℕ). ws ++ (zeros ++ u))
       (drop-append-add ws (drop k l) (n - k) ∙ drop-drop (n - k) k l ∙ ap (λ (i : ℕ). drop i l) e)
-
--- words from index t up to n move behind a gap at s, the gap is filled, and what falls out of use becomes zero
-module _ (l xs : List ℕ) (s t n : ℕ) (h₁ : s ≤ t) (h₂ : t ≤ n) (inside : n ≤ length l) (room : s + length xs + (n - t) ≤ length l) where
-  abbrev at : ℕ
-  at = s + length xs
-
-  abbrev new : List ℕ
-  new = take s l ++ (xs ++ slice t n l)
-
-  pub length-new : length (take s l ++ (xs ++ slice t n l)) ≡ s + length xs + (n - t)
-  length-new =
-      length-append (take s l) (xs ++ slice t n l)
-      ∙ ap₂ (λ (i j : ℕ). i + j) (length-take-le s l (omega arith))
-      (length-append xs (slice t n l) ∙ ap (λ (i : ℕ). length xs + i) (length-slice t n l inside))
-      ∙ omega arith
-
-  pub moved-filled : paste (paste l at (drop t l) (n - t)) s xs (length xs) ≡ new ++ drop (length new) l
-  moved-filled =
-      let tail = slice t n l in
-      let front : length (take at l) ≡ at = length-take-le at l (omega arith) in
-      let m : length (take at l ++ tail) ≡ length new = length-moved l at t n h₂ inside room ∙ sym length-new in
-      let moved : paste l at (drop t l) (n - t) ≡ take at l ++ (tail ++ drop (length new) l) =
-      moved-tail l at t n h₂ inside room ∙ ap (λ (i : ℕ). (take at l ++ tail) ++ drop i l) m ∙ append-assoc (take at l) tail (drop (length new) l) in
-      ap (λ (u : List ℕ). paste u s xs (length xs)) moved
-      ∙ ap₂ (λ (u v : List ℕ). (u ++ v) ++ drop at (take at l ++ (tail ++ drop (length new) l)))
-      (take-append-le s (take at l) (tail ++ drop (length new) l) (rw front (omega arith)) ∙ take-take s at l (omega arith))
-      (take-all (length xs) xs (omega arith))
-      ∙ ap (λ (u : List ℕ). (take s l ++ xs) ++ u) (drop-at (take at l) (tail ++ drop (length new) l) at front)
-      ∙ simp append-assoc
-
-  -- the three steps one after the other
-  pub three-steps : (k : ℕ) → k ≡ s + length xs + (n - t)
-      → paste (paste (paste l at (drop t l) (n - t)) s xs (length xs)) k (replicate (n - k) 0) (n - k) ≡ refit n new l
-  three-steps k e =
-      ap (λ (i : ℕ). paste (paste (paste l at (drop t l) (n - t)) s xs (length xs)) i (replicate (n - i) 0) (n - i)) (e ∙ sym length-new)
-      ∙ ap (λ (u : List ℕ). paste u (length new) (replicate (n - length new) 0) (n - length new)) moved-filled
-      ∙ cleared l new n

@@ -6,8 +6,8 @@ use mathlib.Core.List.{List}
 use Prim.Native.Nat.{ℕ, zero, suc, _+_, _-_, _<_, _≤_}
 use native.Mathlib.Omega.{arith}
 use native.Mathlib.Decide.{ℕ-discrete, decLt}
-use lib.ListN.{length, getD, set, replicate, length-set, length-replicate, getD-replicate, List·getD-eq-default}
-use lib.Seq.{getD-set-same, getD-set-other, set-out}
+use lib.ListN.{length, getD, set, replicate, length-set, length-replicate, getD-replicate}
+use lib.Seq.{getD-set-same, getD-set-other}
 use lib.Dec.{ltb}
 use borrow.Author.Tests.{lt-ltb, le-ltb}
 use Rattle.step.proofs.ChainLaws.{nextWith, next-over, next-here, next-past, Keyed}
@@ -159,35 +159,3 @@ module _ (table : List ℕ) where
   pub index-length : length (indexOf table) ≡ 3328
   unfolding indexOf
   index-length = back-length (length table)
-
--- ---- every entry is the number of a word
-
-set-below : (l : List ℕ) (i a n : ℕ) → ((k : ℕ) → getD l k 0 < n) → a < n → (k : ℕ) → getD (set l i a) k 0 < n
-set-below l i a n w h k = go (ℕ-discrete k i) (decLt i (length l))
-  where
-    go : Dec (k ≡ i) → Dec (i < length l) → getD (set l i a) k 0 < n
-    go (no d) e = rw (getD-set-other l i k a 0 d) (w k)
-    go (yes d) (yes e) = rw (d, getD-set-same l i a 0 e) h
-    go (yes d) (no e) = rw (set-out l i a (omega arith)) (w k)
-
-module _ (table : List ℕ) (few : length table ≤ 2048) where
-  put-below : (index : List ℕ) (i : ℕ) → i < length table → ((k : ℕ) → getD index k 0 < 2048) → (k : ℕ) → getD (indexedAt table i index) k 0 < 2048
-  put-below index i l w = go (decLt (keyOf (getD table i 0)) 1280)
-    where
-      go : Dec (keyOf (getD table i 0) < 1280) → (k : ℕ) → getD (indexedAt table i index) k 0 < 2048
-      go (yes h) = rw (← put-key table i index (keyOf (getD table i 0)) refl h)
-          (set-below (set index (1280 + i) (getD index (keyOf (getD table i 0)) 0)) (keyOf (getD table i 0)) i 2048
-          (set-below index (1280 + i) (getD index (keyOf (getD table i 0)) 0) 2048 w (w (keyOf (getD table i 0)))) (omega arith))
-      go (no h) = rw (← put-none table i index (keyOf (getD table i 0)) refl (omega arith)) w
-
-  back-below : (n : ℕ) → n ≤ length table → (k : ℕ) → getD (indexBack table n) k 0 < 2048
-  back-below zero h k = rw (← back-none table) (go (decLt k 3328))
-    where
-      go : Dec (k < 3328) → getD (replicate 3328 0) k 0 < 2048
-      go (yes l) = rw (getD-replicate {A = ℕ} 3328 k 0 0 l) (omega arith)
-      go (no l) = rw (List·getD-eq-default {A = ℕ} (replicate 3328 0) 0 {n = k} (omega (arith, length-replicate {A = ℕ} 3328 0))) (omega arith)
-  back-below (suc n) h k = rw (back-more table n _ refl) (put-below (indexBack table n) (length table - suc n) (omega arith) (back-below n (omega arith)) k)
-
-  pub index-below : (k : ℕ) → getD (indexOf table) k 0 < 2048
-  unfolding indexOf
-  index-below = back-below (length table) (omega arith)
