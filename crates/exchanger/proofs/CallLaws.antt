@@ -19,10 +19,10 @@ use Rattle.automaton.proofs.TableLaws.{isTable-sizes}
 use Rattle.operations.specs.Marks.{sizeOf}
 use Rattle.operations.specs.Exchange.{fault}
 use Rattle.operations.proofs.AcceptedLaws.{ExchangeAccepted, exchange-accepted}
+use Rattle.slices.proofs.StoredLaws.{words-few}
 use Rattle.refusals.proofs.ExchangeLaws.{result-length}
 use Rattle.matcher.specs.Nodes.{Workable}
 use Rattle.matcher.proofs.CallLaws.{table-right}
-use Rattle.matcher.proofs.ReadyLaws.{words-few}
 use Rattle.exchanger.specs.Tail.{TailFits}
 
 split-words : (i k size : ℕ) → (i + 1 + k) * size ≡ i * size + size + k * size

@@ -12,8 +12,9 @@ use Rattle.words.specs.Postfix.{arity}
 use Rattle.automaton.specs.StateSet.{StateSet}
 use Rattle.operations.specs.Marks.{sizeOf, storedSet, sameWords}
 use Rattle.operations.proofs.MarksLaws.{same-words}
+use Rattle.slices.proofs.StoredLaws.{row-inside, words-few}
 use Rattle.matcher.specs.Nodes.{setFrom, markedAt, AtNode}
-use Rattle.matcher.proofs.ReadyLaws.{row-inside, words-few, size-few}
+use Rattle.matcher.proofs.ReadyLaws.{size-few}
 use Rattle.matcher.proofs.WriteLaws.{set-front, set-written}
 use Rattle.exchanger.specs.declared.climb.Rise.{Rise}
 use Rattle.exchanger.specs.Climbing.{recomputeAt, climbStep, climbFrom}

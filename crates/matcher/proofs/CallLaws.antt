@@ -4,6 +4,7 @@ use mathlib.Core.Bool.{true, false}
 use mathlib.Core.List.{List}
 use Prim.Native.Nat.{ℕ, _+_, _*_, _<_, _≤_}
 use native.Mathlib.Omega.{arith}
+use lib.ListN.{length}
 use borrow.Author.Tests.{ltb-false, not-false}
 use Rattle.words.proofs.AlphabetLaws.{alphabet-most}
 use Rattle.words.proofs.RefusalLaws.{NoneHolds, refusal-none}
@@ -12,15 +13,15 @@ use Rattle.operations.specs.Marks.{sizeOf}
 use Rattle.operations.specs.Run.{runFault}
 use Rattle.operations.specs.Listing.{listTooShort, listRefusals, listFault}
 use Rattle.operations.proofs.AcceptedLaws.{Counted, count-right, marks-fit, run-accepted}
+use Rattle.slices.proofs.StoredLaws.{row-inside}
 use Rattle.matcher.specs.Nodes.{Workable}
-use Rattle.matcher.proofs.ReadyLaws.{row-inside}
 
 pub table-right : (a table : List ℕ) → noTable a table ≡ false → isTable a table ≡ true
 unfolding noTable
 table-right a table h = not-false (isTable a table) h
 
-pub run-workable : (a table ch : List ℕ) (room stackRoom : ℕ) → runFault a table ch room ≡ 0 → 4096 ≤ stackRoom → Workable a table ch room stackRoom
-run-workable a table ch room stackRoom h l =
+pub run-workable : (a table ch : List ℕ) (room : ℕ) → runFault a table ch room ≡ 0 → Workable a table ch room (length ch)
+run-workable a table ch room h =
     let g = run-accepted a table ch room h in
     let few = g .counted .few in
     record {

@@ -3,6 +3,7 @@ pub mod WorkedLaws
 pub mod MarkLaws
 pub mod ReadyLaws
 pub mod WriteLaws
+pub mod TreeLaws
 pub mod AnswerLaws
 pub mod ListingLaws
 pub mod CallLaws

@@ -5,7 +5,6 @@ use mathlib.Core.Bool.{true}
 use mathlib.Core.List.{List, _∷_, _++_}
 use Prim.Native.Nat.{ℕ, suc, _+_, _-_, _*_, _<_, _≤_}
 use native.Mathlib.Omega.{arith}
-use native.Mathlib.Nat.{suc-mul, le-trans, mul-le-mul-left, mul-le-mul-right}
 use lib.ListN.{length, getD, take, drop, replicate}
 use lib.Seq.{split-at}
 use Rattle.words.specs.Lists.{all}
@@ -19,16 +18,9 @@ use Rattle.automaton.proofs.TableLaws.{isTable-tables, isTable-sizes}
 use Rattle.operations.specs.Marks.{sizeOf, nodeSet}
 use Rattle.step.specs.Ready.{Ready, Prepared, RowsInside, childSets}
 use Rattle.slices.proofs.RefitLaws.{take-drop}
+use Rattle.slices.proofs.StoredLaws.{row-inside}
 use Rattle.matcher.specs.Nodes.{setFrom, Workable, AtNode}
 use Rattle.matcher.proofs.RootLaws.{arity-fits, roots-few, stacked-children, length-children, children-below, below-getD}
-
--- node i's words lie inside the marks of n nodes
-pub row-inside : (i n size room : ℕ) → i < n → n * size ≤ room → i * size + size ≤ room
-row-inside i n size room h l = le-trans (rw (← suc-mul i size) (mul-le-mul-right size h)) l
-
--- the words of all marks are at most 4,096 times 32
-pub words-few : (n size : ℕ) → n ≤ 4096 → size ≤ 32 → n * size ≤ 131072
-words-few n size h l = le-trans (mul-le-mul-right size h) (mul-le-mul-left 4096 l)
 
 -- a state set has at most 32 words
 pub size-few : {a table ch : List ℕ} {marksRoom stackRoom : ℕ} → Workable a table ch marksRoom stackRoom → sizeOf table ≤ 32

@@ -20,13 +20,13 @@ use Rattle.matcher.specs.Nodes.{rootsOf, Stacked, Rootable, AtRoot}
 
 -- ---- the top of a stack is the end of its reverse
 
-take-reverse : (r : ℕ) (l : List ℕ) → take (length l - r) (reverse l) ≡ reverse (drop r l)
+pub take-reverse : (r : ℕ) (l : List ℕ) → take (length l - r) (reverse l) ≡ reverse (drop r l)
 take-reverse r l =
     ap (λ (t : List ℕ). take (length l - r) (reverse t)) (sym (take-append-drop r l))
     ∙ ap (take (length l - r)) (reverse-append (take r l) (drop r l))
     ∙ take-at (reverse (drop r l)) (reverse (take r l)) (length l - r) (length-reverse (drop r l) ∙ length-drop r l)
 
-drop-reverse : (r : ℕ) (l : List ℕ) → drop (length l - r) (reverse l) ≡ reverse (take r l)
+pub drop-reverse : (r : ℕ) (l : List ℕ) → drop (length l - r) (reverse l) ≡ reverse (take r l)
 drop-reverse r l =
     ap (λ (t : List ℕ). drop (length l - r) (reverse t)) (sym (take-append-drop r l))
     ∙ ap (drop (length l - r)) (reverse-append (take r l) (drop r l))
@@ -50,12 +50,12 @@ stacked-push array h roots r v g l room = record {
 
 -- ---- numbers below a bound
 
-below-take : (n k : ℕ) (l : List ℕ) → Below n l → Below n (take k l)
+pub below-take : (n k : ℕ) (l : List ℕ) → Below n l → Below n (take k l)
 below-take n zero l h = tt
 below-take n (suc k) [] h = tt
 below-take n (suc k) (x ∷ l) h = (h .0, below-take n k l (h .1))
 
-below-reverse : (n : ℕ) (l r : List ℕ) → Below n l → Below n r → Below n (reverseAux l r)
+pub below-reverse : (n : ℕ) (l r : List ℕ) → Below n l → Below n r → Below n (reverseAux l r)
 below-reverse n [] r h g = g
 below-reverse n (x ∷ l) r h g = below-reverse n l (x ∷ r) (h .1) (h .0, g)
 

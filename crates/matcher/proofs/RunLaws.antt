@@ -1,47 +1,36 @@
 -- Run's accepted calls: what its parts ask, and that the marks and the cells are those of the definition. Assumes nothing.
 use mathlib.Core.Path.{_≡_, ap, _∙_}
 use mathlib.Core.List.{List, [], _∷_, flatten}
-use Prim.Native.Nat.{ℕ, _-_, _*_, _≤_}
+use Prim.Native.Nat.{ℕ, _*_, _≤_}
 use native.Mathlib.Omega.{arith}
 use lib.ListN.{length, take}
 use lib.Seq.{length-take-le}
-use Rattle.words.specs.Postfix.{stackGiven}
+use Rattle.words.proofs.AcceptedAlphabet.{alphabet-accepted}
 use Rattle.operations.specs.Answer.{refused, accepted}
 use Rattle.operations.specs.Marks.{sizeOf, nodeSets}
 use Rattle.operations.specs.Run.{runFault, runMarks, cellsIn, runAnswer, runExit}
+use Rattle.operations.proofs.AcceptedLaws.{run-accepted}
 use Rattle.operations.proofs.RunLaws.{run-writes, run-length}
-use Rattle.step.specs.Index.{indexOf}
-use Rattle.matcher.specs.Nodes.{markedFrom, Workable, AtNodes}
-use Rattle.matcher.proofs.RootLaws.{stacked-none}
+use Rattle.slices.proofs.StoredLaws.{words-few}
+use Rattle.matcher.specs.Nodes.{markedFrom, Workable}
+use Rattle.matcher.specs.Tree.{TreeToMark}
 use Rattle.matcher.proofs.MarkLaws.{marked-run}
-use Rattle.matcher.proofs.ReadyLaws.{words-few, size-few, table-few}
+use Rattle.matcher.proofs.ReadyLaws.{size-few}
 use Rattle.matcher.proofs.AnswerLaws.{answer-refused, answer-accepted, exit-refused, exit-accepted}
 use Rattle.matcher.proofs.CallLaws.{run-workable}
 
 module _ (a table ch marks : List ℕ) (h : runFault a table ch (length marks) ≡ 0) where
-  workable : Workable a table ch (length marks) 4096
-  workable = run-workable a table ch (length marks) 4096 h (omega arith)
+  workable : Workable a table ch (length marks) (length ch)
+  workable = run-workable a table ch (length marks) h
 
-  pub run-table-few : length table ≤ 2048
-  run-table-few = table-few workable
+  pub run-tree : TreeToMark a table ch (length marks)
+  run-tree =
+      let g = run-accepted a table ch (length marks) h in
+      record { workable = workable; ranks = alphabet-accepted a (rw (g .alphabet, g .constants)) .ranks }
 
-  -- the first n nodes can be worked out: the index is the table's, and the stack is empty and has a place for each node
-  pub run-nodes : (index : List ℕ) → index ≡ indexOf table → (n : ℕ) → n ≤ length ch → (array : List ℕ) → length array ≡ 4096
-      → AtNodes a table index ch 0 n marks array 0
-  unfolding stackGiven
-  run-nodes index q n l array e = record {
-    workable = run-workable a table ch (length marks) (length array) h (omega arith);
-    indexed = q;
-    order = omega arith;
-    inside = l;
-    stacked = stacked-none array;
-  }
-
-  module _ (marks′ : List ℕ) (e : marks′ ≡ markedFrom a table ch 0 (length ch - 0) marks) where
+  module _ (marks′ : List ℕ) (e : marks′ ≡ markedFrom a table ch 0 (length ch) marks) where
     pub run-left : marks′ ≡ runMarks a table ch marks
-    run-left =
-        let z : length ch - 0 ≡ length ch = omega arith in
-        e ∙ ap (λ (n : ℕ). markedFrom a table ch 0 n marks) z ∙ marked-run a table ch marks (workable .marks-room)
+    run-left = e ∙ marked-run a table ch marks (workable .marks-room)
 
     module _ (size : ℕ) (s : size ≡ sizeOf table) where
       pub run-room : length ch * size ≤ length marks′

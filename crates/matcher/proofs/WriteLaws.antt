@@ -8,9 +8,10 @@ use lib.ListN.{length, take, replicate, length-append}
 use lib.Seq.{paste, take-at}
 use Rattle.automaton.specs.StateSet.{StateSet}
 use Rattle.operations.specs.Marks.{sizeOf}
+use Rattle.slices.proofs.StoredLaws.{row-inside, words-few}
 use Rattle.matcher.specs.Nodes.{rootsOf, Stacked, setFrom, markedAt, markedFrom, AtRoot, AtNode, AtNodes}
 use Rattle.matcher.proofs.MarkLaws.{length-setFrom}
-use Rattle.matcher.proofs.ReadyLaws.{row-inside, words-few, size-few}
+use Rattle.matcher.proofs.ReadyLaws.{size-few}
 
 -- ---- one node
 

@@ -2,6 +2,7 @@
 pub mod listing;
 pub mod nodes;
 pub mod run;
+pub mod tree;
 
 // What Run answers: the element count and the cells, or the number of the refusal.
 pub enum Ran {

@@ -6,10 +6,9 @@ ghost use Rattle.operations.specs.Marks.{nodeSets};
 ghost use Rattle.operations.specs.Run.{runFault, runMarks, cellsIn, runAnswer, runExit};
 ghost use Rattle.matcher.specs.Answers.{answerInRan};
 use super::Ran;
-use super::nodes::mark_nodes;
+use super::tree::mark_tree;
 use refusals::run::run_fault;
 use slices::sets::count_cells;
-use step::index::index_of;
 use tables::head::set_size;
 
 // Marks the chapter of a call that is not refused, and answers the number of ones.
@@ -20,21 +19,8 @@ fn run_accepted(alphabet: &[u32], table: &[u32], chapter: &[u32], marks: &mut [u
         now (marks .exit) ≡ runMarks (now (alphabet .entry)) (now (table .entry)) (now (chapter .entry)) (now (marks .entry))
         ⌝ }
 {
-    let count = chapter.len();
-    let index = index_of(table);
-    let mut stack = [0u32; 4096];
-    mark_nodes(
-        alphabet,
-        table,
-        &index,
-        chapter,
-        0,
-        count,
-        marks,
-        &mut stack,
-        0,
-    );
-    count_cells(&marks[..count * set_size(table)])
+    mark_tree(alphabet, table, chapter, marks);
+    count_cells(&marks[..chapter.len() * set_size(table)])
 }
 
 // Document 01's Run: marks the chapter, or refuses.

@@ -5,3 +5,5 @@ pub mod CellLaws
 pub mod RefitLaws
 pub mod RowLaws
 pub mod PartLaws
+pub mod SetLaws
+pub mod StoredLaws

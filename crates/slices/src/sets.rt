@@ -2,10 +2,11 @@
 ghost use mathlib.Core.Path.{_≡_};
 ghost use mathlib.Core.List.{_++_};
 ghost use Prim.Native.Nat.{_+_, _≤_};
-ghost use lib.ListN.{length, drop};
+ghost use lib.ListN.{length, take, drop};
 ghost use lib.Seq.{paste};
 ghost use Rattle.operations.specs.Marks.{sameWords};
 ghost use Rattle.operations.specs.Run.{cellsIn};
+ghost use Rattle.slices.specs.Movable.{Copyable};
 
 // Writes the words of one set to the front of the part that is lent.
 fn write_set(part: &mut [u32], set: &[u32])
@@ -25,6 +26,17 @@ pub fn write_set_at(marks: &mut [u32], at: usize, set: &[u32])
     ensures { λ _. ⌜ now (marks .exit) ≡ paste (now (marks .entry)) at (now (set .entry)) (length (now (set .entry))) ⌝ }
 {
     write_set(&mut marks[at..], set);
+}
+
+// Copies the words of the set at index `from` to the places from index `to` on, through a set of its own, since the marks are
+// not read while a part of them is lent to be written.
+pub fn copy_set(marks: &mut [u32], from: usize, to: usize, size: usize)
+    requires { ⌜ Copyable (now marks) from to size ⌝ }
+    ensures { λ _. ⌜ now (marks .exit) ≡ paste (now (marks .entry)) to (take size (drop from (now (marks .entry)))) size ⌝ }
+{
+    let mut set = [0u32; 32];
+    write_set(&mut set, &marks[from..from + size]);
+    write_set_at(marks, to, &set[..size]);
 }
 
 // Whether two sets have the same words.

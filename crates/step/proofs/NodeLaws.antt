@@ -15,7 +15,7 @@ use Rattle.automaton.proofs.ClosureLaws.{targets-below, seeded-closed-all, word
 use Rattle.automaton.proofs.SetLength.{length-stateSet}
 use Rattle.automaton.proofs.TableLaws.{isTable-automaton, isTable-sizes}
 use Rattle.operations.specs.Marks.{sizeOf}
-use Rattle.step.specs.Ready.{Ready, Prepared, childSets}
+use Rattle.step.specs.Ready.{Ready, Prepared, PreparedIn, childSets}
 use Rattle.step.specs.Growth.{Satisfied, Stack, Settled, Seeding, Followed}
 use Rattle.step.proofs.StartLaws.{member-starts, table-transitions}
 use Rattle.step.proofs.StackLaws.{missing-most}
@@ -36,21 +36,22 @@ stack-none table pending room =
     }
 
 module _ {table index : List ℕ} {f size : ℕ} {marks children : List ℕ} (p : Prepared table index f marks children) (e : size ≡ sizeOf table) where
-  seeding : (n : ℕ) → automatonOf table .states ≤ n → Seeding table index f size marks children (replicate 32 0) (replicate n 0)
-  seeding n h =
+  pub node-seeding : (pending : List ℕ) → automatonOf table .states ≤ length pending
+      → Seeding table index f size marks children (replicate 32 0) pending
+  node-seeding pending h =
       record {
         prepared = p;
         words = e;
-        stack = stack-none table (replicate n 0) (rw (length-replicate {A = ℕ} n 0) h);
-        search = search-none table f (childSets size marks children) (replicate n 0);
+        stack = stack-none table pending h;
+        search = search-none table f (childSets size marks children) pending;
       }
 
-  pub node-seeding : Seeding table index f size marks children (replicate 32 0) (replicate 1024 0)
-  node-seeding = seeding 1024 (states-most (prepared-checked p))
+  pub node-room : PreparedIn table index f marks children (replicate 1024 0)
+  node-room = record { prepared = p; room = rw (length-replicate {A = ℕ} 1024 0) (states-most (prepared-checked p)) }
 
-  pub node-seeding-few : size ≤ 2 → Seeding table index f size marks children (replicate 32 0) (replicate 64 0)
+  pub node-room-few : size ≤ 2 → PreparedIn table index f marks children (replicate 64 0)
   unfolding sizeOf sizeFor
-  node-seeding-few h = seeding 64 (omega arith)
+  node-room-few h = record { prepared = p; room = rw (length-replicate {A = ℕ} 64 0) (omega arith) }
 
 -- ---- zeros behind a set add no state
 

@@ -6,7 +6,7 @@ ghost use lib.ListN.{length, drop, replicate};
 ghost use Rattle.automaton.specs.Transition.{automatonOf, sourcesAt};
 ghost use Rattle.automaton.specs.StateSet.{allContained, stateSet};
 ghost use Rattle.operations.specs.Marks.{sizeOf};
-ghost use Rattle.step.specs.Ready.{Prepared, childSets};
+ghost use Rattle.step.specs.Ready.{Prepared, PreparedIn, childSets};
 ghost use Rattle.step.specs.Growth.{Sources, Room, Put, Seeding, Searched, Closing, ClosingAt, Followed};
 use super::index::KEYS;
 use super::index::STATE_KEYS;
@@ -142,8 +142,40 @@ fn work_out(
     follow_pending(table, index, set, pending, top);
 }
 
-// The state set of a node with this symbol over the children with these node numbers, and zeros behind it. The stack has
-// room for every state, and a short one is sooner cleared.
+// The state set of a node with this symbol over the children with these node numbers, and zeros behind it. The stack is lent,
+// has room for every state and may hold anything.
+pub fn node_set_in(
+    table: &[u32],
+    index: &[u32],
+    symbol: u32,
+    marks: &[u32],
+    children: &[u32],
+    pending: &mut [u32],
+) -> [u32; 32]
+    requires { ⌜ PreparedIn (now table) (now index) symbol (now marks) (now children) (now pending) ⌝ }
+    ensures { λ r. ⌜
+        r
+        ≡ stateSet (automatonOf (now (table .entry))) symbol
+        (childSets (sizeOf (now (table .entry))) (now (marks .entry)) (now (children .entry)))
+        ++ replicate (32 - sizeOf (now (table .entry))) 0
+        ⌝ }
+{
+    let size = set_size(table);
+    let mut set = [0u32; 32];
+    work_out(
+        table,
+        index,
+        symbol,
+        size,
+        marks,
+        children,
+        &mut set,
+        pending,
+    );
+    set
+}
+
+// The same with a stack of its own; a short one is sooner cleared.
 pub fn node_set(
     table: &[u32],
     index: &[u32],
@@ -159,32 +191,10 @@ pub fn node_set(
         ++ replicate (32 - sizeOf (now (table .entry))) 0
         ⌝ }
 {
-    let size = set_size(table);
-    let mut set = [0u32; 32];
-    if size <= FEW_WORDS {
+    if set_size(table) <= FEW_WORDS {
         let mut pending = [0u32; 64];
-        work_out(
-            table,
-            index,
-            symbol,
-            size,
-            marks,
-            children,
-            &mut set,
-            &mut pending,
-        );
-        return set;
+        return node_set_in(table, index, symbol, marks, children, &mut pending);
     }
     let mut pending = [0u32; 1024];
-    work_out(
-        table,
-        index,
-        symbol,
-        size,
-        marks,
-        children,
-        &mut set,
-        &mut pending,
-    );
-    set
+    node_set_in(table, index, symbol, marks, children, &mut pending)
 }

@@ -1,0 +1,111 @@
+-- Laws of keys: they fit into 64 bits, they are not 0, and different steps have different keys. Assumes nothing.
+use mathlib.Core.Path.{_≡_, refl, ap, ap₂, _∙_, sym}
+use mathlib.Core.List.{List, [], _∷_}
+use Prim.Native.Nat.{ℕ, zero, suc, _+_, _-_, _*_, _/_, _^_, _<_, _≤_}
+use native.Mathlib.Omega.{arith}
+use lib.ListN.{length, getD, drop, length-drop}
+use Rattle.words.proofs.ListLaws.{below-drop}
+use Rattle.automaton.specs.Table.{AllBelow}
+use Rattle.memo.specs.Key.{packed, keyOf, Packable, Keyable}
+
+-- four digits of 13 bits
+pub packed-few : (cs : List ℕ) → length cs ≤ 4 → AllBelow 4096 cs → packed cs < 4503599627370496
+packed-few [] l h = omega arith
+packed-few (a ∷ []) l h = let x = h .0 in omega arith
+packed-few (a ∷ b ∷ []) l h =
+    let x = h .0 in
+    let y = h .1 .0 in
+    omega arith
+packed-few (a ∷ b ∷ c ∷ []) l h =
+    let x = h .0 in
+    let y = h .1 .0 in
+    let z = h .1 .1 .0 in
+    omega arith
+packed-few (a ∷ b ∷ c ∷ d ∷ []) l h =
+    let x = h .0 in
+    let y = h .1 .0 in
+    let z = h .1 .1 .0 in
+    let u = h .1 .1 .1 .0 in
+    omega arith
+packed-few (a ∷ b ∷ c ∷ d ∷ e ∷ cs) l h = absurd (omega arith)
+
+-- ---- different lists have different numbers
+
+pub packed-same : (n : ℕ) → n ≤ 4096 → (cs ds : List ℕ) → AllBelow n cs → AllBelow n ds → packed cs ≡ packed ds → cs ≡ ds
+packed-same n m [] [] h g e = refl
+packed-same n m [] (d ∷ ds) h g e = absurd (omega arith)
+packed-same n m (c ∷ cs) [] h g e = absurd (omega arith)
+packed-same n m (c ∷ cs) (d ∷ ds) h g e =
+    let x = h .0 in
+    let y = g .0 in
+    let head : c ≡ d = omega arith in
+    let tail : packed cs ≡ packed ds = omega arith in
+    ap₂ (λ (x : ℕ) (xs : List ℕ). x ∷ xs) head (packed-same n m cs ds (h .1) (g .1) tail)
+
+module _ (f g : ℕ) (cs ds : List ℕ) (hf : f < 256) (hg : g < 256) (e : keyOf f cs ≡ keyOf g ds) where
+  pub key-symbol : f ≡ g
+  unfolding keyOf
+  key-symbol = omega arith
+
+  pub key-nodes : packed cs ≡ packed ds
+  unfolding keyOf
+  key-nodes = omega arith
+
+pub key-some : (f : ℕ) (cs : List ℕ) → keyOf f cs ≡ 0 → ⊥
+unfolding keyOf
+key-some f cs e = omega arith
+
+-- ---- the last of four nodes
+
+pub record Digits (four : List ℕ) : Type 0 where
+  pub first : getD four 0 0 < 4096
+  pub second : getD four 1 0 < 4096
+  pub third : getD four 2 0 < 4096
+  pub fourth : getD four 3 0 < 4096
+
+pub digits : {four : List ℕ} {rank : ℕ} → Packable four rank → Digits four
+digits {four} g = go four (g .length-is) (g .below)
+  where
+    go : (l : List ℕ) → length l ≡ 4 → AllBelow 4096 l → Digits l
+    go [] e h = absurd (omega arith)
+    go (a ∷ []) e h = absurd (omega arith)
+    go (a ∷ b ∷ []) e h = absurd (omega arith)
+    go (a ∷ b ∷ c ∷ []) e h = absurd (omega arith)
+    go (a ∷ b ∷ c ∷ d ∷ l) e h = record { first = h .0; second = h .1 .0; third = h .1 .1 .0; fourth = h .1 .1 .1 .0 }
+
+-- the digits of the others are shifted out
+shifted : (a b c d : ℕ) → a < 4096 → b < 4096 → c < 4096 → d < 4096 → (k : ℕ) → k ≤ 4
+    → (((((d + 1) * 8192 + (c + 1)) * 8192 + (b + 1)) * 8192) + (a + 1)) / 2 ^ (k * 13) ≡ packed (drop k (a ∷ b ∷ c ∷ d ∷ []))
+shifted a b c d x y z u zero h = omega arith
+shifted a b c d x y z u (suc zero) h = omega arith
+shifted a b c d x y z u (suc (suc zero)) h = omega arith
+shifted a b c d x y z u (suc (suc (suc zero))) h = omega arith
+shifted a b c d x y z u (suc (suc (suc (suc zero)))) h = omega arith
+shifted a b c d x y z u (suc (suc (suc (suc (suc k))))) h = absurd (omega arith)
+
+pub pack-is : {four : List ℕ} {rank : ℕ} → Packable four rank
+    → ((((getD four 3 0 + 1) * 8192 + (getD four 2 0 + 1)) * 8192 + (getD four 1 0 + 1)) * 8192 + (getD four 0 0 + 1)) / 2 ^ ((4 - rank) * 13)
+    ≡ packed (drop (4 - rank) four)
+pack-is {four} {rank} g = go four (g .length-is) (g .below)
+  where
+    go : (l : List ℕ) → length l ≡ 4 → AllBelow 4096 l
+        → ((((getD l 3 0 + 1) * 8192 + (getD l 2 0 + 1)) * 8192 + (getD l 1 0 + 1)) * 8192 + (getD l 0 0 + 1)) / 2 ^ ((4 - rank) * 13)
+        ≡ packed (drop (4 - rank) l)
+    go [] e h = absurd (omega arith)
+    go (a ∷ []) e h = absurd (omega arith)
+    go (a ∷ b ∷ []) e h = absurd (omega arith)
+    go (a ∷ b ∷ c ∷ []) e h = absurd (omega arith)
+    go (a ∷ b ∷ c ∷ d ∷ []) e h = shifted a b c d (h .0) (h .1 .0) (h .1 .1 .0) (h .1 .1 .1 .0) (4 - rank) (omega arith)
+    go (a ∷ b ∷ c ∷ d ∷ x ∷ l) e h = absurd (omega arith)
+
+-- a key fits
+pub key-few : {f : ℕ} {four : List ℕ} {rank : ℕ} → Keyable f four rank → packed (drop (4 - rank) four) * 512 + f + 1 < 18446744073709551616
+key-few {f} {four} {rank} g =
+    let s = g .symbol in
+    let e = g .nodes .length-is in
+    let n = packed-few (drop (4 - rank) four) (rw (length-drop (4 - rank) four) (omega arith)) (below-drop 4096 (4 - rank) four (g .nodes .below)) in
+    omega arith
+
+pub key-is : (f : ℕ) (cs : List ℕ) (number : ℕ) → number ≡ packed cs → number * 512 + f + 1 ≡ keyOf f cs
+unfolding keyOf
+key-is f cs number e = ap (λ (n : ℕ). n * 512 + f + 1) e

@@ -1,0 +1,156 @@
+-- The memo: an empty one, what a slot with the key says, and that it stays right when node i is marked. Assumes nothing.
+use mathlib.Core.Path.{_≡_, refl, ap, ap₂, _∙_, sym, subst}
+use mathlib.Core.List.{List, [], _∷_}
+use Prim.Native.Nat.{ℕ, suc, _+_, _-_, _*_, _<_, _≤_}
+use native.Mathlib.Omega.{arith}
+use native.Mathlib.Numerals.{add-one}
+use native.Mathlib.Decide.{ℕ-discrete}
+use lib.ListN.{length, getD, take, drop, set, replicate, length-set, length-drop, length-replicate, getD-replicate}
+use lib.Seq.{paste, take-all, getD-set-same, getD-set-other}
+use Rattle.words.proofs.ListLaws.{below-more, map-below}
+use Rattle.automaton.specs.Table.{AllBelow}
+use Rattle.automaton.specs.Transition.{automatonOf}
+use Rattle.automaton.specs.StateSet.{StateSet, stateSet}
+use Rattle.operations.specs.Marks.{sizeOf, storedSet}
+use Rattle.slices.specs.Movable.{Copyable}
+use Rattle.slices.proofs.StoredLaws.{row-inside, stored-before}
+use Rattle.memo.specs.Key.{packed, keyOf}
+use Rattle.memo.specs.Memo.{setOver, Slot, empty, known, Memo, AtNew, AtNext, New, Next}
+use Rattle.memo.proofs.KeyLaws.{packed-same, key-symbol, key-nodes, key-some}
+use Rattle.memo.proofs.MarkingLaws.{length-setOver, size-few}
+
+pub memo-none : (table marks : List ℕ) → Memo table marks 0 (replicate 1024 0) (replicate 1024 0)
+memo-none table marks = record {
+  keys-are = length-replicate {A = ℕ} 1024 0;
+  nodes-are = length-replicate {A = ℕ} 1024 0;
+  slots = λ s l. empty (getD-replicate {A = ℕ} 1024 s 0 0 l);
+}
+
+-- ---- node i's words are written
+
+module _ (table marks : List ℕ) (i : ℕ) (v : StateSet) (e : length v ≡ sizeOf table) (inside : i * sizeOf table + sizeOf table ≤ length marks)
+    (marks′ : List ℕ) (w : marks′ ≡ paste marks (i * sizeOf table) v (sizeOf table)) where
+  pub stored-kept : (j : ℕ) → j < i → storedSet (sizeOf table) marks′ j ≡ storedSet (sizeOf table) marks j
+  stored-kept j l =
+      ap (λ (m : List ℕ). storedSet (sizeOf table) m j) w ∙ stored-before (sizeOf table) marks i v e inside j l
+
+  -- the state set over earlier nodes stays
+  pub set-kept : (f : ℕ) (cs : List ℕ) → AllBelow i cs → setOver table f marks′ cs ≡ setOver table f marks cs
+  unfolding setOver
+  set-kept f cs b =
+      ap (stateSet (automatonOf table) f) (map-below (storedSet (sizeOf table) marks′) (storedSet (sizeOf table) marks) i cs b stored-kept)
+
+  pub slot-kept : (key node : ℕ) → Slot table marks i key node → Slot table marks′ (i + 1) key node
+  slot-kept key node (empty h) = empty h
+  slot-kept key node (known f cs hf b k l q) =
+      known f cs hf (rw (add-one i) (below-more i cs b)) k (omega arith) (stored-kept node l ∙ q ∙ sym (set-kept f cs b))
+
+-- ---- marking node i
+
+module _ {table index : List ℕ} {f : ℕ} {marks four : List ℕ} {rank i : ℕ} {keys nodes places pending : List ℕ}
+    (g : AtNext table index f marks four rank i keys nodes places pending) where
+  abbrev cs : List ℕ
+  cs = drop (4 - rank) four
+
+  abbrev v : StateSet
+  v = setOver table f marks cs
+
+  abbrev size : ℕ
+  size = sizeOf table
+
+  abbrev part : List ℕ
+  part = take (4 - (4 - rank)) cs
+
+  part-is : part ≡ cs
+  part-is = take-all (4 - (4 - rank)) cs (rw (length-drop (4 - rank) four) (omega (arith, g .keyable .nodes .length-is)))
+
+  -- what working it out asks
+  pub next-new : AtNew table index f marks (take (4 - (4 - rank)) (drop (4 - rank) four)) i places pending
+  next-new = rw part-is (g .new)
+
+  module _ (key : ℕ) (k : key ≡ keyOf f (drop (4 - rank) four)) (s : ℕ) (l : s < 1024) where
+    -- a slot with the key holds a node that has the state set
+    module _ (h : getD keys s 0 ≡ key) where
+      abbrev node : ℕ
+      node = getD nodes s 0
+
+      pub found : (getD nodes s 0 < i) × (storedSet (sizeOf table) marks (getD nodes s 0) ≡ setOver table f marks (drop (4 - rank) four))
+      found = go (g .memo .slots s l)
+        where
+          go : Slot table marks i (getD keys s 0) (getD nodes s 0)
+              → (getD nodes s 0 < i) × (storedSet (sizeOf table) marks (getD nodes s 0) ≡ setOver table f marks cs)
+          go (empty z) = absurd (key-some f cs (sym k ∙ sym h ∙ z))
+          go (known f′ cs′ hf b k′ m q) =
+              let e : keyOf f′ cs′ ≡ keyOf f cs = sym k′ ∙ h ∙ k in
+              let hg = g .keyable .symbol in
+              let few = g .new .few in (
+                m,
+                q ∙ ap₂ (λ (x : ℕ) (xs : List ℕ). setOver table x marks xs) (key-symbol f′ f cs′ cs hf hg e)
+                    (packed-same i (omega arith) cs′ cs b (g .below) (key-nodes f′ f cs′ cs hf hg e)),
+              )
+
+      stored : take (sizeOf table) (drop (getD nodes s 0 * sizeOf table) marks) ≡ setOver table f marks cs
+      unfolding storedSet
+      stored = found .1
+
+      pub found-few : getD nodes s 0 < 4096
+      found-few = let few = g .new .few in omega (arith, found .0)
+
+      module _ (n : ℕ) (sn : n ≡ sizeOf table) where
+        pub found-copyable : Copyable marks (getD nodes s 0 * n) (i * n) n
+        found-copyable = rw sn (
+            let row = g .new .row in
+            record {
+              small = size-few (g .new);
+              source = row-inside (getD nodes s 0) i (sizeOf table) (length marks) (found .0) (omega arith);
+              target = row;
+            })
+
+        pub found-next : (marks′ : List ℕ) → marks′ ≡ paste marks (i * n) (take n (drop (getD nodes s 0 * n) marks)) n
+            → Next table f marks (drop (4 - rank) four) i marks′ (getD nodes s 0) keys nodes
+        found-next marks′ q =
+            let w : marks′ ≡ paste marks (i * size) v size = q ∙ ap (λ (x : ℕ). paste marks (i * x) (take x (drop (node * x) marks)) x) sn ∙ ap (λ (x : List ℕ). paste marks (i * size) x size) stored in
+            let row = g .new .row in
+            let m = found .0 in
+            let len = length-setOver table f marks cs in
+            record {
+              new = record {
+                words = w;
+                low = omega arith;
+                same = stored-kept table marks i v len row marks′ w node m ∙ found .1;
+              };
+              memo = record {
+                keys-are = g .memo .keys-are;
+                nodes-are = g .memo .nodes-are;
+                slots = λ t h. slot-kept table marks i v len row marks′ w (getD keys t 0) (getD nodes t 0) (g .memo .slots t h);
+              };
+            }
+
+    -- node i was worked out, and the step is remembered in this slot
+    pub stored-next : (r : ℕ) (marks′ : List ℕ) → New table f marks (take (4 - (4 - rank)) (drop (4 - rank) four)) i marks′ r
+        → Next table f marks (drop (4 - rank) four) i marks′ r (set keys s key) (set nodes s r)
+    stored-next r marks′ n₀ = record {
+      new = n;
+      memo = record {
+        keys-are = length-set keys s key ∙ g .memo .keys-are;
+        nodes-are = length-set nodes s r ∙ g .memo .nodes-are;
+        slots = λ t h. go t h (ℕ-discrete t s);
+      };
+    }
+      where
+        n : New table f marks cs i marks′ r
+        n = rw part-is at n₀
+
+        len : length (setOver table f marks cs) ≡ sizeOf table
+        len = length-setOver table f marks cs
+
+        go : (t : ℕ) → t < 1024 → Dec (t ≡ s) → Slot table marks′ (i + 1) (getD (set keys s key) t 0) (getD (set nodes s r) t 0)
+        go t h (yes e) =
+            let ke = g .memo .keys-are in
+            let ne = g .memo .nodes-are in
+            rw (e, getD-set-same keys s key 0 (omega arith), getD-set-same nodes s r 0 (omega arith))
+            (known f cs (g .keyable .symbol) (rw (add-one i) (below-more i cs (g .below))) k (n .low)
+            (n .same ∙ sym (set-kept table marks i v len (g .new .row) marks′ (n .words) f cs (g .below))))
+        go t h (no e) =
+            rw (getD-set-other keys s t key 0 e, getD-set-other nodes s t r 0 e)
+            (slot-kept table marks i v len (g .new .row) marks′ (n .words) (getD keys t 0) (getD nodes t 0) (g .memo .slots t h))

@@ -1,0 +1,72 @@
+-- What a memo of node steps holds, and what marking a node by it asks and leaves. These definitions serve inner functions.
+-- Assumes nothing.
+use Prim.Native.Nat.{ℕ, _+_, _-_, _*_, _<_, _≤_}
+use mathlib.Core.Path.{_≡_}
+use mathlib.Core.List.{List}
+use lib.ListN.{length, getD, drop}
+use lib.Seq.{paste}
+use Rattle.automaton.specs.Table.{AllBelow}
+use Rattle.automaton.specs.Transition.{automatonOf}
+use Rattle.automaton.specs.StateSet.{StateSet, stateSet}
+use Rattle.operations.specs.Marks.{sizeOf, storedSet}
+use Rattle.step.specs.Ready.{PreparedIn, childSets}
+use Rattle.memo.specs.Key.{keyOf, Keyable}
+
+-- the state set of a node with symbol f over children with the stored sets of these nodes
+unfoldable pub setOver : List ℕ → ℕ → List ℕ → List ℕ → StateSet
+setOver table f marks cs = stateSet (automatonOf table) f (childSets (sizeOf table) marks cs)
+
+-- ---- the representative of a node
+
+-- what finding the representative of node i asks, where the set is the one that it is to get
+pub record Placeable (marks set : List ℕ) (i : ℕ) (places : List ℕ) : Type 0 where
+  pub few : i < 4096
+  pub small : length set ≤ 32
+  pub rows : i * length set ≤ length marks
+  pub places-are : length places ≡ 1021
+
+-- node r stands for node i: it is node i, or an earlier one with the same words
+pub data Represents (marks : List ℕ) (set : StateSet) (i r : ℕ) : Type 0 where
+  itself : r ≡ i → Represents marks set i r
+  earlier : r < i → storedSet (length set) marks r ≡ set → Represents marks set i r
+
+-- ---- the memo
+
+-- A slot is empty, or it holds the key of a symbol and nodes before i, and such a node that has the state set over these.
+pub data Slot (table marks : List ℕ) (i key node : ℕ) : Type 0 where
+  empty : key ≡ 0 → Slot table marks i key node
+  known : (f : ℕ) (cs : List ℕ) → f < 256 → AllBelow i cs → key ≡ keyOf f cs → node < i
+      → storedSet (sizeOf table) marks node ≡ setOver table f marks cs → Slot table marks i key node
+
+-- the memo before node i is marked
+pub record Memo (table marks : List ℕ) (i : ℕ) (keys nodes : List ℕ) : Type 0 where
+  pub keys-are : length keys ≡ 1024
+  pub nodes-are : length nodes ≡ 1024
+  pub slots : (s : ℕ) → s < 1024 → Slot table marks i (getD keys s 0) (getD nodes s 0)
+
+-- ---- marking node i
+
+-- what working it out asks
+pub record AtNew (table index : List ℕ) (f : ℕ) (marks cs : List ℕ) (i : ℕ) (places pending : List ℕ) : Type 0 where
+  pub prepared : PreparedIn table index f marks cs pending
+  pub few : i < 4096
+  pub row : i * sizeOf table + sizeOf table ≤ length marks
+  pub places-are : length places ≡ 1021
+
+-- the marks with node i's words, and a node up to i that has the same
+pub record New (table : List ℕ) (f : ℕ) (marks cs : List ℕ) (i : ℕ) (marks′ : List ℕ) (r : ℕ) : Type 0 where
+  pub words : marks′ ≡ paste marks (i * sizeOf table) (setOver table f marks cs) (sizeOf table)
+  pub low : r < i + 1
+  pub same : storedSet (sizeOf table) marks′ r ≡ setOver table f marks cs
+
+-- what marking it by the memo asks; its children are represented by the last `rank` of four nodes
+pub record AtNext (table index : List ℕ) (f : ℕ) (marks four : List ℕ) (rank i : ℕ) (keys nodes places pending : List ℕ) : Type 0 where
+  pub new : AtNew table index f marks (drop (4 - rank) four) i places pending
+  pub keyable : Keyable f four rank
+  pub below : AllBelow i (drop (4 - rank) four)
+  pub memo : Memo table marks i keys nodes
+
+-- what it leaves
+pub record Next (table : List ℕ) (f : ℕ) (marks cs : List ℕ) (i : ℕ) (marks′ : List ℕ) (r : ℕ) (keys nodes : List ℕ) : Type 0 where
+  pub new : New table f marks cs i marks′ r
+  pub memo : Memo table marks′ (i + 1) keys nodes
