@@ -19,7 +19,7 @@ use Rattle.automaton.specs.StateSet.{StateSet, contains, insert}
 -- ---- bits of a number
 
 -- a bit of an or is the larger of the two bits
-or-bit : (a b k : ℕ) → bitOr a b / 2 ^ k % 2 ≡ max (a / 2 ^ k % 2) (b / 2 ^ k % 2)
+pub or-bit : (a b k : ℕ) → bitOr a b / 2 ^ k % 2 ≡ max (a / 2 ^ k % 2) (b / 2 ^ k % 2)
 or-bit a b k =
     ap (λ (x : ℕ). x % 2) (or-shr a b k ∙ or-step (a / 2 ^ k) (b / 2 ^ k))
     ∙ low (bitOr (a / 2 ^ k / 2) (b / 2 ^ k / 2)) (a / 2 ^ k) (b / 2 ^ k)

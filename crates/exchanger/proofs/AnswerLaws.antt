@@ -7,7 +7,7 @@ use lib.ListN.{length, take}
 use Rattle.operations.specs.Answer.{Answer, refused, accepted}
 use Rattle.operations.specs.Marks.{sizeOf, refit}
 use Rattle.operations.specs.Exchange.{setIn, recomputedIn, exchangeFault, fault, newTree, outcomes, exchangeAnswer, exchangeChapter, exchangeMarks}
-use Rattle.matcher.proofs.AnswerLaws.{answer-refused, answer-accepted, exit-refused, exit-accepted}
+use Rattle.refusals.proofs.AnswerLaws.{answer-refused, answer-accepted, exit-refused, exit-accepted}
 
 module _ (a table chapter marks : List ℕ) (n e : ℕ) (xs : List ℕ) where
   -- the contract of Exchange

@@ -1,37 +1,32 @@
 -- What is known of a call of Run and of one of List that is not refused. Assumes nothing.
 use mathlib.Core.Path.{_≡_, refl}
-use mathlib.Core.Bool.{true, false}
+use mathlib.Core.Bool.{true}
 use mathlib.Core.List.{List}
 use Prim.Native.Nat.{ℕ, _+_, _*_, _<_, _≤_}
 use native.Mathlib.Omega.{arith}
 use lib.ListN.{length}
-use borrow.Author.Tests.{ltb-false, not-false}
+use borrow.Author.Tests.{ltb-false}
 use Rattle.words.proofs.AlphabetLaws.{alphabet-most}
+use Rattle.words.proofs.AcceptedAlphabet.{alphabet-accepted}
 use Rattle.words.proofs.RefusalLaws.{NoneHolds, refusal-none}
-use Rattle.automaton.specs.Table.{isTable, noTable}
+use Rattle.automaton.specs.Table.{isTable}
 use Rattle.operations.specs.Marks.{sizeOf}
 use Rattle.operations.specs.Run.{runFault}
 use Rattle.operations.specs.Listing.{listTooShort, listRefusals, listFault}
 use Rattle.operations.proofs.AcceptedLaws.{Counted, count-right, marks-fit, run-accepted}
 use Rattle.slices.proofs.StoredLaws.{row-inside}
-use Rattle.matcher.specs.Nodes.{Workable}
+use Rattle.refusals.proofs.SharedLaws.{table-right}
+use Rattle.nodes.specs.Nodes.{Workable}
 
-pub table-right : (a table : List ℕ) → noTable a table ≡ false → isTable a table ≡ true
-unfolding noTable
-table-right a table h = not-false (isTable a table) h
-
-pub run-workable : (a table ch : List ℕ) (room : ℕ) → runFault a table ch room ≡ 0 → Workable a table ch room (length ch)
+pub run-workable : (a table ch : List ℕ) (room : ℕ) → runFault a table ch room ≡ 0 → Workable a table ch room
 run-workable a table ch room h =
     let g = run-accepted a table ch room h in
-    let few = g .counted .few in
     record {
       alphabet = alphabet-most a (g .alphabet);
+      ranks = alphabet-accepted a (rw (g .alphabet, g .constants)) .ranks;
       checked = table-right a table (g .automaton);
-      nodes = g .nodes;
-      tree = g .tree;
-      few = few;
+      tree = record { nodes = g .nodes; tree = g .tree; few = g .counted .few };
       marks-room = g .marks;
-      stack-room = omega arith;
     }
 
 pub record ListAccepted (a table : List ℕ) (n room places : ℕ) : Type 0 where

@@ -1,10 +1,3 @@
-pub mod RootLaws
-pub mod WorkedLaws
-pub mod MarkLaws
-pub mod ReadyLaws
-pub mod WriteLaws
-pub mod TreeLaws
-pub mod AnswerLaws
 pub mod ListingLaws
 pub mod CallLaws
 pub mod RunLaws

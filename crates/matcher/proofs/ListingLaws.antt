@@ -13,7 +13,7 @@ use Rattle.automaton.specs.StateSet.{StateSet, contains}
 use Rattle.operations.specs.Answer.{refused, accepted}
 use Rattle.operations.specs.Marks.{sizeOf, finalOf, storedSet}
 use Rattle.operations.specs.Listing.{matchesIn, matchesOf, listFault, listAnswer, listExit}
-use Rattle.matcher.proofs.AnswerLaws.{answer-refused, answer-accepted, exit-refused, exit-accepted}
+use Rattle.refusals.proofs.AnswerLaws.{answer-refused, answer-accepted, exit-refused, exit-accepted}
 
 module _ (final : ℕ) where
   pub matches-append : (l k : List StateSet) (i : ℕ) → matchesIn final i (l ++ k) ≡ matchesIn final i l ++ matchesIn final (i + length l) k

@@ -1,8 +1,6 @@
 // Run and List (document 01): state sets for the nodes of a tree, and the matches.
 pub mod listing;
-pub mod nodes;
 pub mod run;
-pub mod tree;
 
 // What Run answers: the element count and the cells, or the number of the refusal.
 pub enum Ran {

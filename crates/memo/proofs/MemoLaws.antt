@@ -12,19 +12,49 @@ use Rattle.automaton.specs.Table.{AllBelow}
 use Rattle.automaton.specs.Transition.{automatonOf}
 use Rattle.automaton.specs.StateSet.{StateSet, stateSet}
 use Rattle.operations.specs.Marks.{sizeOf, storedSet}
+use Rattle.step.specs.Closure.{Closures}
 use Rattle.slices.specs.Movable.{Copyable}
 use Rattle.slices.proofs.StoredLaws.{row-inside, stored-before}
 use Rattle.memo.specs.Key.{packed, keyOf}
-use Rattle.memo.specs.Memo.{setOver, Slot, empty, known, Memo, AtNew, AtNext, New, Next}
+use Rattle.memo.specs.Memo.{setOver, Slot, empty, known, Remembered, AtNew, AtNext, New, Next}
 use Rattle.memo.proofs.KeyLaws.{packed-same, key-symbol, key-nodes, key-some}
 use Rattle.memo.proofs.MarkingLaws.{length-setOver, size-few}
 
-pub memo-none : (table marks : List ℕ) → Memo table marks 0 (replicate 1024 0) (replicate 1024 0)
-memo-none table marks = record {
-  keys-are = length-replicate {A = ℕ} 1024 0;
-  nodes-are = length-replicate {A = ℕ} 1024 0;
-  slots = λ s l. empty (getD-replicate {A = ℕ} 1024 s 0 0 l);
+-- an array of zeros of every kind: nothing is remembered
+pub nothing-remembered : (table marks : List ℕ) (i : ℕ)
+    → Remembered table marks i (replicate 1024 0) (replicate 1024 0) (replicate 1021 0) (replicate 64 0) (replicate 2048 0) (replicate 1024 0)
+nothing-remembered table marks i = record {
+  memo = record {
+    keys-are = length-replicate {A = ℕ} 1024 0;
+    nodes-are = length-replicate {A = ℕ} 1024 0;
+    slots = λ s l. empty (getD-replicate {A = ℕ} 1024 s 0 0 l);
+  };
+  places-are = length-replicate {A = ℕ} 1021 0;
+  closures = record {
+    owners-are = length-replicate {A = ℕ} 64 0;
+    rows-are = length-replicate {A = ℕ} 2048 0;
+    kept = λ k s l e. absurd (omega (arith, sym e ∙ getD-replicate {A = ℕ} 64 k 0 0 l));
+  };
+  pending-are = length-replicate {A = ℕ} 1024 0;
 }
+
+-- node i is passed and its words stay
+pub remembered-later : {table marks : List ℕ} {i : ℕ} {keys nodes places owners rows pending : List ℕ}
+    → Remembered table marks i keys nodes places owners rows pending → Remembered table marks (i + 1) keys nodes places owners rows pending
+remembered-later {table} {marks} {i} {keys} {nodes} g = record {
+  memo = record {
+    keys-are = g .memo .keys-are;
+    nodes-are = g .memo .nodes-are;
+    slots = λ s l. go (getD keys s 0) (getD nodes s 0) (g .memo .slots s l);
+  };
+  places-are = g .places-are;
+  closures = g .closures;
+  pending-are = g .pending-are;
+}
+  where
+    go : (key node : ℕ) → Slot table marks i key node → Slot table marks (i + 1) key node
+    go key node (empty h) = empty h
+    go key node (known f cs hf b k l q) = known f cs hf (rw (add-one i) (below-more i cs b)) k (omega arith) q
 
 -- ---- node i's words are written
 
@@ -47,8 +77,8 @@ module _ (table marks : List ℕ) (i : ℕ) (v : StateSet) (e : length v ≡ siz
 
 -- ---- marking node i
 
-module _ {table index : List ℕ} {f : ℕ} {marks four : List ℕ} {rank i : ℕ} {keys nodes places pending : List ℕ}
-    (g : AtNext table index f marks four rank i keys nodes places pending) where
+module _ {table index : List ℕ} {f : ℕ} {marks four : List ℕ} {rank i : ℕ} {keys nodes places owners rows pending : List ℕ}
+    (g : AtNext table index f marks four rank i keys nodes places owners rows pending) where
   abbrev cs : List ℕ
   cs = drop (4 - rank) four
 
@@ -65,7 +95,7 @@ module _ {table index : List ℕ} {f : ℕ} {marks four : List ℕ} {rank i : �
   part-is = take-all (4 - (4 - rank)) cs (rw (length-drop (4 - rank) four) (omega (arith, g .keyable .nodes .length-is)))
 
   -- what working it out asks
-  pub next-new : AtNew table index f marks (take (4 - (4 - rank)) (drop (4 - rank) four)) i places pending
+  pub next-new : AtNew table index f marks (take (4 - (4 - rank)) (drop (4 - rank) four)) i places owners rows pending
   next-new = rw part-is (g .new)
 
   module _ (key : ℕ) (k : key ≡ keyOf f (drop (4 - rank) four)) (s : ℕ) (l : s < 1024) where
@@ -75,7 +105,7 @@ module _ {table index : List ℕ} {f : ℕ} {marks four : List ℕ} {rank i : �
       node = getD nodes s 0
 
       pub found : (getD nodes s 0 < i) × (storedSet (sizeOf table) marks (getD nodes s 0) ≡ setOver table f marks (drop (4 - rank) four))
-      found = go (g .memo .slots s l)
+      found = go (g .remembered .memo .slots s l)
         where
           go : Slot table marks i (getD keys s 0) (getD nodes s 0)
               → (getD nodes s 0 < i) × (storedSet (sizeOf table) marks (getD nodes s 0) ≡ setOver table f marks cs)
@@ -107,7 +137,7 @@ module _ {table index : List ℕ} {f : ℕ} {marks four : List ℕ} {rank i : �
             })
 
         pub found-next : (marks′ : List ℕ) → marks′ ≡ paste marks (i * n) (take n (drop (getD nodes s 0 * n) marks)) n
-            → Next table f marks (drop (4 - rank) four) i marks′ (getD nodes s 0) keys nodes
+            → Next table f marks (drop (4 - rank) four) i marks′ (getD nodes s 0) keys nodes places owners rows pending
         found-next marks′ q =
             let w : marks′ ≡ paste marks (i * size) v size = q ∙ ap (λ (x : ℕ). paste marks (i * x) (take x (drop (node * x) marks)) x) sn ∙ ap (λ (x : List ℕ). paste marks (i * size) x size) stored in
             let row = g .new .row in
@@ -119,22 +149,33 @@ module _ {table index : List ℕ} {f : ℕ} {marks four : List ℕ} {rank i : �
                 low = omega arith;
                 same = stored-kept table marks i v len row marks′ w node m ∙ found .1;
               };
-              memo = record {
-                keys-are = g .memo .keys-are;
-                nodes-are = g .memo .nodes-are;
-                slots = λ t h. slot-kept table marks i v len row marks′ w (getD keys t 0) (getD nodes t 0) (g .memo .slots t h);
+              remembered = record {
+                memo = record {
+                  keys-are = g .remembered .memo .keys-are;
+                  nodes-are = g .remembered .memo .nodes-are;
+                  slots = λ t h. slot-kept table marks i v len row marks′ w (getD keys t 0) (getD nodes t 0) (g .remembered .memo .slots t h);
+                };
+                places-are = g .remembered .places-are;
+                closures = g .remembered .closures;
+                pending-are = g .remembered .pending-are;
               };
             }
 
     -- node i was worked out, and the step is remembered in this slot
     pub stored-next : (r : ℕ) (marks′ : List ℕ) → New table f marks (take (4 - (4 - rank)) (drop (4 - rank) four)) i marks′ r
-        → Next table f marks (drop (4 - rank) four) i marks′ r (set keys s key) (set nodes s r)
-    stored-next r marks′ n₀ = record {
+        → {places′ owners′ rows′ pending′ : List ℕ} → length places′ ≡ length places → Closures table owners′ rows′ → length pending′ ≡ length pending
+        → Next table f marks (drop (4 - rank) four) i marks′ r (set keys s key) (set nodes s r) places′ owners′ rows′ pending′
+    stored-next r marks′ n₀ p c q = record {
       new = n;
-      memo = record {
-        keys-are = length-set keys s key ∙ g .memo .keys-are;
-        nodes-are = length-set nodes s r ∙ g .memo .nodes-are;
-        slots = λ t h. go t h (ℕ-discrete t s);
+      remembered = record {
+        memo = record {
+          keys-are = length-set keys s key ∙ g .remembered .memo .keys-are;
+          nodes-are = length-set nodes s r ∙ g .remembered .memo .nodes-are;
+          slots = λ t h. go t h (ℕ-discrete t s);
+        };
+        places-are = p ∙ g .remembered .places-are;
+        closures = c;
+        pending-are = q ∙ g .remembered .pending-are;
       };
     }
       where
@@ -146,11 +187,11 @@ module _ {table index : List ℕ} {f : ℕ} {marks four : List ℕ} {rank i : �
 
         go : (t : ℕ) → t < 1024 → Dec (t ≡ s) → Slot table marks′ (i + 1) (getD (set keys s key) t 0) (getD (set nodes s r) t 0)
         go t h (yes e) =
-            let ke = g .memo .keys-are in
-            let ne = g .memo .nodes-are in
+            let ke = g .remembered .memo .keys-are in
+            let ne = g .remembered .memo .nodes-are in
             rw (e, getD-set-same keys s key 0 (omega arith), getD-set-same nodes s r 0 (omega arith))
             (known f cs (g .keyable .symbol) (rw (add-one i) (below-more i cs (g .below))) k (n .low)
             (n .same ∙ sym (set-kept table marks i v len (g .new .row) marks′ (n .words) f cs (g .below))))
         go t h (no e) =
             rw (getD-set-other keys s t key 0 e, getD-set-other nodes s t r 0 e)
-            (slot-kept table marks i v len (g .new .row) marks′ (n .words) (getD keys t 0) (getD nodes t 0) (g .memo .slots t h))
+            (slot-kept table marks i v len (g .new .row) marks′ (n .words) (getD keys t 0) (getD nodes t 0) (g .remembered .memo .slots t h))

@@ -9,7 +9,9 @@ use Rattle.automaton.specs.Table.{AllBelow}
 use Rattle.automaton.specs.Transition.{automatonOf}
 use Rattle.automaton.specs.StateSet.{StateSet, stateSet}
 use Rattle.operations.specs.Marks.{sizeOf, storedSet}
-use Rattle.step.specs.Ready.{PreparedIn, childSets}
+use Rattle.step.specs.Ready.{childSets}
+use Rattle.step.specs.Closure.{Closures}
+use Rattle.step.specs.Node.{Steppable}
 use Rattle.memo.specs.Key.{keyOf, Keyable}
 
 -- the state set of a node with symbol f over children with the stored sets of these nodes
@@ -44,11 +46,19 @@ pub record Memo (table marks : List ℕ) (i : ℕ) (keys nodes : List ℕ) : Typ
   pub nodes-are : length nodes ≡ 1024
   pub slots : (s : ℕ) → s < 1024 → Slot table marks i (getD keys s 0) (getD nodes s 0)
 
+-- what is kept from node to node, before node i is marked: the memo, the places of the nodes that represent others, closures of
+-- states, and a stack of states, which may hold anything
+pub record Remembered (table marks : List ℕ) (i : ℕ) (keys nodes places owners rows pending : List ℕ) : Type 0 where
+  pub memo : Memo table marks i keys nodes
+  pub places-are : length places ≡ 1021
+  pub closures : Closures table owners rows
+  pub pending-are : length pending ≡ 1024
+
 -- ---- marking node i
 
 -- what working it out asks
-pub record AtNew (table index : List ℕ) (f : ℕ) (marks cs : List ℕ) (i : ℕ) (places pending : List ℕ) : Type 0 where
-  pub prepared : PreparedIn table index f marks cs pending
+pub record AtNew (table index : List ℕ) (f : ℕ) (marks cs : List ℕ) (i : ℕ) (places owners rows pending : List ℕ) : Type 0 where
+  pub steppable : Steppable table index f marks cs owners rows pending
   pub few : i < 4096
   pub row : i * sizeOf table + sizeOf table ≤ length marks
   pub places-are : length places ≡ 1021
@@ -60,13 +70,13 @@ pub record New (table : List ℕ) (f : ℕ) (marks cs : List ℕ) (i : ℕ) (mar
   pub same : storedSet (sizeOf table) marks′ r ≡ setOver table f marks cs
 
 -- what marking it by the memo asks; its children are represented by the last `rank` of four nodes
-pub record AtNext (table index : List ℕ) (f : ℕ) (marks four : List ℕ) (rank i : ℕ) (keys nodes places pending : List ℕ) : Type 0 where
-  pub new : AtNew table index f marks (drop (4 - rank) four) i places pending
+pub record AtNext (table index : List ℕ) (f : ℕ) (marks four : List ℕ) (rank i : ℕ) (keys nodes places owners rows pending : List ℕ) : Type 0 where
+  pub new : AtNew table index f marks (drop (4 - rank) four) i places owners rows pending
   pub keyable : Keyable f four rank
   pub below : AllBelow i (drop (4 - rank) four)
-  pub memo : Memo table marks i keys nodes
+  pub remembered : Remembered table marks i keys nodes places owners rows pending
 
 -- what it leaves
-pub record Next (table : List ℕ) (f : ℕ) (marks cs : List ℕ) (i : ℕ) (marks′ : List ℕ) (r : ℕ) (keys nodes : List ℕ) : Type 0 where
+pub record Next (table : List ℕ) (f : ℕ) (marks cs : List ℕ) (i : ℕ) (marks′ : List ℕ) (r : ℕ) (keys nodes places owners rows pending : List ℕ) : Type 0 where
   pub new : New table f marks cs i marks′ r
-  pub memo : Memo table marks′ (i + 1) keys nodes
+  pub remembered : Remembered table marks′ (i + 1) keys nodes places owners rows pending

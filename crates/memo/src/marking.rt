@@ -3,6 +3,7 @@ ghost use mathlib.Core.Path.{_≡_};
 ghost use Prim.Native.Nat.{_-_, _*_};
 ghost use lib.ListN.{take, drop};
 ghost use lib.Seq.{paste};
+ghost use Rattle.step.specs.Closure.{Closures};
 ghost use Rattle.slices.specs.Movable.{Copyable};
 ghost use Rattle.memo.specs.Memo.{AtNew, New, AtNext, Next};
 use super::key::key_of;
@@ -10,7 +11,7 @@ use super::key::slot_of;
 use super::representative::representative;
 use slices::sets::copy_set;
 use slices::sets::write_set_at;
-use step::node::node_set_in;
+use step::node::node_set;
 use tables::head::set_size;
 
 // Works out node i's state set and writes it; answers the node's representative.
@@ -22,13 +23,27 @@ fn mark_new(
     children: &[u32],
     i: usize,
     places: &mut [u32],
+    owners: &mut [u32],
+    rows: &mut [u32],
     pending: &mut [u32],
 ) -> usize
-    requires { ⌜ AtNew (now table) (now index) symbol (now marks) (now children) i (now places) (now pending) ⌝ }
-    ensures { λ r. ⌜ New (now (table .entry)) symbol (now (marks .entry)) (now (children .entry)) i (now (marks .exit)) r ⌝ }
+    requires { ⌜
+        AtNew (now table) (now index) symbol (now marks) (now children) i (now places) (now owners) (now rows) (now pending)
+        ⌝ }
+    ensures answer { λ r. ⌜ New (now (table .entry)) symbol (now (marks .entry)) (now (children .entry)) i (now (marks .exit)) r ⌝ }
+    ensures closures { λ _. ⌜ Closures (now (table .entry)) (now (owners .exit)) (now (rows .exit)) ⌝ }
 {
     let size = set_size(table);
-    let set = node_set_in(table, index, symbol, marks, children, pending);
+    let set = node_set(
+        table,
+        index,
+        symbol,
+        marks,
+        children,
+        owners,
+        rows,
+        pending,
+    );
     let node = representative(marks, &set[..size], i, places);
     write_set_at(marks, i * size, &set[..size]);
     node
@@ -62,11 +77,15 @@ pub fn mark_next(
     keys: &mut [u64],
     nodes: &mut [u32],
     places: &mut [u32],
+    owners: &mut [u32],
+    rows: &mut [u32],
     pending: &mut [u32],
 ) -> usize
-    requires { ⌜ AtNext (now table) (now index) symbol (now marks) (now four) rank i (now keys) (now nodes) (now places) (now pending) ⌝ }
+    requires { ⌜
+        AtNext (now table) (now index) symbol (now marks) (now four) rank i (now keys) (now nodes) (now places) (now owners) (now rows) (now pending)
+        ⌝ }
     ensures { λ r. ⌜
-        Next (now (table .entry)) symbol (now (marks .entry)) (drop (4 - rank) (now (four .entry))) i (now (marks .exit)) r (now (keys .exit)) (now (nodes .exit))
+        Next (now (table .entry)) symbol (now (marks .entry)) (drop (4 - rank) (now (four .entry))) i (now (marks .exit)) r (now (keys .exit)) (now (nodes .exit)) (now (places .exit)) (now (owners .exit)) (now (rows .exit)) (now (pending .exit))
         ⌝ }
 {
     let key = key_of(symbol, four, rank);
@@ -85,6 +104,8 @@ pub fn mark_next(
         &four[4 - rank..4],
         i,
         places,
+        owners,
+        rows,
         pending,
     );
     keys[slot] = key;

@@ -1,3 +1,4 @@
+pub mod AnswerLaws
 pub mod SharedLaws
 pub mod RunLaws
 pub mod ListLaws

@@ -6,6 +6,7 @@ use mathlib.Core.List.{List, [], _∷_}
 use Prim.Native.Nat.{ℕ, _*_, _≤_}
 use native.Mathlib.Omega.{arith}
 use native.Mathlib.Nat.{le-trans, mul-le-mul-left, mul-le-mul-right}
+use borrow.Author.Tests.{not-false}
 use Rattle.words.specs.Refusal.{Refusals, refusal}
 use Rattle.words.specs.Alphabet.{alphabetRefusals, alphabetFault}
 use Rattle.words.proofs.RefusalLaws.{refusal-here, refusal-next, refusal-rest, part-refuses}
@@ -55,3 +56,7 @@ module _ (a table : List ℕ) where
     pub table-none : isTable a table ≡ true → _≡_ {A = ℕ} 0 (tableFault a table)
     unfolding eight noTable
     table-none h = past 0 (one-passes 8 (noTable a table) [] (rw h) 0 refl)
+
+pub table-right : (a table : List ℕ) → noTable a table ≡ false → isTable a table ≡ true
+unfolding noTable
+table-right a table h = not-false (isTable a table) h

@@ -3,9 +3,10 @@ use mathlib.Core.Path.{_≡_, ap, _∙_, sym}
 use mathlib.Core.List.{List, _++_, append-assoc}
 use Prim.Native.Nat.{ℕ, _+_, _-_, _*_, _<_, _≤_}
 use native.Mathlib.Omega.{arith}
+use native.Mathlib.Decide.{decLt}
 use native.Mathlib.Nat.{suc-mul, le-trans, mul-le-mul-left, mul-le-mul-right}
 use lib.ListN.{length, take, drop}
-use lib.Seq.{paste, slice, length-take-le, take-all, take-at, drop-at, take-take}
+use lib.Seq.{paste, slice, length-take-le, take-all, take-at, drop-at, drop-drop, drop-paste, take-take}
 use Rattle.automaton.specs.StateSet.{StateSet}
 use Rattle.operations.specs.Marks.{storedSet}
 use Rattle.slices.proofs.RefitLaws.{take-drop}
@@ -50,3 +51,21 @@ module _ (size : ℕ) (marks : List ℕ) (i : ℕ) (v : StateSet) (e : length v 
       part-same size (i * size) j (paste marks (i * size) v size) marks (row-inside j i size (i * size) h (omega arith))
       (ap (take (i * size)) (append-assoc (take (i * size) marks) (take size v) rest)
       ∙ take-at (take (i * size) marks) (take size v ++ rest) (i * size) front)
+
+  pub stored-after : (j : ℕ) → i < j → storedSet size (paste marks (i * size) v size) j ≡ storedSet size marks j
+  unfolding storedSet
+  stored-after j h =
+      let up = row-inside i j size (j * size) h (omega arith) in
+      let past = j * size - (i * size + size) in
+      let n : i * size + size + past ≡ j * size = omega arith in
+      let back : (l : List ℕ) → drop (j * size) l ≡ drop past (drop (i * size + size) l)
+            = λ l. ap (λ (k : ℕ). drop k l) (sym n) ∙ sym (drop-drop past (i * size + size) l) in
+      ap (take size)
+      (back (paste marks (i * size) v size) ∙ ap (drop past) (drop-paste marks (i * size) v size (omega arith) (omega arith)) ∙ sym (back marks))
+
+  pub stored-other : (j : ℕ) → (j ≡ i → ⊥) → storedSet size (paste marks (i * size) v size) j ≡ storedSet size marks j
+  stored-other j n = go (decLt j i)
+    where
+      go : Dec (j < i) → storedSet size (paste marks (i * size) v size) j ≡ storedSet size marks j
+      go (yes h) = stored-before j h
+      go (no h) = stored-after j (omega arith)

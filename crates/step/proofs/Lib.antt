@@ -3,9 +3,11 @@ pub mod WordLaws
 pub mod StackLaws
 pub mod SearchLaws
 pub mod FollowLaws
-pub mod SymbolLaws
 pub mod EpsilonLaws
-pub mod StartLaws
+pub mod ClosureLaws
+pub mod JoinLaws
+pub mod SymbolLaws
 pub mod NodeLaws
+pub mod StartLaws
 pub mod ChainLaws
 pub mod IndexLaws

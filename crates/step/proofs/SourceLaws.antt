@@ -13,7 +13,7 @@ use Rattle.automaton.specs.Transition.{sourcesAt}
 use Rattle.automaton.specs.StateSet.{contains, allContained}
 use Rattle.operations.specs.Marks.{storedSet}
 use Rattle.step.specs.Ready.{childSets}
-use Rattle.step.specs.Growth.{Sources}
+use Rattle.step.specs.Node.{Sources}
 
 -- ---- the first of some part states
 

@@ -14,7 +14,7 @@ use Rattle.words.proofs.ListLaws.{length-listFrom}
 use Rattle.automaton.specs.Transition.{automatonOf}
 use Rattle.automaton.specs.StateSet.{StateSet, contains, insert}
 use Rattle.automaton.proofs.BitLaws.{length-insert, insert-same, insert-other, insert-keeps}
-use Rattle.step.specs.Growth.{missing, Stack, Room, Put, work}
+use Rattle.step.specs.Closure.{missing, Stack, Room, Put, work}
 
 -- ---- what was put
 

@@ -14,7 +14,7 @@ use Rattle.words.proofs.TestLaws.{and-true}
 use Rattle.words.proofs.KindLaws.{isOf-facts}
 use Rattle.automaton.specs.Transition.{Transition, onSymbol, epsilon, sourcesAt, transitionsAt, automatonOf}
 use Rattle.automaton.specs.Table.{isHead, areTransitions, isTable}
-use Rattle.step.specs.Growth.{startsAt}
+use Rattle.step.specs.Closure.{startsAt}
 
 -- ---- one word more in front
 

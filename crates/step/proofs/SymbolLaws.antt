@@ -1,108 +1,178 @@
 -- The chain of a node's symbol, followed from its first word to its end: the set holds what the transitions on the symbol
--- lead to. Assumes nothing.
-use mathlib.Core.Path.{_≡_, refl, _∙_, sym, subst}
+-- lead to, and stays closed. Assumes nothing.
+use mathlib.Core.Path.{_≡_, refl, ap, _∙_, sym, subst}
+use mathlib.Core.Logic.{⊎-elim}
 use mathlib.Core.Bool.{Bool, true, false, true≢false}
 use mathlib.Core.List.{List}
 use Prim.Native.Nat.{ℕ, _+_, _<_, _≤_}
 use native.Mathlib.Omega.{arith}
+use native.Mathlib.Decide.{ℕ-discrete, decLt}
 use lib.ListN.{length, getD, drop}
 use Rattle.words.specs.Word.{stateBelow}
-use Rattle.automaton.specs.Transition.{automatonOf, sourcesAt}
-use Rattle.automaton.specs.StateSet.{StateSet, allContained}
+use Rattle.automaton.specs.Transition.{Transition, automatonOf, sourcesAt}
+use Rattle.automaton.specs.StateSet.{StateSet, contains, allContained}
+use Rattle.automaton.specs.Reached.{Reached, byEpsilon}
+use Rattle.step.specs.Index.{keyOf}
 use Rattle.step.specs.Ready.{Prepared, Checked, RowsInside, childSets}
-use Rattle.step.specs.Growth.{Stack, Search, Room, Put, Sources, Seeding, Searched}
+use Rattle.step.specs.Closure.{ReachedFrom, itself, onward, Closures, Joinable, JoinedClosure}
+use Rattle.step.specs.Node.{Sources, Growing, Satisfied, Steppable, Seeding, SeedingAt, Joined, Seeded}
 use Rattle.step.proofs.ChainLaws.{Next, SymbolWord, nextWith, next-some, next-none, symbol-word}
-use Rattle.step.proofs.WordLaws.{satisfied-symbol, symbol-below, symbol-reached, symbol-sources}
-use Rattle.step.proofs.StackLaws.{stack-room, stack-put, put-length, put-present}
-use Rattle.step.proofs.SearchLaws.{search-put, search-word, search-end}
+use Rattle.step.proofs.WordLaws.{symbol-below, symbol-reached, symbol-sources}
 use Rattle.step.proofs.FollowLaws.{InChain, left, states-most, keyed, first, in-chain, next, left-less}
+use Rattle.step.proofs.JoinLaws.{joined-length, words-joined, joined-cases, joined-left, joined-right}
 
 pub prepared-checked : {table index : List ℕ} {f : ℕ} {marks children : List ℕ} → Prepared table index f marks children → Checked table index
 prepared-checked p =
     record { alphabet = p .ready .alphabet; short = p .ready .short; checked = p .ready .checked; indexed = p .indexed }
 
+-- what is reached from a reached state is reached
+reached-on : {ts : List Transition} {f : ℕ} {rs : List StateSet} {s q : ℕ} → ReachedFrom ts s q → Reached ts f rs s → Reached ts f rs q
+reached-on itself h = h
+reached-on (onward m d) h = byEpsilon m (reached-on d h)
+
+-- ---- one transition
+
+module _ {table index : List ℕ} {size : ℕ} {marks children owners rows pending : List ℕ} {r : StateSet} {i : ℕ}
+    (g : SeedingAt table index size marks children owners rows pending r i) where
+  f : ℕ
+  f = keyOf (getD table i 0)
+
+  rs : List StateSet
+  rs = childSets size marks children
+
+  checked : Checked table index
+  checked = prepared-checked (g .seeding .steppable .prepared)
+
+  symbol : SymbolWord (getD table i 0) (keyOf (getD table i 0))
+  symbol = symbol-word (getD table i 0) refl (g .seeding .steppable .prepared .ready .symbol-below)
+
+  target-below : stateBelow (getD table i 0) < automatonOf table .states
+  target-below = symbol-below checked i (g .inside) symbol
+
+  pub transition-few : i < 2048
+  transition-few = omega (arith, keyed checked .few, g .inside)
+
+  -- a transition on the node's symbol has as many part states as the node has children
+  pub transition-sources : Sources table (i + 1) size marks children
+  unfolding checked prepared-checked
+  transition-sources =
+      record {
+        count = sym (symbol-sources checked i (g .inside) symbol) ∙ g .seeding .steppable .prepared .ready .rank;
+        rows = subst (λ k. RowsInside k marks children) (sym (g .seeding .size-is)) (g .seeding .steppable .prepared .ready .rows);
+      }
+
+  pub transition-joinable : Joinable table index (stateBelow (getD table i 0)) owners rows pending r
+  transition-joinable =
+      record {
+        keepable = record {
+          closable = record { checked = checked; state = target-below; room = g .seeding .steppable .room };
+          closures = g .seeding .steppable .closures;
+        };
+        size = g .seeding .growing .size;
+      }
+
+  -- the set stays: it has the target, or the part states are not in the children's sets
+  pub transition-still : Satisfied table (childSets size marks children) r i
+      → Joined table (keyOf (getD table i 0)) (childSets size marks children) i r r owners rows
+  transition-still h = record { closures = g .seeding .steppable .closures; growing = g .seeding .growing; grown = λ q e. e; satisfied = h }
+
+  pub transition-more : allContained (sourcesAt (drop (i + 1) table)) (childSets size marks children) ≡ true → {t : StateSet} {owners′ rows′ : List ℕ}
+      → JoinedClosure table (stateBelow (getD table i 0)) r t owners′ rows′
+      → Joined table (keyOf (getD table i 0)) (childSets size marks children) i r t owners′ rows′
+  transition-more h {t} j =
+      let c = j .is-closure in
+      let k = g .seeding .growing in
+      let same : length (j .closure) ≡ length r = c .size ∙ sym (k .size) in
+      let target = symbol-reached checked i (g .inside) symbol (childSets size marks children) h in
+      rw (j .joined-is) (record {
+        closures = j .closures;
+        growing = record {
+          size = joined-length (length (j .closure)) r (j .closure) ∙ k .size;
+          words = words-joined r (j .closure) same (k .words) (c .words);
+          reached = λ q e. ⊎-elim (k .reached q) (λ d. reached-on (c .within q d) target) (joined-cases r (j .closure) same q e);
+          closed = λ p q m e. ⊎-elim (λ d. joined-left r (j .closure) same q (k .closed p q m d)) (λ d. joined-right r (j .closure) same q (c .closed p q m d))
+              (joined-cases r (j .closure) same p e);
+        };
+        grown = joined-left r (j .closure) same;
+        satisfied = λ _. joined-right r (j .closure) same (stateBelow (getD table i 0)) (c .holds);
+      })
+
+-- ---- all of them
+
 -- at word i of the chain, or at its end, where i is 0: the words before are followed
-pub record SymbolAt (table index : List ℕ) (f : ℕ) (rs : List StateSet) (room i : ℕ) (r : StateSet) (pending : List ℕ) (top : ℕ) : Type 0 where
-  pub checked : Checked table index
-  pub small : f < 256
+pub record SymbolAt (table index : List ℕ) (f size : ℕ) (marks children owners rows pending : List ℕ) (r : StateSet) (room i : ℕ) : Type 0 where
+  pub seeding : Seeding table index f size marks children owners rows pending r
   pub from : ℕ
   pub at : i ≡ nextWith table f from
-  pub size : length pending ≡ room
-  pub stack : Stack table r pending top
-  pub search : Search table f rs f from r pending top
+  pub room-is : length pending ≡ room
+  pub followed : (j : ℕ) → j < from → j < length table → keyOf (getD table j 0) ≡ f → Satisfied table (childSets size marks children) r j
 
-pub symbol-first : {table index : List ℕ} {f size : ℕ} {marks children : List ℕ} {r : StateSet} {pending : List ℕ}
-    → Seeding table index f size marks children r pending
-    → SymbolAt table index f (childSets size marks children) (length pending) (getD index f 0) r pending 0
-symbol-first {f = f} g =
-    let c = prepared-checked (g .prepared) in
-    let small = g .prepared .ready .symbol-below in
-    record { checked = c; small = small; from = 0; at = first c f (omega arith); size = refl; stack = g .stack; search = g .search }
+module _ {table index : List ℕ} {f size : ℕ} {marks children owners rows pending : List ℕ} {r : StateSet} where
+  pub symbol-first : Seeding table index f size marks children owners rows pending r
+      → SymbolAt table index f size marks children owners rows pending r (length pending) (getD index f 0)
+  symbol-first g =
+      let c = prepared-checked (g .steppable .prepared) in
+      let small = g .steppable .prepared .ready .symbol-below in
+      record { seeding = g; from = 0; at = first c f (omega arith); room-is = refl; followed = λ j h l e. absurd (omega arith) }
 
-module _ {table index : List ℕ} {f : ℕ} {rs : List StateSet} {room i : ℕ} {r : StateSet} {pending : List ℕ} {top : ℕ}
-    (s : SymbolAt table index f rs room i r pending top) where
-  key-below : f < 1280
-  key-below = let small = s .small in omega arith
+  module _ {room i : ℕ} (s : SymbolAt table index f size marks children owners rows pending r room i) where
+    chain : Checked table index
+    chain = prepared-checked (s .seeding .steppable .prepared)
 
-  pub symbol-end : i ≤ 0 → Searched table f rs r pending top
-  symbol-end h = record { stack = s .stack; settled = search-end (s .search) (next-none (s .at) (keyed (s .checked)) key-below (omega arith)) }
+    key-below : f < 1280
+    key-below = let small = s .seeding .steppable .prepared .ready .symbol-below in omega arith
 
-  module _ (h : 0 < i) where
-    symbol-next : Next table f (s .from) i
-    symbol-next = next-some (s .at) h
+    pub symbol-end : i ≤ 0 → Seeded table f (childSets size marks children) r owners rows
+    symbol-end h =
+        record {
+          closures = s .seeding .steppable .closures;
+          growing = s .seeding .growing;
+          satisfied = λ j l e. go j l e (decLt j (s .from));
+        }
+      where
+        go : (j : ℕ) → j < length table → keyOf (getD table j 0) ≡ f → Dec (j < s .from) → Satisfied table (childSets size marks children) r j
+        go j l e (yes b) = s .followed j b l e
+        go j l e (no b) = absurd (next-none (s .at) (keyed chain) key-below (omega arith) j (omega arith) l e)
 
-    pub symbol-in : InChain table index i
-    symbol-in = in-chain (s .checked) symbol-next
+    module _ (h : 0 < i) where
+      symbol-next : Next table f (s .from) i
+      symbol-next = next-some (s .at) h
 
-    pub symbol-at : SymbolWord (getD table i 0) f
-    symbol-at = symbol-word (getD table i 0) (symbol-next .keyed) (s .small)
+      pub symbol-in : InChain table index i
+      symbol-in = in-chain chain symbol-next
 
-    target-below : stateBelow (getD table i 0) < automatonOf table .states
-    target-below = symbol-below (s .checked) i (symbol-next .inside) symbol-at
-
-    pub symbol-room : Room r pending top (stateBelow (getD table i 0))
-    symbol-room = stack-room (states-most (s .checked)) (s .stack) target-below
-
-    pub symbol-less : left table (getD index (1280 + i) 0) < left table i
-    symbol-less = left-less (s .checked) symbol-next key-below h
-
-    -- the part states are in the children's sets and the target is reached, or they are not
-    module _ (b : Bool) (e : b ≡ allContained (sourcesAt (drop (i + 1) table)) rs) where
-      pub symbol-still : b ≡ false → SymbolAt table index f rs room (getD index (1280 + i) 0) r pending top
-      symbol-still n =
+      pub symbol-at : SeedingAt table index size marks children owners rows pending r i
+      symbol-at =
           record {
-            checked = s .checked;
-            small = s .small;
-            from = i + 1;
-            at = next (s .checked) symbol-next key-below;
-            size = s .size;
-            stack = s .stack;
-            search = search-word (s .search) symbol-next (satisfied-symbol table i f rs r symbol-at (λ y. absurd (true≢false (sym y ∙ sym e ∙ n))));
+            seeding = subst (λ k. Seeding table index k size marks children owners rows pending r) (sym (symbol-next .keyed)) (s .seeding);
+            inside = symbol-next .inside;
           }
 
-      pub symbol-more : b ≡ true → {t : StateSet} {pushed : List ℕ} {height : ℕ} → Put r pending top (stateBelow (getD table i 0)) t pushed height
-          → SymbolAt table index f rs room (getD index (1280 + i) 0) t pushed height
-      symbol-more y {t} p =
-          let most = states-most (s .checked) in
-          let reached = symbol-reached (s .checked) i (symbol-next .inside) symbol-at rs (sym e ∙ y) in
-          record {
-            checked = s .checked;
-            small = s .small;
-            from = i + 1;
-            at = next (s .checked) symbol-next key-below;
-            size = put-length most (s .stack) target-below p ∙ s .size;
-            stack = stack-put most (s .stack) target-below p;
-            search = search-word (search-put (s .search) most (s .stack) target-below reached p) symbol-next
-                (satisfied-symbol table i f rs t symbol-at (λ _. put-present most (s .stack) target-below p));
-          }
+      pub symbol-less : left table (getD index (1280 + i) 0) < left table i
+      symbol-less = left-less chain symbol-next key-below h
 
--- a transition on the node's symbol has as many part states as the node has children
-pub symbol-children : {table index : List ℕ} {f size : ℕ} {marks children : List ℕ} {r : StateSet} {pending : List ℕ}
-    → Seeding table index f size marks children r pending → {rs : List StateSet} {room i : ℕ} {t : StateSet} {pushed : List ℕ} {top : ℕ}
-    → SymbolAt table index f rs room i t pushed top → 0 < i → Sources table (i + 1) size marks children
-unfolding prepared-checked
-symbol-children {marks = marks} {children = children} g {i = i} s h =
-    record {
-      count = sym (symbol-sources (prepared-checked (g .prepared)) i (symbol-in s h .inside) (symbol-at s h)) ∙ g .prepared .ready .rank;
-      rows = subst (λ k. RowsInside k marks children) (sym (g .words)) (g .prepared .ready .rows);
-    }
+      pub symbol-more : {t : StateSet} {owners′ rows′ pending′ : List ℕ} → length pending′ ≡ length pending
+          → Joined table (keyOf (getD table i 0)) (childSets size marks children) i r t owners′ rows′
+          → SymbolAt table index f size marks children owners′ rows′ pending′ t room (getD index (1280 + i) 0)
+      symbol-more {t} {owners′} {rows′} {pending′} e j =
+          record {
+            seeding = record {
+              steppable = record {
+                prepared = s .seeding .steppable .prepared;
+                closures = j .closures;
+                room = rw e (s .seeding .steppable .room);
+              };
+              size-is = s .seeding .size-is;
+              growing = subst (λ k. Growing table k (childSets size marks children) t) (symbol-next .keyed) (j .growing);
+            };
+            from = i + 1;
+            at = next chain symbol-next key-below;
+            room-is = e ∙ s .room-is;
+            followed = λ k b l q. go k b l q (ℕ-discrete k i) (decLt k (s .from));
+          }
+        where
+          go : (k : ℕ) → k < i + 1 → k < length table → keyOf (getD table k 0) ≡ f → Dec (k ≡ i) → Dec (k < s .from)
+              → Satisfied table (childSets size marks children) t k
+          go k b l q (yes x) d = rw x (j .satisfied)
+          go k b l q (no x) (yes d) = λ c. j .grown _ (s .followed k d l q c)
+          go k b l q (no x) (no d) = absurd (symbol-next .skipped k (omega arith) (omega arith) q)

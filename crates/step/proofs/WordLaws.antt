@@ -13,13 +13,13 @@ use Rattle.words.specs.Alphabet.{rankOf}
 use Rattle.words.proofs.TestLaws.{Tested, holds, fails, tested}
 use Rattle.automaton.specs.Transition.{Transition, onSymbol, epsilon, sourcesAt, automatonOf}
 use Rattle.automaton.specs.StateSet.{StateSet, contains, allContained}
-use Rattle.automaton.specs.Reached.{Reached, bySymbol, byEpsilon}
+use Rattle.automaton.specs.Reached.{Reached, bySymbol}
 use Rattle.automaton.specs.Table.{AutomatonOver}
 use Rattle.automaton.proofs.ClosureLaws.{transition-over, targets-below}
 use Rattle.automaton.proofs.TableLaws.{isTable-automaton}
 use Rattle.step.specs.Index.{keyOf}
 use Rattle.step.specs.Ready.{Checked}
-use Rattle.step.specs.Growth.{Satisfied, SatisfiedAt, startsAt}
+use Rattle.step.specs.Closure.{ReachedFrom, onward, ClosedAt, startsAt}
 use Rattle.step.proofs.ChainLaws.{SymbolWord, EpsilonWord, key-symbol, key-epsilon}
 use Rattle.step.proofs.StartLaws.{starts-member, table-transitions}
 
@@ -54,13 +54,14 @@ module _ (table : List ℕ) (i : ℕ) where
 
   -- ---- when it adds nothing
 
-  module _ (f : ℕ) (rs : List StateSet) (r : StateSet) where
-    pub satisfied-symbol : SymbolWord (getD table i 0) f
-        → (allContained (sourcesAt (drop (i + 1) table)) rs ≡ true → contains r (stateBelow (getD table i 0)) ≡ true) → SatisfiedAt table f rs r i
-    satisfied-symbol s h t m = subst (Satisfied f rs r) (sym (starts-on (s .kind) m)) (λ e c. h c)
+  pub closed-epsilon : {p : ℕ} (r : StateSet) → EpsilonWord (getD table i 0) p → contains r (stateBelow (getD table i 0)) ≡ true → ClosedAt table r i
+  closed-epsilon r s h p q m e = let t = starts-from (s .kind) m in let k : q ≡ stateBelow (getD table i 0) = cc in rw k h
 
-    pub satisfied-epsilon : {p : ℕ} → EpsilonWord (getD table i 0) p → contains r (stateBelow (getD table i 0)) ≡ true → SatisfiedAt table f rs r i
-    satisfied-epsilon s h t m = subst (Satisfied f rs r) (sym (starts-from (s .kind) m)) (λ e. h)
+  -- a symbol transition that begins there leads to the word's target
+  pub starts-target : {g : ℕ} {ps : List ℕ} {q : ℕ} → List·Memᴰ (onSymbol g ps q) (startsAt table i)
+      → (ps ≡ sourcesAt (drop (i + 1) table)) × (q ≡ stateBelow (getD table i 0))
+  starts-target m = ⊎-elim (λ e. let h = starts-on e m in (cc, cc))
+      (λ e. let h = starts-from e m in let z : _≡_ {A = ℕ} 0 1 = cc in absurd (omega arith)) (starts-kind m)
 
 -- ---- what it leads to
 
@@ -95,6 +96,6 @@ module _ {table index : List ℕ} (c : Checked table index) (i : ℕ) (inside : 
     pub epsilon-below : stateBelow (getD table i 0) < automatonOf table .states
     epsilon-below = targets-below over _ epsilon-member
 
-    pub epsilon-reached : (f : ℕ) (rs : List StateSet) → Reached (automatonOf table .transitions) f rs p
-        → Reached (automatonOf table .transitions) f rs (stateBelow (getD table i 0))
-    epsilon-reached f rs h = byEpsilon epsilon-member h
+    pub epsilon-reached : (o : ℕ) → ReachedFrom (automatonOf table .transitions) o p
+        → ReachedFrom (automatonOf table .transitions) o (stateBelow (getD table i 0))
+    epsilon-reached o h = onward epsilon-member h

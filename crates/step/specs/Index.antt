@@ -33,3 +33,8 @@ pub record Insertable (table : List ℕ) (i : ℕ) (index : List ℕ) : Type 0 w
   pub inside : i < length table
   pub few : length table ≤ 2048
   pub size : length index ≡ 3328
+
+-- what writing a table's index asks: an array of zeros
+pub record Indexable (table index : List ℕ) : Type 0 where
+  pub few : length table ≤ 2048
+  pub zeros : index ≡ replicate 3328 0

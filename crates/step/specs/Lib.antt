@@ -1,3 +1,4 @@
 pub mod Ready
-pub mod Growth
 pub mod Index
+pub mod Closure
+pub mod Node

@@ -7,7 +7,6 @@ use mathlib.Core.List.{List, map}
 use lib.ListN.{length, getD}
 use Rattle.words.specs.Alphabet.{rankOf}
 use Rattle.automaton.specs.Table.{isTable}
-use Rattle.automaton.specs.Transition.{automatonOf}
 use Rattle.automaton.specs.StateSet.{StateSet}
 use Rattle.operations.specs.Marks.{sizeOf, storedSet}
 use Rattle.step.specs.Index.{indexOf}
@@ -35,11 +34,6 @@ pub record Checked (table index : List ℕ) : Type 0 where
 pub record Prepared (table index : List ℕ) (symbol : ℕ) (marks children : List ℕ) : Type 0 where
   pub ready : Ready table symbol marks children
   pub indexed : index ≡ indexOf table
-
--- the same, and a stack with room for every state
-pub record PreparedIn (table index : List ℕ) (symbol : ℕ) (marks children pending : List ℕ) : Type 0 where
-  pub prepared : Prepared table index symbol marks children
-  pub room : automatonOf table .states ≤ length pending
 
 -- the children's state sets, from left to right
 abbrev pub childSets : ℕ → List ℕ → List ℕ → List StateSet

@@ -1,8 +1,6 @@
 // An index of a table, made once for all nodes: for each symbol and each state a chain of the words at which transitions begin.
 ghost use mathlib.Core.Path.{_≡_};
-ghost use Prim.Native.Nat.{_≤_};
-ghost use lib.ListN.{length};
-ghost use Rattle.step.specs.Index.{keyOf, indexedAt, indexOf, Insertable};
+ghost use Rattle.step.specs.Index.{keyOf, indexedAt, indexOf, Insertable, Indexable};
 use tables::head::STATE_RANGE;
 use tables::head::SYMBOL_RANGE;
 use words::word::CLOSURE;
@@ -58,16 +56,14 @@ fn put_word(table: &[u32], i: usize, index: &mut [u32])
     }
 }
 
-// The index of a table.
-pub fn index_of(table: &[u32]) -> [u32; 3328]
-    requires { ⌜ length (now table) ≤ 2048 ⌝ }
-    ensures { λ r. ⌜ r ≡ indexOf (now (table .entry)) ⌝ }
+// Writes the index of a table into an array of zeros. It is lent, since an array that is returned is copied.
+pub fn write_index(table: &[u32], index: &mut [u32])
+    requires { ⌜ Indexable (now table) (now index) ⌝ }
+    ensures { λ _. ⌜ now (index .exit) ≡ indexOf (now (table .entry)) ⌝ }
 {
-    let mut index = [0u32; 3328];
     let mut i = table.len();
     while 0 < i {
         i -= 1;
-        put_word(table, i, &mut index);
+        put_word(table, i, index);
     }
-    index
 }

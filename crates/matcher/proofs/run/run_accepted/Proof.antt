@@ -2,7 +2,7 @@
 -- nothing.
 use mathlib.Core.Path.{sym}
 use native.Mathlib.Omega.{arith}
-use Rattle.matcher.proofs.RunLaws.{run-tree, run-left, run-room, run-few, run-part, run-cells}
+use Rattle.matcher.proofs.RunLaws.{workable, run-left, run-room, run-few, run-part, run-cells}
 use borrow.Author.Needs.{needs}
 use Rattle.matcher.proofs.run.run_accepted.Statement.{statement}
 use Rattle.matcher.proofs.run.run_accepted.Tie as tie
@@ -13,7 +13,7 @@ start n = n .before .before .before .before .before .before
 mark-tree-requires : tie.Need-mark-tree-requires
 mark-tree-requires c κs =
     let s = c .before .before .before .before .before in
-    run-tree _ _ _ (s .args .marks .now) (s .pre)
+    workable _ _ _ (s .args .marks .now) (s .pre)
 
 set-size-requires : tie.Need-set-size-requires
 set-size-requires c κs = search needs

@@ -1,55 +1,42 @@
 -- `marking::mark_new` meets its contract: the first words of the set that is worked out are written at the node's place.
--- Assumes nothing.
 use native.Mathlib.Omega.{arith}
 use Rattle.memo.proofs.MarkingLaws.{set-length, set-long, set-few, set-room, set-placeable, set-new}
 use borrow.Author.Needs.{needs}
 use Rattle.memo.proofs.marking.mark_new.Statement.{statement}
 use Rattle.memo.proofs.marking.mark_new.Tie as tie
 
-abbrev start : tie.After-node-set-in → tie.Start
-start n = n .before .before .before .before .before .before .before .before .before .before
+abbrev sized : tie.After-node-set → tie.After-set-size
+sized n = n .before .before .before .before .before
+
+abbrev start : tie.After-node-set → tie.Start
+start n = sized n .before .before .before .before .before .before .before .before .before
 
 set-size-requires : tie.Need-set-size-requires
 set-size-requires c κs = search needs
 
-node-set-in-requires : tie.Need-node-set-in-requires
-node-set-in-requires c κs = c .before .before .before .before .before .before .before .before .before .pre .prepared
+node-set-requires : tie.Need-node-set-requires
+node-set-requires c κs = c .before .before .before .before .before .before .before .before .before .before .before .before .before .pre .steppable
 
 array-share-prefix-set : tie.Need-array-share-prefix-set
-array-share-prefix-set c =
-    let n = c .before .before .before in
-    set-long (start n .pre) _ (n .node-set-in .ensures) _ (n .before .before .before .set-size .ensures)
+array-share-prefix-set c = let n = c .before .before .before .before .before .before .before in set-long (start n .pre) _ (n .node-set .ensures .0) _ (sized n .set-size .ensures)
 
 slice-aggregate-representative : tie.Need-slice-aggregate-representative
-slice-aggregate-representative c =
-    let n = c .before .before .before .before in
-    set-length (start n .pre) _ (n .node-set-in .ensures) _ (n .before .before .before .set-size .ensures)
+slice-aggregate-representative c = let n = c .before .before .before .before .before .before .before .before in set-length (start n .pre) _ (n .node-set .ensures .0) _ (sized n .set-size .ensures)
 
 representative-requires : tie.Need-representative-requires
-representative-requires c κs =
-    let n = c .before .before .before .before .before in
-    set-placeable (start n .pre) _ (n .node-set-in .ensures) _ (n .before .before .before .set-size .ensures)
+representative-requires c κs = let n = c .before .before .before .before .before .before .before .before .before in set-placeable (start n .pre) _ (n .node-set .ensures .0) _ (sized n .set-size .ensures)
 
 mul-write-set-at : tie.Need-mul-write-set-at
-mul-write-set-at c =
-    let n = c .before .before .before .before .before .before .before .before .before in
-    let l = set-few (start n .pre) _ (n .node-set-in .ensures) _ (n .before .before .before .set-size .ensures) in
-    omega arith
+mul-write-set-at c = let n = c .before .before .before .before .before .before .before .before .before .before .before .before .before in let l = set-few (start n .pre) _ (n .node-set .ensures .0) _ (sized n .set-size .ensures) in omega arith
 
 array-share-prefix-set-2 : tie.Need-array-share-prefix-set-2
-array-share-prefix-set-2 c =
-    let n = c .before .before .before .before .before .before .before .before .before in
-    set-long (start n .pre) _ (n .node-set-in .ensures) _ (n .before .before .before .set-size .ensures)
+array-share-prefix-set-2 c = let n = c .before .before .before .before .before .before .before .before .before .before .before .before .before in set-long (start n .pre) _ (n .node-set .ensures .0) _ (sized n .set-size .ensures)
 
 slice-aggregate-write-set-at : tie.Need-slice-aggregate-write-set-at
-slice-aggregate-write-set-at c =
-    let n = c .before .before .before .before .before .before .before .before .before .before in
-    set-length (start n .pre) _ (n .node-set-in .ensures) _ (n .before .before .before .set-size .ensures)
+slice-aggregate-write-set-at c = let n = c .before .before .before .before .before .before .before .before .before .before .before .before .before .before in set-length (start n .pre) _ (n .node-set .ensures .0) _ (sized n .set-size .ensures)
 
 write-set-at-requires : tie.Need-write-set-at-requires
-write-set-at-requires c κs =
-    let n = c .before .before .before .before .before .before .before .before .before .before in
-    set-room (start n .pre) _ (n .node-set-in .ensures) _ (n .before .before .before .set-size .ensures)
+write-set-at-requires c κs = let n = c .before .before .before .before .before .before .before .before .before .before .before .before .before .before in set-room (start n .pre) _ (n .node-set .ensures .0) _ (sized n .set-size .ensures)
 
 same-length : tie.Need-same-length
 same-length c = search needs
@@ -60,18 +47,21 @@ same-length-2 c = search needs
 same-length-3 : tie.Need-same-length-3
 same-length-3 c = search needs
 
+same-length-4 : tie.Need-same-length-4
+same-length-4 c = search needs
+
+same-length-5 : tie.Need-same-length-5
+same-length-5 c = search needs
+
 returns : tie.Need-returns
-returns c =
-    let n = c .before .before .before .before .before .before .before .before .before .before .before .before .before in
-    set-new (start n .pre) _ (n .node-set-in .ensures) _ (n .before .before .before .set-size .ensures)
-    _ (c .before .before .before .before .before .before .before .representative .ensures) _ (c .before .before .write-set-at .ensures)
+returns c = let n = c .before .before .before .before .before .before .before .before .before .before .before .before .before .before .before .before .before in (set-new (start n .pre) _ (n .node-set .ensures .0) _ (sized n .set-size .ensures) _ (c .before .before .before .before .before .before .before .representative .ensures) _ (c .before .before .write-set-at .ensures), n .node-set .ensures .1)
 
 pub mark-new-spec : {M : Type 1} → statement M
 mark-new-spec =
     tie.close
     (tie.spec
     set-size-requires
-    node-set-in-requires
+    node-set-requires
     array-share-prefix-set
     slice-aggregate-representative
     representative-requires
@@ -82,4 +72,6 @@ mark-new-spec =
     same-length
     same-length-2
     same-length-3
+    same-length-4
+    same-length-5
     returns)

@@ -1,5 +1,5 @@
 -- `marking::mark_next` meets its contract: a slot with the node's key holds a node with its state set, and otherwise the node is
--- worked out and remembered. Assumes nothing.
+-- worked out and remembered.
 use native.Mathlib.Omega.{arith}
 use Rattle.memo.proofs.MemoLaws.{next-new, found-few, found-copyable, found-next, stored-next}
 use borrow.Author.Needs.{needs}
@@ -7,7 +7,7 @@ use Rattle.memo.proofs.marking.mark_next.Statement.{statement}
 use Rattle.memo.proofs.marking.mark_next.Tie as tie
 
 abbrev start : tie.After-slot-of → tie.Start
-start s = s .before .before .before .before .before .before .before .before .before .before
+start s = s .before .before .before .before .before .before .before .before .before .before .before .before
 
 -- a slot with the key
 abbrev slot : tie.Then1 → tie.After-slot-of
@@ -15,7 +15,7 @@ slot t = t .before .before
 
 -- the slot of a step that was not known
 abbrev free : tie.After-mark-new → tie.After-slot-of
-free m = m .before .before .before .before .before .before .before
+free m = m .before .before .before .before .before .before .before .before .before
 
 key-of-requires : tie.Need-key-of-requires
 key-of-requires c κs = search needs
@@ -39,25 +39,16 @@ slice-read-known : tie.Need-slice-read-known
 slice-read-known c = search needs
 
 cast-known : tie.Need-cast-known
-cast-known c =
-    let t = c .before .before in
-    let l = found-few (start (slot t) .pre) _ (slot t .before .key-of .ensures) _ (slot t .slot-of .ensures) (t .if1 .taken) in
-    omega arith
+cast-known c = let t = c .before .before in let l = found-few (start (slot t) .pre) _ (slot t .before .key-of .ensures) _ (slot t .slot-of .ensures) (t .if1 .taken) in omega arith
 
 copy-known-requires : tie.Need-copy-known-requires
-copy-known-requires c κs =
-    let n = c .before .before in
-    let t = n .before in
-    found-copyable (start (slot t) .pre) _ (slot t .before .key-of .ensures) _ (slot t .slot-of .ensures) (t .if1 .taken) _ (n .set-size .ensures)
+copy-known-requires c κs = let n = c .before .before in let t = n .before in found-copyable (start (slot t) .pre) _ (slot t .before .key-of .ensures) _ (slot t .slot-of .ensures) (t .if1 .taken) _ (n .set-size .ensures)
 
 same-length : tie.Need-same-length
 same-length c = search needs
 
 returns : tie.Need-returns
-returns c =
-    let n = c .before .before .before .before .before in
-    let t = n .before in
-    found-next (start (slot t) .pre) _ (slot t .before .key-of .ensures) _ (slot t .slot-of .ensures) (t .if1 .taken) _ (n .set-size .ensures) _ (c .before .before .copy-known .ensures)
+returns c = let n = c .before .before .before .before .before in let t = n .before in found-next (start (slot t) .pre) _ (slot t .before .key-of .ensures) _ (slot t .slot-of .ensures) (t .if1 .taken) _ (n .set-size .ensures) _ (c .before .before .copy-known .ensures)
 
 sub-mark-new : tie.Need-sub-mark-new
 sub-mark-new c = search needs
@@ -75,13 +66,13 @@ part-mark-new-end : tie.Need-part-mark-new-end
 part-mark-new-end c = search needs
 
 mark-new-requires : tie.Need-mark-new-requires
-mark-new-requires c κs = next-new (start (c .before .before .before .before .before .before) .pre)
+mark-new-requires c κs = next-new (start (c .before .before .before .before .before .before .before .before) .pre)
 
 mul-keys : tie.Need-mul-keys
 mul-keys c = search needs
 
 slice-write-keys : tie.Need-slice-write-keys
-slice-write-keys c = search needs
+slice-write-keys c = let m = c .before .before .before .before .before .before .before .before .before .before in omega (arith, free m .slot-of .ensures, start (free m) .pre .remembered .memo .keys-are)
 
 cast-nodes : tie.Need-cast-nodes
 cast-nodes c = search needs
@@ -90,7 +81,7 @@ mul-nodes : tie.Need-mul-nodes
 mul-nodes c = search needs
 
 slice-write-nodes : tie.Need-slice-write-nodes
-slice-write-nodes c = search needs
+slice-write-nodes c = let m = c .before .before .before .before .before .before .before .before .before .before in omega (arith, free m .slot-of .ensures, start (free m) .pre .remembered .memo .nodes-are)
 
 same-length-2 : tie.Need-same-length-2
 same-length-2 c = search needs
@@ -107,10 +98,14 @@ same-length-5 c = search needs
 same-length-6 : tie.Need-same-length-6
 same-length-6 c = search needs
 
+same-length-7 : tie.Need-same-length-7
+same-length-7 c = search needs
+
+same-length-8 : tie.Need-same-length-8
+same-length-8 c = search needs
+
 returns-2 : tie.Need-returns-2
-returns-2 c =
-    let m = c .before .before .before .before .before .before in
-    stored-next (start (free m) .pre) _ (free m .before .key-of .ensures) _ (free m .slot-of .ensures) _ _ (m .mark-new .ensures)
+returns-2 c = let m = c .before .before .before .before .before .before .before .before .before .before in stored-next (start (free m) .pre) _ (free m .before .key-of .ensures) _ (free m .slot-of .ensures) _ _ (m .mark-new .ensures .0) (search needs) (m .mark-new .ensures .1) (search needs)
 
 pub mark-next-spec : {M : Type 1} → statement M
 mark-next-spec =
@@ -143,4 +138,6 @@ mark-next-spec =
     same-length-4
     same-length-5
     same-length-6
+    same-length-7
+    same-length-8
     returns-2)

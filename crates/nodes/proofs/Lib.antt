@@ -1,0 +1,7 @@
+pub mod RootLaws
+pub mod WorkedLaws
+pub mod MarkLaws
+pub mod WorkableLaws
+pub mod StackLaws
+pub mod NodeLaws
+pub mod NodesLaws

@@ -1,0 +1,194 @@
+-- One node marked by the memo: the children's representatives are on top of the stack, node i gets the state set that it has over its
+-- children, and the stack and the memo are then those before the next node. Assumes nothing.
+use mathlib.Core.Path.{_≡_, ap, ap₂, _∙_, sym}
+use mathlib.Core.List.{List, [], _∷_, _++_, reverse, map}
+use Prim.Native.Nat.{ℕ, _+_, _-_, _*_, _<_, _≤_}
+use native.Mathlib.Omega.{arith}
+use lib.ListN.{length, getD, take, drop, set, replicate, length-drop}
+use lib.Seq.{paste, length-take-le, drop-drop, drop-append-add}
+use Rattle.words.specs.Alphabet.{rankOf}
+use Rattle.words.specs.Chapter.{symbolOf}
+use Rattle.words.specs.Postfix.{arity, childrenOf}
+use Rattle.words.proofs.ListLaws.{below-drop, map-drop}
+use Rattle.automaton.specs.Table.{AllBelow}
+use Rattle.automaton.specs.Transition.{automatonOf}
+use Rattle.automaton.specs.StateSet.{StateSet, stateSet}
+use Rattle.operations.specs.Marks.{sizeOf, nodeSet, storedSet}
+use Rattle.step.specs.Ready.{RowsInside, Prepared}
+use Rattle.step.proofs.FollowLaws.{states-most}
+use Rattle.step.proofs.SymbolLaws.{prepared-checked}
+use Rattle.slices.proofs.RefitLaws.{take-drop}
+use Rattle.slices.proofs.StoredLaws.{row-inside, stored-written}
+use Rattle.memo.specs.Memo.{setOver, AtNext, Next}
+use Rattle.memo.proofs.MarkingLaws.{length-setOver}
+use Rattle.memo.proofs.MemoLaws.{stored-kept}
+use Rattle.nodes.specs.Nodes.{rootsOf, setFrom, markedAt, TreeOver}
+use Rattle.nodes.specs.Marking.{Represented, AtNode, Prepared as Kept}
+use Rattle.nodes.proofs.RootLaws.{drop-reverse, below-getD, roots-few}
+use Rattle.nodes.proofs.WorkableLaws.{node-arity}
+use Rattle.nodes.proofs.StackLaws.{nodes-fit, stack-fits, stack-room, represented-more}
+
+below-up : (m n : ℕ) → m ≤ n → (l : List ℕ) → AllBelow m l → AllBelow n l
+below-up m n h [] b = tt
+below-up m n h (x ∷ l) b = (let y = b .0 in omega arith, below-up m n h l (b .1))
+
+module _ {a table index ch : List ℕ} {i : ℕ} {marks array : List ℕ} {height : ℕ} {keys known places owners rows pending : List ℕ}
+    (g : AtNode a table index ch i marks array height keys known places owners rows pending) (r : ℕ) (e : r ≡ rankOf a (symbolOf (getD ch i 0))) where
+  abbrev w : ℕ
+  w = getD ch i 0
+
+  abbrev size : ℕ
+  size = sizeOf table
+
+  abbrev roots : List ℕ
+  roots = rootsOf a ch i
+
+  stacked : Represented a table ch i marks array height
+  stacked = g .prepared .represented
+
+  tree : TreeOver a ch
+  tree = g .workable .tree
+
+  abbrev nodes : List ℕ
+  nodes = g .prepared .represented .nodes
+
+  abbrev stored : ℕ → StateSet
+  stored = storedSet (sizeOf table) marks
+
+  few : i < 4096
+  few = let h = g .inside in omega (arith, g .workable .tree .few)
+
+  pub node-low : 4 ≤ height
+  node-low = omega (arith, g .prepared .represented .held .height-is)
+
+  pub node-fits : r ≤ height
+  node-fits = stack-fits (g .prepared .represented) (g .workable .tree) (g .inside) r e
+
+  pub node-room : height < length array
+  node-room = stack-room (g .prepared .represented) (g .workable .tree) (g .inside) r e
+
+  pub node-few : height ≤ 4100
+  node-few = let m = node-room in omega (arith, g .prepared .represented .long)
+
+  -- the four words on top of the stack
+  abbrev four : List ℕ
+  four = take (height - (height - 4)) (drop (height - 4) array)
+
+  four-is : four ≡ drop (height - 4) (take height array)
+  four-is = take-drop (height - 4) height array (omega arith)
+
+  four-length : length four ≡ 4
+  four-length =
+      let l = node-low in
+      let m = node-room in
+      ap length four-is ∙ length-drop (height - 4) (take height array)
+      ∙ ap (λ (n : ℕ). n - (height - 4)) (length-take-le height array (omega arith)) ∙ omega arith
+
+  four-below : AllBelow 4096 four
+  four-below =
+      let h = few in
+      rw (four-is, g .prepared .represented .held .words)
+      (below-drop 4096 (height - 4) (replicate 4 0 ++ nodes)
+      (omega arith, (omega arith, (omega arith, (omega arith, below-up i 4096 (omega arith) nodes (g .prepared .represented .below))))))
+
+  fits : r ≤ length (g .prepared .represented .nodes)
+  fits = nodes-fit (g .prepared .represented) (g .workable .tree) (g .inside) r e
+
+  -- the last r of them represent the node's children
+  part-place : height - 4 + (4 - r) ≡ 4 + (length (g .prepared .represented .nodes) - r)
+  part-place =
+      let f = fits in
+      let most = g .workable .ranks (symbolOf w) in
+      omega (arith, g .prepared .represented .held .height-is, e)
+
+  part-is : drop (4 - r) four ≡ drop (length (g .prepared .represented .nodes) - r) (g .prepared .represented .nodes)
+  part-is =
+      ap (drop (4 - r)) (four-is ∙ ap (drop (height - 4)) (g .prepared .represented .held .words))
+      ∙ drop-drop (4 - r) (height - 4) (replicate 4 0 ++ nodes)
+      ∙ ap (λ (k : ℕ). drop k (replicate 4 0 ++ nodes)) part-place ∙ drop-append-add (replicate 4 0) nodes (length nodes - r)
+
+  part-below : AllBelow i (drop (4 - r) four)
+  part-below = rw part-is (below-drop i (length nodes - r) nodes (g .prepared .represented .below))
+
+  part-length : length (drop (4 - r) four) ≡ r
+  part-length =
+      let f = fits in
+      ap length part-is ∙ length-drop (length nodes - r) nodes ∙ omega arith
+
+  part-same : map (storedSet (sizeOf table) marks) (drop (4 - r) four) ≡ map (storedSet (sizeOf table) marks) (childrenOf a ch i)
+  unfolding childrenOf
+  part-same =
+      ap (map stored) part-is ∙ map-drop stored (length nodes - r) nodes ∙ ap (drop (length nodes - r)) (g .prepared .represented .same)
+      ∙ sym (map-drop stored (length nodes - r) (reverse roots))
+      ∙ ap (map stored)
+      (ap₂ (λ (n k : ℕ). drop (n - k) (reverse roots)) (g .prepared .represented .count) (e ∙ sym (node-arity (g .workable .tree) i (g .inside)))
+      ∙ drop-reverse (arity a w) roots)
+
+  rows-inside : RowsInside (sizeOf table) marks (drop (4 - r) four)
+  rows-inside k l =
+      let h = g .inside in
+      row-inside (getD (drop (4 - r) four) k 0) (length ch) (sizeOf table) (length marks)
+      (omega (arith, below-getD i (drop (4 - r) four) k part-below l)) (g .workable .marks-room)
+
+  row : i * sizeOf table + sizeOf table ≤ length marks
+  row = row-inside i (length ch) (sizeOf table) (length marks) (g .inside) (g .workable .marks-room)
+
+  ready : Prepared table index (symbolOf (getD ch i 0)) marks (drop (4 - r) four)
+  ready =
+      record {
+        ready = record {
+          alphabet = a;
+          short = g .workable .alphabet;
+          checked = g .workable .checked;
+          symbol-below = omega arith;
+          rank = sym e ∙ sym part-length;
+          rows = rows-inside;
+        };
+        indexed = g .indexed;
+      }
+
+  pub node-next : AtNext table index (symbolOf (getD ch i 0)) marks four r i keys known places owners rows pending
+  node-next =
+      let k = g .prepared .remembered in
+      record {
+        new = record {
+          steppable = record {
+            prepared = ready;
+            closures = k .closures;
+            room = omega (arith, states-most (prepared-checked ready), k .pending-are);
+          };
+          few = few;
+          row = row;
+          places-are = k .places-are;
+        };
+        keyable = record {
+          symbol = omega arith;
+          nodes = record { length-is = four-length; below = four-below; few = omega (arith, e, g .workable .ranks (symbolOf w)) };
+        };
+        below = part-below;
+        remembered = k;
+      }
+
+  set-is : setOver table (symbolOf (getD ch i 0)) marks (drop (4 - r) four) ≡ setFrom a table ch marks i
+  unfolding setOver setFrom nodeSet
+  set-is = ap (stateSet (automatonOf table) (symbolOf w)) part-same
+
+  -- node i is marked, and its representative is on the stack
+  module _ {node : ℕ} {marks′ keys′ known′ places′ owners′ rows′ pending′ : List ℕ}
+      (n : Next table (symbolOf (getD ch i 0)) marks (drop (4 - r) four) i marks′ node keys′ known′ places′ owners′ rows′ pending′) where
+    abbrev v : StateSet
+    v = setOver table (symbolOf (getD ch i 0)) marks (drop (4 - r) four)
+
+    pub node-words : marks′ ≡ markedAt a table ch i marks
+    unfolding markedAt
+    node-words = n .new .words ∙ ap (λ (l : List ℕ). paste marks (i * size) l size) set-is
+
+    pub node-kept : Kept a table ch (i + 1) marks′ (set array (height - r) node) (height - r + 1) keys′ known′ places′ owners′ rows′ pending′
+    node-kept =
+        let long = length-setOver table (symbolOf w) marks (drop (4 - r) four) in
+        record {
+          represented = represented-more (g .prepared .represented) (g .workable .tree) (g .inside) r e node (n .new .low) marks′
+              (stored-kept table marks i v long row marks′ (n .new .words))
+              (ap (λ (m : List ℕ). storedSet size m i) (n .new .words) ∙ stored-written size marks i v long row ∙ sym (n .new .same));
+          remembered = n .remembered;
+        }

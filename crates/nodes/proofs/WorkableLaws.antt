@@ -1,0 +1,40 @@
+-- What a table and a tree over the alphabet give: their sizes, and each word's kind. Assumes nothing.
+use mathlib.Core.Path.{_≡_, subst}
+use mathlib.Core.Bool.{true}
+use mathlib.Core.List.{List, _∷_}
+use Prim.Native.Nat.{ℕ, suc, _<_, _≤_}
+use native.Mathlib.Omega.{arith}
+use lib.ListN.{length, getD, take, drop}
+use lib.Seq.{split-at}
+use Rattle.words.specs.Alphabet.{rankOf}
+use Rattle.words.specs.Lists.{all}
+use Rattle.words.specs.Chapter.{symbolOf, isNode}
+use Rattle.words.specs.Postfix.{arity}
+use Rattle.words.proofs.TestLaws.{and-true, all-right}
+use Rattle.words.proofs.WordLaws.{isNode-facts}
+use Rattle.automaton.proofs.TableLaws.{isTable-tables, isTable-sizes}
+use Rattle.operations.specs.Marks.{sizeOf}
+use Rattle.nodes.specs.Nodes.{TreeOver, Workable}
+
+-- a state set has at most 32 words
+pub size-few : {a table ch : List ℕ} {room : ℕ} → Workable a table ch room → sizeOf table ≤ 32
+unfolding sizeOf
+size-few {a} {table} g = isTable-sizes a table (g .checked) .size-most
+
+-- a table has at most 2,048 words
+pub table-few : {a table ch : List ℕ} {room : ℕ} → Workable a table ch room → length table ≤ 2048
+table-few {a} {table} g = isTable-tables a (omega (arith, g .alphabet)) table .0 (g .checked) .fits
+
+node-word : (a ch : List ℕ) (i : ℕ) → all (isNode a) ch ≡ true → i < length ch → isNode a (getD ch i 0) ≡ true
+node-word a ch i h l =
+    let w = getD ch i 0 in
+    let t = subst (λ (k : List ℕ). all (isNode a) k ≡ true) (split-at ch i 0 l) h in
+    and-true (isNode a w) (all (isNode a) (drop (suc i) ch)) (all-right (isNode a) (take i ch) (w ∷ drop (suc i) ch) t) .0
+
+-- a node takes as many children as its symbol's rank
+pub node-arity : {a ch : List ℕ} → TreeOver a ch → (i : ℕ) → i < length ch → arity a (getD ch i 0) ≡ rankOf a (symbolOf (getD ch i 0))
+node-arity {a} {ch} g i l = isNode-facts a (getD ch i 0) (node-word a ch i (g .nodes) l) .arity-rank
+
+-- marks of the same length serve as well
+pub workable-long : {a table ch : List ℕ} {m n : ℕ} → n ≡ m → Workable a table ch m → Workable a table ch n
+workable-long e w = rw e w

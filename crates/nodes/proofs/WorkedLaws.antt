@@ -1,0 +1,28 @@
+-- Nodes worked out one after the other, from node i on, over a list of state sets as they stand. Assumes nothing.
+use mathlib.Core.Path.{_≡_, refl, _∙_}
+use mathlib.Core.List.{List, map}
+use Prim.Native.Nat.{ℕ, zero, suc, _+_, _≤_}
+use native.Mathlib.Omega.{arith}
+use lib.ListN.{length, set, length-set}
+use Rattle.automaton.specs.StateSet.{StateSet}
+use Rattle.operations.proofs.LoopLaws.{setAt, setFrom, Recomputing, recomputing-none, recomputing-more}
+use Rattle.nodes.specs.Nodes.{rootsOf}
+
+module _ (a table ch : List ℕ) where
+  -- the state sets behind n nodes from node i on
+  unfoldable pub workedFrom : ℕ → ℕ → List StateSet → List StateSet
+  workedFrom i zero rows = rows
+  workedFrom i (suc n) rows = let before = workedFrom i n rows in set before (i + n) (setFrom a table ch (i + n) before)
+
+  pub length-worked : (i n : ℕ) (rows : List StateSet) → length (workedFrom i n rows) ≡ length rows
+  unfolding workedFrom
+  length-worked i zero rows = refl
+  length-worked i (suc n) rows = length-set (workedFrom i n rows) (i + n) _ ∙ length-worked i n rows
+
+  pub worked-is : (old : List StateSet) (i : ℕ) (σ : List StateSet) (k : ℕ) → i + k ≤ length ch → i + k ≤ length old
+      → map (setAt old) (rootsOf a ch i) ≡ σ → Recomputing a table ch old i σ k (workedFrom i k old)
+  unfolding workedFrom
+  worked-is old i σ zero h l e = recomputing-none a table ch old i σ e
+  worked-is old i σ (suc k) h l e =
+      recomputing-more a table ch old i σ k (workedFrom i k old) (omega arith) (omega arith) (length-worked i k old)
+      (worked-is old i σ k (omega arith) (omega arith) e)

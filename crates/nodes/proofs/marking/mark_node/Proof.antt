@@ -1,0 +1,113 @@
+-- `marking::mark_node` meets its contract: the last of the four words that are lent represent the children.
+use native.Mathlib.Omega.{arith}
+use Rattle.nodes.proofs.NodeLaws.{node-low, node-fits, node-room, node-few, node-next, node-words, node-kept}
+use borrow.Author.Needs.{needs}
+use Rattle.nodes.proofs.marking.mark_node.Statement.{statement}
+use Rattle.nodes.proofs.marking.mark_node.Tie as tie
+
+abbrev start : tie.After-rank → tie.Start
+start n = n .before .before .before .before .before .before .before .before .before .before .before .before .before .before
+
+abbrev ranked : tie.After-mark-next → tie.After-rank
+ranked m = m .before .before .before .before .before .before .before .before .before .before
+
+mul-symbol : tie.Need-mul-symbol
+mul-symbol c = search needs
+
+shared-slice-read-symbol : tie.Need-shared-slice-read-symbol
+shared-slice-read-symbol c = search needs
+
+cast-rank : tie.Need-cast-rank
+cast-rank c = search needs
+
+rank-requires : tie.Need-rank-requires
+rank-requires c κs = search needs
+
+sub-mark-next : tie.Need-sub-mark-next
+sub-mark-next c = let n = c .before in node-low (start n .pre) _ (n .rank .ensures)
+
+mul-mark-next : tie.Need-mul-mark-next
+mul-mark-next c = let n = c .before in let l = node-few (start n .pre) _ (n .rank .ensures) in omega arith
+
+sub-mark-next-2 : tie.Need-sub-mark-next-2
+sub-mark-next-2 c = search needs
+
+part-mark-next-start : tie.Need-part-mark-next-start
+part-mark-next-start c = search needs
+
+part-mark-next-end : tie.Need-part-mark-next-end
+part-mark-next-end c = let n = c .before .before in let l = node-room (start n .pre) _ (n .rank .ensures) in omega arith
+
+mark-next-requires : tie.Need-mark-next-requires
+mark-next-requires c κs = let n = c .before .before .before .before .before .before .before .before .before in node-next (start n .pre) _ (n .rank .ensures)
+
+sub-below : tie.Need-sub-below
+sub-below c = let n = ranked (c .before .before .before .before .before .before .before .before .before .before .before .before .before .before) in node-fits (start n .pre) _ (n .rank .ensures)
+
+cast-stack : tie.Need-cast-stack
+cast-stack c = let m = c .before .before .before .before .before .before .before .before .before .before .before .before .before .before in let h = start (ranked m) .pre in omega (arith, m .mark-next .ensures .new .low, h .inside, h .workable .tree .few)
+
+mul-stack : tie.Need-mul-stack
+mul-stack c = let n = ranked (c .before .before .before .before .before .before .before .before .before .before .before .before .before .before) in let l = node-few (start n .pre) _ (n .rank .ensures) in omega arith
+
+slice-write-stack : tie.Need-slice-write-stack
+slice-write-stack c = let n = ranked (c .before .before .before .before .before .before .before .before .before .before .before .before .before .before) in let l = node-room (start n .pre) _ (n .rank .ensures) in omega arith
+
+add-result : tie.Need-add-result
+add-result c = let n = ranked (c .before .before .before .before .before .before .before .before .before .before .before .before .before .before) in let l = node-few (start n .pre) _ (n .rank .ensures) in omega arith
+
+same-length : tie.Need-same-length
+same-length c = search needs
+
+same-length-2 : tie.Need-same-length-2
+same-length-2 c = search needs
+
+same-length-3 : tie.Need-same-length-3
+same-length-3 c = search needs
+
+same-length-4 : tie.Need-same-length-4
+same-length-4 c = search needs
+
+same-length-5 : tie.Need-same-length-5
+same-length-5 c = search needs
+
+same-length-6 : tie.Need-same-length-6
+same-length-6 c = search needs
+
+same-length-7 : tie.Need-same-length-7
+same-length-7 c = search needs
+
+same-length-8 : tie.Need-same-length-8
+same-length-8 c = search needs
+
+returns : tie.Need-returns
+returns c = let m = c .before .before .before .before .before .before .before .before .before .before .before .before .before .before in let n = ranked m in (node-words (start n .pre) _ (n .rank .ensures) (m .mark-next .ensures), node-kept (start n .pre) _ (n .rank .ensures) (m .mark-next .ensures))
+
+pub mark-node-spec : {M : Type 1} → statement M
+mark-node-spec =
+    tie.close
+    (tie.spec
+    mul-symbol
+    shared-slice-read-symbol
+    cast-rank
+    rank-requires
+    sub-mark-next
+    mul-mark-next
+    sub-mark-next-2
+    part-mark-next-start
+    part-mark-next-end
+    mark-next-requires
+    sub-below
+    cast-stack
+    mul-stack
+    slice-write-stack
+    add-result
+    same-length
+    same-length-2
+    same-length-3
+    same-length-4
+    same-length-5
+    same-length-6
+    same-length-7
+    same-length-8
+    returns)

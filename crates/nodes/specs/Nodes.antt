@@ -1,0 +1,72 @@
+-- Nodes that are worked out one after the other from the marks as they stand, and the stack of roots in an array. These
+-- definitions serve inner functions. Assumes nothing.
+use Prim.Native.Nat.{ℕ, zero, suc, _+_, _*_, _<_, _≤_}
+use mathlib.Core.Path.{_≡_}
+use mathlib.Core.Bool.{true}
+use mathlib.Core.List.{List, [], _++_, map}
+use lib.ListN.{length, getD, take, replicate}
+use lib.Seq.{paste}
+use Rattle.words.specs.Alphabet.{rankOf}
+use Rattle.words.specs.Lists.{all}
+use Rattle.words.specs.Chapter.{isNode, symbolOf}
+use Rattle.words.specs.Postfix.{oneTree, stackGiven, childrenOf}
+use Rattle.automaton.specs.Table.{isTable}
+use Rattle.automaton.specs.StateSet.{StateSet}
+use Rattle.operations.specs.Marks.{sizeOf, nodeSet, storedSet}
+
+-- ---- the marks
+
+-- node i's state set from its children's, which are in the marks
+unfoldable pub setFrom : List ℕ → List ℕ → List ℕ → List ℕ → ℕ → StateSet
+setFrom a table ch marks i = nodeSet table (getD ch i 0) (map (storedSet (sizeOf table) marks) (childrenOf a ch i))
+
+-- the marks with node i's words as they are worked out
+unfoldable pub markedAt : List ℕ → List ℕ → List ℕ → ℕ → List ℕ → List ℕ
+markedAt a table ch i marks = paste marks (i * sizeOf table) (setFrom a table ch marks i) (sizeOf table)
+
+-- the marks behind n nodes from node i on, each worked out from the marks as the one before left them
+unfoldable pub markedFrom : List ℕ → List ℕ → List ℕ → ℕ → ℕ → List ℕ → List ℕ
+markedFrom a table ch i zero marks = marks
+markedFrom a table ch i (suc n) marks = markedAt a table ch (i + n) (markedFrom a table ch i n marks)
+
+-- ---- the stack
+
+-- the roots of the trees that the first j nodes make, the last one first
+abbrev pub rootsOf : List ℕ → List ℕ → ℕ → List ℕ
+rootsOf a ch j = stackGiven a (λ k. k) 0 (take j ch) []
+
+-- the first `height` words of the array are four zeros and these nodes, the last one on top
+pub record Held (array : List ℕ) (height : ℕ) (nodes : List ℕ) : Type 0 where
+  pub words : take height array ≡ replicate 4 0 ++ nodes
+  pub height-is : height ≡ 4 + length nodes
+
+-- what putting node i on the stack asks
+pub record Pushable (a ch : List ℕ) (i : ℕ) (array : List ℕ) (height : ℕ) : Type 0 where
+  pub inside : i < length ch
+  pub few : i < 4096
+  pub fits : rankOf a (symbolOf (getD ch i 0)) ≤ height
+  pub room : height < length array
+  pub small : length array ≤ 4100
+
+-- a tree over the alphabet, of no more than 4,096 nodes
+pub record TreeOver (a ch : List ℕ) : Type 0 where
+  pub nodes : all (isNode a) ch ≡ true
+  pub tree : oneTree a ch ≡ true
+  pub few : length ch ≤ 4096
+
+-- what filling the stack with the roots of the first `count` nodes asks
+pub record Stackable (a ch : List ℕ) (count : ℕ) (array : List ℕ) : Type 0 where
+  pub tree : TreeOver a ch
+  pub within : count ≤ length ch
+  pub long : length array ≡ 4100
+  pub zeros : take 4 array ≡ replicate 4 0
+
+-- ---- what working out nodes asks
+
+-- a tree over the alphabet and a table for it; the marks slice has room for its state sets; no symbol has a rank above 4
+pub record Workable (a table ch : List ℕ) (room : ℕ) : Type 0 where
+  pub alphabet : length a ≤ 64
+  pub ranks : (f : ℕ) → rankOf a f ≤ 4
+  pub checked : isTable a table ≡ true
+  pub tree : TreeOver a ch
+  pub marks-room : length ch * sizeOf table ≤ room

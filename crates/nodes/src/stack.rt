@@ -1,0 +1,48 @@
+// The stack of roots in an array, the last root on top. It begins with four zeros, so that there are always four words to read at
+// its top. A node takes its children from the top and is put in their place, which is one store.
+ghost use mathlib.Core.Path.{_≡_};
+ghost use mathlib.Core.List.{reverse};
+ghost use Prim.Native.Nat.{_+_, _-_};
+ghost use lib.ListN.{getD, set};
+ghost use Rattle.words.specs.Alphabet.{rankOf};
+ghost use Rattle.words.specs.Chapter.{symbolOf};
+ghost use Rattle.nodes.specs.Nodes.{rootsOf, Held, Pushable, Stackable};
+use words::alphabet::LOW_BYTE;
+use words::alphabet::rank;
+
+// The zeros at the bottom.
+pub const STACK_BASE: usize = 4;
+
+// Puts node i on the stack in the place of its children, and answers the stack's height.
+pub fn push_node(
+    alphabet: &[u32],
+    nodes: &[u32],
+    i: usize,
+    stack: &mut [u32],
+    height: usize,
+) -> usize
+    requires { ⌜ Pushable (now alphabet) (now nodes) i (now stack) height ⌝ }
+    ensures answer { λ r. ⌜ r ≡ height - rankOf (now (alphabet .entry)) (symbolOf (getD (now (nodes .entry)) i 0)) + 1 ⌝ }
+    ensures stack { λ _. ⌜
+        now (stack .exit)
+        ≡ set (now (stack .entry)) (height - rankOf (now (alphabet .entry)) (symbolOf (getD (now (nodes .entry)) i 0))) i
+        ⌝ }
+{
+    let below = height - rank(alphabet, (nodes[i] % LOW_BYTE) as usize);
+    stack[below] = i as u32;
+    below + 1
+}
+
+// Puts the roots of the trees that the first `count` nodes make on the stack, and answers its height.
+pub fn stack_nodes(alphabet: &[u32], nodes: &[u32], count: usize, stack: &mut [u32]) -> usize
+    requires { ⌜ Stackable (now alphabet) (now nodes) count (now stack) ⌝ }
+    ensures { λ r. ⌜ Held (now (stack .exit)) r (reverse (rootsOf (now (alphabet .entry)) (now (nodes .entry)) count)) ⌝ }
+{
+    let mut height = STACK_BASE;
+    let mut i = 0;
+    while i < count {
+        height = push_node(alphabet, nodes, i, stack, height);
+        i += 1;
+    }
+    height
+}
