@@ -9,6 +9,7 @@ use lib.ListN.{length, getD, take, drop, length-drop}
 use lib.Seq.{take-suc, take-all}
 use borrow.Author.Tests.{eq-eqb, ne-eqb}
 use Rattle.words.proofs.ListLaws.{map-append}
+use Rattle.words.proofs.ScanLaws.{drop-part}
 use Rattle.automaton.specs.Transition.{epsilon, transitionWords, transitionsWords}
 use Rattle.automaton.specs.Numbering.{entryFor, epsilons}
 use Rattle.automaton.proofs.TransitionLaws.{transitionsWords-append}
@@ -97,7 +98,7 @@ abbrev pub behindFirst : List ℕ → List ℕ
 behindFirst ps = take (length ps - 1) (drop 1 ps)
 
 pub behindFirst-drop : (ps : List ℕ) → behindFirst ps ≡ drop 1 ps
-behindFirst-drop ps = take-all (length ps - 1) (drop 1 ps) (rw (length-drop 1 ps) (omega arith))
+behindFirst-drop ps = drop-part ps 1
 
 pub emits-behind : (cs ps : List ℕ) (x at n : ℕ) → Emits cs ps x at n → Emits cs (behindFirst ps) x at n
 emits-behind cs ps x at n p =

@@ -1,12 +1,12 @@
 -- Laws of words that are copied into a slice one after the other, the first one first. Assumes nothing.
 use mathlib.Core.Path.{_≡_, refl, ap, ap₂, _∙_, sym}
-use mathlib.Core.List.{List, _++_}
+use mathlib.Core.List.{List, _++_, append-assoc}
 use Prim.Native.Nat.{ℕ, _+_, _-_, _<_, _≤_}
 use native.Mathlib.Omega.{arith}
 use native.Mathlib.Nat.{zero-add}
 use native.Mathlib.Numerals.{add-one}
-use lib.ListN.{length, getD, drop, set, replicate, length-set, getD-replicate}
-use lib.Seq.{paste, paste-zero, paste-suc, getD-drop, drop-paste, take-length}
+use lib.ListN.{length, getD, take, drop, set, replicate, length-set, getD-replicate, take-append-drop}
+use lib.Seq.{paste, paste-zero, paste-suc, getD-drop, drop-drop, drop-paste, take-length}
 
 -- k of n words stand from index `at` on; the rest of the slice is as it was
 pub record Copied (s₀ : List ℕ) (at : ℕ) (ws : List ℕ) (n : ℕ) (s : List ℕ) (k : ℕ) : Type 0 where
@@ -54,3 +54,13 @@ zero-at n k h = sym (getD-replicate n k 0 0 h)
 
 pub paste-front : (s₀ ws : List ℕ) → paste s₀ 0 ws (length ws) ≡ ws ++ drop (length ws) s₀
 paste-front s₀ ws = ap₂ (λ (l : List ℕ) (i : ℕ). l ++ drop i s₀) (take-length ws) (zero-add (length ws))
+
+-- ---- words copied onto themselves
+
+pub paste-same : (l : List ℕ) (from at n : ℕ) → from ≡ at → l ≡ paste l at (drop from l) n
+paste-same l from at n e =
+    sym
+    (rw e (append-assoc (take at l) (take n (drop at l)) (drop (at + n) l))
+    ∙ ap (λ (t : List ℕ). take at l ++ (take n (drop at l) ++ t)) (sym (drop-drop n at l))
+    ∙ ap (λ (t : List ℕ). take at l ++ t) (take-append-drop n (drop at l))
+    ∙ take-append-drop at l)

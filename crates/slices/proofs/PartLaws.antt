@@ -5,11 +5,12 @@ use Prim.Native.Nat.{ℕ, _+_, _-_}
 use native.Mathlib.Omega.{arith}
 use lib.ListN.{length, take, drop, length-drop, drop-of-length-le}
 use lib.Seq.{paste, take-all, drop-drop}
+use Rattle.words.proofs.ScanLaws.{drop-part}
 use borrow.Rule.Slice.PartMut.{midOf, postOf, putMid}
 
 module _ (m : List ℕ) (a : ℕ) where
   pub tail-mid : midOf a (length m - a) m ≡ drop a m
-  tail-mid = take-all (length m - a) (drop a m) (rw length-drop (omega arith))
+  tail-mid = drop-part m a
 
   tail-post : postOf a (length m - a) m ≡ []
   tail-post = drop-of-length-le (drop a m) {i = length m - a} (rw length-drop (omega arith))

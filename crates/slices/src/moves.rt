@@ -32,11 +32,14 @@ fn move_down(words: &mut [u32], from: usize, to: usize, count: usize)
     }
 }
 
-// Moves words within the slice; both places may overlap.
+// Moves words within the slice; both places may overlap, and where they are the same there is nothing to do.
 pub fn move_words(words: &mut [u32], from: usize, to: usize, count: usize)
     requires { ⌜ Movable (now words) from to count ⌝ }
     ensures { λ _. ⌜ now (words .exit) ≡ paste (now (words .entry)) to (drop from (now (words .entry))) count ⌝ }
 {
+    if from == to {
+        return;
+    }
     if from < to {
         move_up(words, from, to, count);
         return;

@@ -1,13 +1,15 @@
 -- What the check of a table tells of one word, by the tests of the code. Assumes nothing.
 use mathlib.Core.Path.{_≡_, refl, _∙_, sym}
-use mathlib.Core.Bool.{Bool, true, false, _&&_, _||_}
+use mathlib.Core.Bool.{Bool, true, false, cond, _&&_}
 use mathlib.Core.List.{List}
 use Prim.Native.Nat.{ℕ, zero, suc, _+_, _<_, _≤_}
 use native.Mathlib.Omega.{arith}
-use lib.Dec.{ltb, leb, eqb}
-use borrow.Author.Tests.{eq-eqb, ne-eqb, lt-ltb}
+use native.Mathlib.Numerals.{add-one}
+use lib.ListN.{length}
+use lib.Dec.{ltb, leb}
+use borrow.Author.Tests.{eq-eqb, ne-eqb, lt-ltb, le-ltb}
 use Rattle.words.specs.Word.{Kind, headKind, transitionKind, epsilonKind, sourceKind, kindNumber, numberOf, hasKind, spareBitsClear, isOf, symbolAbove, countAbove, stateAbove, stateBelow}
-use Rattle.words.specs.Alphabet.{isSymbol, rankOf}
+use Rattle.words.specs.Alphabet.{rankOf}
 use Rattle.automaton.specs.Table.{isHead, isTableWord, sourcesLeft}
 
 -- ---- a test of two, by the branch on the first
@@ -27,14 +29,14 @@ head-value w p q r s ep eq er es = es ∙ rw (er, eq, ep)
 
 -- ---- a word behind the head
 
+and-none : (b : Bool) → b && false ≡ false
+and-none true = refl
+and-none false = refl
+
 module _ (k : Kind) (w : ℕ) where
   not-clear : spareBitsClear w ≡ false → isOf k w ≡ false
   unfolding isOf
-  not-clear h = rw h (none (hasKind k w))
-    where
-      none : (b : Bool) → b && false ≡ false
-      none true = refl
-      none false = refl
+  not-clear h = rw h (and-none (hasKind k w))
 
   not-of : (numberOf w ≡ kindNumber k → ⊥) → isOf k w ≡ false
   unfolding isOf
@@ -44,58 +46,66 @@ module _ (k : Kind) (w : ℕ) where
   unfolding isOf
   is-of e h = rw (eq-eqb (numberOf w) (kindNumber k) e, h)
 
-or-none : (b : Bool) → b || false ≡ b
-or-none true = refl
-or-none false = refl
+module _ (a : List ℕ) (n w : ℕ) where
+  -- where k part states are to come: one more than those to come behind the word, or 0 where it may not stand
+  abbrev pub Next : ℕ → ℕ → Type 0
+  Next k r = r ≡ cond (isTableWord a n k w) (sourcesLeft a k w + 1) 0
 
-module _ (a : List ℕ) (n : ℕ) (w : ℕ) where
-  pub spare-bits : (k : ℕ) → spareBitsClear w ≡ false → false ≡ isTableWord a n k w
+  pub spare-bits : (k : ℕ) → spareBitsClear w ≡ false → Next k 0
   unfolding isTableWord
   spare-bits zero h = sym (rw (not-clear transitionKind w h, not-clear epsilonKind w h))
   spare-bits (suc k) h = sym (rw (not-clear sourceKind w h))
 
-  pub no-table-word : (k : ℕ) → (numberOf w ≡ 9 → ⊥) → (numberOf w ≡ 10 → ⊥) → (numberOf w ≡ 11 → ⊥) → false ≡ isTableWord a n k w
+  pub state-outside : (k : ℕ) → n ≤ stateBelow w → Next k 0
+  unfolding isTableWord
+  state-outside zero h = sym (simp (le-ltb (stateBelow w) n h, and-none))
+  state-outside (suc k) h = sym (simp (le-ltb (stateBelow w) n h, and-none))
+
+  pub no-source : (k : ℕ) → 0 < k → (numberOf w ≡ 11 → ⊥) → Next k 0
+  unfolding isTableWord
+  no-source zero h j = absurd (omega arith)
+  no-source (suc k) h j = sym (rw (not-of sourceKind w j))
+
+  pub no-table-word : (k : ℕ) → (numberOf w ≡ 9 → ⊥) → (numberOf w ≡ 10 → ⊥) → (numberOf w ≡ 11 → ⊥) → Next k 0
   unfolding isTableWord
   no-table-word zero h i j = sym (rw (not-of transitionKind w h, not-of epsilonKind w i))
-  no-table-word (suc k) h i j = sym (rw (not-of sourceKind w j))
+  no-table-word (suc k) h i j = no-source (suc k) (omega arith) j
 
-  pub lower-kind : (k : ℕ) → numberOf w < 9 → false ≡ isTableWord a n k w
+  pub lower-kind : (k : ℕ) → numberOf w < 9 → Next k 0
   lower-kind k h = no-table-word k (λ e. omega arith) (λ e. omega arith) (λ e. omega arith)
 
-  module _ (clear : spareBitsClear w ≡ true) where
-    pub on-symbol-value : numberOf w ≡ 9 → (k : ℕ) (p r : Bool) → p ≡ eqb k 0 && isSymbol a (symbolAbove w) → r ≡ p && ltb (stateBelow w) n → r ≡ isTableWord a n k w
-    unfolding isTableWord
-    on-symbol-value e zero p r ep er =
-        er ∙ rw ep (sym (rw (is-of transitionKind w e clear, not-of epsilonKind w (λ i. omega arith), or-none)))
-    on-symbol-value e (suc k) p r ep er =
-        er ∙ rw (ep, ne-eqb (suc k) 0 (λ i. omega arith), not-of sourceKind w (λ i. omega arith))
+  pub symbol-unknown : (k : ℕ) → k ≤ 0 → numberOf w ≡ 9 → length a ≤ symbolAbove w → Next k 0
+  unfolding isTableWord
+  symbol-unknown zero l e h =
+      sym (simp (le-ltb (symbolAbove w) (length a) h, not-of epsilonKind w (λ i. omega arith), and-none))
+  symbol-unknown (suc k) l e h = absurd (omega arith)
 
-    pub epsilon-value : numberOf w ≡ 10 → (k : ℕ) (p r : Bool) → p ≡ eqb k 0 && ltb (stateAbove w) n → r ≡ p && ltb (stateBelow w) n → r ≡ isTableWord a n k w
-    unfolding isTableWord
-    epsilon-value e zero p r ep er =
-        er ∙ rw ep (sym (rw (is-of epsilonKind w e clear, not-of transitionKind w (λ i. omega arith))))
-    epsilon-value e (suc k) p r ep er =
-        er ∙ rw (ep, ne-eqb (suc k) 0 (λ i. omega arith), not-of sourceKind w (λ i. omega arith))
+  pub above-outside : (k : ℕ) → k ≤ 0 → numberOf w ≡ 10 → n ≤ stateAbove w → Next k 0
+  unfolding isTableWord
+  above-outside zero l e h = sym (simp (le-ltb (stateAbove w) n h, not-of transitionKind w (λ i. omega arith), and-none))
+  above-outside (suc k) l e h = absurd (omega arith)
 
-    pub source-value : numberOf w ≡ 11 → (k : ℕ) (r : Bool) → r ≡ ltb 0 k && ltb (stateBelow w) n → r ≡ isTableWord a n k w
-    unfolding isTableWord
-    source-value e zero r er = er ∙ sym (rw (not-of transitionKind w (λ i. omega arith), not-of epsilonKind w (λ i. omega arith)))
-    source-value e (suc k) r er = er ∙ rw (lt-ltb 0 (suc k) (omega arith), is-of sourceKind w e clear)
+  module _ (clear : spareBitsClear w ≡ true) (state : stateBelow w < n) where
+    pub transition-next : (k : ℕ) → k ≤ 0 → numberOf w ≡ 9 → symbolAbove w < length a → (r : ℕ) → r ≡ rankOf a (symbolAbove w) → Next k (r + 1)
+    unfolding isTableWord sourcesLeft
+    transition-next zero l e h r er =
+        sym (rw (is-of transitionKind w e clear, lt-ltb (symbolAbove w) (length a) h, lt-ltb (stateBelow w) n state, eq-eqb (numberOf w) 9 e, ← er))
+    transition-next (suc k) l e h r er = absurd (omega arith)
 
--- ---- how many part states are to come
+    pub epsilon-next : (k : ℕ) → k ≤ 0 → numberOf w ≡ 10 → stateAbove w < n → Next k 1
+    unfolding isTableWord sourcesLeft
+    epsilon-next zero l e h =
+        sym
+        (rw (
+          not-of transitionKind w (λ i. omega arith),
+          is-of epsilonKind w e clear,
+          lt-ltb (stateAbove w) n h,
+          lt-ltb (stateBelow w) n state,
+          ne-eqb (numberOf w) 9 (λ i. omega arith),
+        ))
+    epsilon-next (suc k) l e h = absurd (omega arith)
 
-module _ (a : List ℕ) (w : ℕ) where
-  pub left-fewer : (k j : ℕ) → 0 < k → j + 1 ≡ k → j ≡ sourcesLeft a k w
-  unfolding sourcesLeft
-  left-fewer zero j h e = absurd (omega arith)
-  left-fewer (suc k) j h e = omega arith
-
-  pub left-rank : (k r : ℕ) → k ≤ 0 → numberOf w ≡ 9 → r ≡ rankOf a (symbolAbove w) → r ≡ sourcesLeft a k w
-  unfolding sourcesLeft
-  left-rank zero r h e er = er ∙ sym (rw (eq-eqb (numberOf w) 9 e))
-  left-rank (suc k) r h e er = absurd (omega arith)
-
-  pub left-none : (k : ℕ) → k ≤ 0 → (numberOf w ≡ 9 → ⊥) → 0 ≡ sourcesLeft a k w
-  unfolding sourcesLeft
-  left-none zero h e = sym (rw (ne-eqb (numberOf w) 9 e))
-  left-none (suc k) h e = absurd (omega arith)
+    pub source-next : (k : ℕ) → numberOf w ≡ 11 → Next k k
+    unfolding isTableWord sourcesLeft
+    source-next zero e = sym (rw (not-of transitionKind w (λ i. omega arith), not-of epsilonKind w (λ i. omega arith)))
+    source-next (suc k) e = sym (rw (is-of sourceKind w e clear, lt-ltb (stateBelow w) n state) (add-one k))

@@ -2,14 +2,16 @@
 use mathlib.Core.Path.{_≡_, refl, ap, _∙_, sym}
 use mathlib.Core.Bool.{Bool, true, false, _&&_}
 use mathlib.Core.List.{List, [], _∷_}
-use Prim.Native.Nat.{ℕ, _+_, _<_, _≤_}
+use Prim.Native.Nat.{ℕ, _+_, _-_, _<_, _≤_}
 use native.Mathlib.Omega.{arith}
 use lib.ListN.{length, getD, drop}
 use lib.Dec.{eqb}
 use borrow.Author.Tests.{le-leb, lt-leb}
 use Rattle.words.specs.Word.{countAbove}
 use Rattle.words.proofs.ScanLaws.{drop-step, drop-end}
+use Rattle.words.proofs.TestLaws.{Tested, holds, fails, tested}
 use Rattle.automaton.specs.Table.{isTable, isHead, isTableWord, sourcesLeft, areTransitions}
+use Rattle.tables.proofs.CheckLaws.{Next}
 
 -- the words before word i are in order, and `left` part states are still to come
 pub record Checked (a : List ℕ) (n : ℕ) (table : List ℕ) (left i : ℕ) : Type 0 where
@@ -29,11 +31,23 @@ module _ {a : List ℕ} {n : ℕ} {table : List ℕ} {left i : ℕ} (s : Checked
     unfolding areTransitions
     next = ap (areTransitions a n left) (drop-step table i h)
 
-    pub checked-fails : isTableWord a n left (getD table i 0) ≡ false → false ≡ areTransitions a n 0 (drop 1 table)
-    checked-fails e = sym (s .rest ∙ next ∙ rw e)
+    -- r is one more than the part states to come behind word i, or 0 where it may not stand
+    module _ (r : ℕ) (er : Next a n (getD table i 0) left r) where
+      pub checked-fails : r ≡ 0 → false ≡ areTransitions a n 0 (drop 1 table)
+      checked-fails z = go (tested (isTableWord a n left (getD table i 0)))
+        where
+          go : Tested (isTableWord a n left (getD table i 0)) → false ≡ areTransitions a n 0 (drop 1 table)
+          go (holds e) = absurd (let q = rw e at er in omega arith)
+          go (fails e) = sym (s .rest ∙ next ∙ rw e)
 
-    pub checked-more : isTableWord a n left (getD table i 0) ≡ true → (k : ℕ) → k ≡ sourcesLeft a left (getD table i 0) → Checked a n table k (i + 1)
-    checked-more e k ek = record { rest = s .rest ∙ next ∙ rw (e, ← ek) }
+      pub checked-more : (r ≡ 0 → ⊥) → Checked a n table (r - 1) (i + 1)
+      checked-more z = go (tested (isTableWord a n left (getD table i 0)))
+        where
+          go : Tested (isTableWord a n left (getD table i 0)) → Checked a n table (r - 1) (i + 1)
+          go (holds e) =
+              let q : sourcesLeft a left (getD table i 0) ≡ r - 1 = let p = rw e at er in omega arith in
+              record { rest = s .rest ∙ next ∙ rw (e, q) }
+          go (fails e) = absurd (z (rw e at er))
 
 -- ---- the whole table
 

@@ -1,5 +1,7 @@
 // The check of a table (document 01's refusal 8).
+ghost use mathlib.Core.Bool.{cond};
 ghost use mathlib.Core.Path.{_≡_};
+ghost use Prim.Native.Nat.{_+_};
 ghost use lib.ListN.{drop};
 ghost use Rattle.automaton.specs.Table.{isHead, isTableWord, sourcesLeft, areTransitions, isTable};
 use super::head::COUNT_RANGE;
@@ -33,39 +35,17 @@ fn is_head(w: u32) -> bool
     is_of(HEAD, w) && 0 < states && states <= STATES_MOST && w % STATE_RANGE < states
 }
 
-// Whether the word may stand where `left` part states are still to come: a transition where none is, else a part state.
-fn is_table_word(alphabet: &[u32], states: usize, left: usize, w: u32) -> bool
-    ensures { λ r. ⌜ r ≡ isTableWord (now (alphabet .entry)) states left w ⌝ }
+// One more than the part states that are to come behind the word, or 0 where the word may not stand: where `left` part states
+// are still to come it has to be a part state, and where none is, a transition.
+fn sources_next(alphabet: &[u32], states: usize, left: usize, w: u32) -> usize
+    ensures { λ r. ⌜ r ≡ cond (isTableWord (now (alphabet .entry)) states left w) (sourcesLeft (now (alphabet .entry)) left w + 1) 0 ⌝ }
 {
     if !spare_bits_clear(w) {
-        return false;
+        return 0;
     }
-    let kind = w / KIND_UNIT;
-    let symbol = (w / STATE_RANGE % SYMBOL_RANGE) as usize;
-    let above = (w / STATE_RANGE % STATE_RANGE) as usize;
     let below = (w % STATE_RANGE) as usize;
-    match kind {
-        ENTRY => false,
-        SYMBOL => false,
-        EMPTY => false,
-        UNION => false,
-        PRODUCT => false,
-        CLOSURE => false,
-        NODE => false,
-        HEAD => false,
-        TRANSITION => left == 0 && symbol < alphabet.len() && below < states,
-        EPSILON => left == 0 && above < states && below < states,
-        SOURCE => 0 < left && below < states,
-        _ => false,
-    }
-}
-
-// How many part states are to come behind the word, where `left` were before it.
-fn sources_left(alphabet: &[u32], left: usize, w: u32) -> usize
-    ensures { λ r. ⌜ r ≡ sourcesLeft (now (alphabet .entry)) left w ⌝ }
-{
-    if 0 < left {
-        return left - 1;
+    if below >= states {
+        return 0;
     }
     let kind = w / KIND_UNIT;
     match kind {
@@ -77,9 +57,27 @@ fn sources_left(alphabet: &[u32], left: usize, w: u32) -> usize
         CLOSURE => 0,
         NODE => 0,
         HEAD => 0,
-        TRANSITION => rank(alphabet, (w / STATE_RANGE % SYMBOL_RANGE) as usize),
-        EPSILON => 0,
-        SOURCE => 0,
+        TRANSITION => {
+            let symbol = (w / STATE_RANGE % SYMBOL_RANGE) as usize;
+            if 0 < left {
+                return 0;
+            }
+            if symbol < alphabet.len() {
+                return rank(alphabet, symbol) + 1;
+            }
+            0
+        }
+        EPSILON => {
+            let above = (w / STATE_RANGE % STATE_RANGE) as usize;
+            if 0 < left {
+                return 0;
+            }
+            if above < states {
+                return 1;
+            }
+            0
+        }
+        SOURCE => left,
         _ => 0,
     }
 }
@@ -91,11 +89,11 @@ fn are_transitions(alphabet: &[u32], states: usize, table: &[u32]) -> bool
     let mut left: usize = 0;
     let mut i = 1;
     while i < table.len() {
-        let w = table[i];
-        if !is_table_word(alphabet, states, left, w) {
+        let next = sources_next(alphabet, states, left, table[i]);
+        if next == 0 {
             return false;
         }
-        left = sources_left(alphabet, left, w);
+        left = next - 1;
         i += 1;
     }
     left == 0

@@ -5,8 +5,9 @@ use mathlib.Core.Bool.{Bool, true, false}
 use mathlib.Core.List.{List, [], _∷_}
 use Prim.Native.Nat.{ℕ, _+_, _-_, _<_, _≤_}
 use native.Mathlib.Numerals.{add-one}
-use lib.ListN.{length, getD, drop, drop-of-length-le}
-use lib.Seq.{drop-cons}
+use native.Mathlib.Omega.{arith}
+use lib.ListN.{length, getD, take, drop, length-drop, drop-of-length-le}
+use lib.Seq.{drop-cons, take-all}
 use lib.Dec.{eqb}
 use borrow.Author.Tests.{le-leb, lt-leb}
 use Rattle.words.specs.Lists.{all}
@@ -17,6 +18,10 @@ drop-step l i h = rw (add-one, drop-cons l i 0)
 
 pub drop-end : (l : List ℕ) (i : ℕ) → length l ≤ i → drop i l ≡ []
 drop-end l i h = drop-of-length-le l h
+
+-- the part `&l[i..]` of a slice
+pub drop-part : (l : List ℕ) (i : ℕ) → take (length l - i) (drop i l) ≡ drop i l
+drop-part l i = take-all (length l - i) (drop i l) (rw (length-drop i l) (omega arith))
 
 -- the test of every word from index i on
 module _ (f : ℕ → Bool) (l : List ℕ) (i : ℕ) where

@@ -3,7 +3,7 @@ ghost use mathlib.Core.Path.{_≡_};
 ghost use Rattle.words.specs.Lists.{all};
 ghost use Rattle.words.specs.Chapter.{isNode, treeFault};
 use super::alphabet::LOW_BYTE;
-use super::postfix::one_tree;
+use super::alphabet::rank;
 use super::word::NODE;
 use super::word::is_of;
 
@@ -32,15 +32,30 @@ fn nodes_only(alphabet: &[u32], words: &[u32]) -> bool
     true
 }
 
-// Document 01's number 10 or 11, the first that applies, or 0. Every word is judged for 10 before 11.
+// Document 01's number 10 or 11, the first that applies, or 0. The words before word i are nodes and make `made` trees. Where
+// word i lacks children, the words from it on are judged for 10 before 11.
 pub fn tree_fault(alphabet: &[u32], words: &[u32]) -> u32
     ensures { λ r. ⌜ r ≡ treeFault (now (alphabet .entry)) (now (words .entry)) ⌝ }
 {
-    if !nodes_only(alphabet, words) {
-        return 10;
+    let mut made: usize = 0;
+    let mut i = 0;
+    while i < words.len() {
+        let w = words[i];
+        if !is_node(alphabet, w) {
+            return 10;
+        }
+        let children = rank(alphabet, (w % LOW_BYTE) as usize);
+        if made < children {
+            if !nodes_only(alphabet, &words[i..]) {
+                return 10;
+            }
+            return 11;
+        }
+        made = made - children + 1;
+        i += 1;
     }
-    if !one_tree(alphabet, words) {
-        return 11;
+    if made == 1 {
+        return 0;
     }
-    0
+    11
 }

@@ -1,10 +1,8 @@
 -- `tables::check::are_transitions` meets its contract: before each word the rest is judged as the whole was.
 -- Assumes nothing.
-use mathlib.Core.Path.{sym, _∙_}
 use Prim.Native.Nat.{_-_}
 use lib.ListN.{length}
 use borrow.Author.Needs.{needs}
-use borrow.Author.Tests.{not-true, not-false}
 use Rattle.tables.proofs.ScanLaws.{Checked, checked-none, checked-more, checked-fails, checked-end}
 use Rattle.tables.proofs.check.are_transitions.Statement.{statement}
 use Rattle.tables.proofs.check.are_transitions.Tie as tie
@@ -18,22 +16,22 @@ abbrev μ-loop : tie.MeasureT-loop
 loop-holds : tie.Need-loop-holds Inv-loop μ-loop
 loop-holds c = checked-none _ _ _
 
-mul-w : tie.Need-mul-w Inv-loop μ-loop
-mul-w c = search needs
+mul-sources-next : tie.Need-mul-sources-next Inv-loop μ-loop
+mul-sources-next c = search needs
 
-shared-slice-read-w : tie.Need-shared-slice-read-w Inv-loop μ-loop
-shared-slice-read-w c = search needs
+shared-slice-read-sources-next : tie.Need-shared-slice-read-sources-next Inv-loop μ-loop
+shared-slice-read-sources-next c = search needs
 
-is-table-word-requires : tie.Need-is-table-word-requires Inv-loop μ-loop
-is-table-word-requires c κs = search needs
+sources-next-requires : tie.Need-sources-next-requires Inv-loop μ-loop
+sources-next-requires c κs = search needs
 
 returns : tie.Need-returns Inv-loop μ-loop
 returns c =
     let t = c .before .before .before in
-    checked-fails (t .before .loop .inv) (t .loop-test .taken) (sym (c .before .is-table-word .ensures) ∙ not-true _ (c .if1 .taken))
+    checked-fails (t .before .loop .inv) (t .loop-test .taken) _ (c .before .sources-next .ensures) (c .if1 .taken)
 
-sources-left-requires : tie.Need-sources-left-requires Inv-loop μ-loop
-sources-left-requires c κs = search needs
+sub-left : tie.Need-sub-left Inv-loop μ-loop
+sub-left c = search needs
 
 add-i : tie.Need-add-i Inv-loop μ-loop
 add-i c = search needs
@@ -43,10 +41,8 @@ loop-less c = search needs
 
 loop-again : tie.Need-loop-again Inv-loop μ-loop
 loop-again c =
-    let d = c .before in
-    let t = d .before .before .before in
-    checked-more (t .before .loop .inv) (t .loop-test .taken) (sym (d .before .is-table-word .ensures) ∙ not-false _ (d .if1 .left)) _
-    (c .sources-left .ensures)
+    let t = c .before .before .before in
+    checked-more (t .before .loop .inv) (t .loop-test .taken) _ (c .before .sources-next .ensures) (c .if1 .left)
 
 returns-2 : tie.Need-returns-2 Inv-loop μ-loop
 returns-2 c = checked-end (c .before .loop .inv) (c .loop-test .left)
@@ -58,11 +54,11 @@ are-transitions-spec =
     Inv-loop
     μ-loop
     loop-holds
-    mul-w
-    shared-slice-read-w
-    is-table-word-requires
+    mul-sources-next
+    shared-slice-read-sources-next
+    sources-next-requires
     returns
-    sources-left-requires
+    sub-left
     add-i
     loop-less
     loop-again
