@@ -8,7 +8,7 @@ use moves::Moves;
 use peer::call::{Answer, Call, Matcher, Operation};
 use peer::model::Model;
 use peer::words::{ARITY_LIMIT, NODE_LIMIT};
-use shape::{starts, symbol, Alphabet, Fault};
+use shape::{symbol, Alphabet, Fault, Shape, Subtree};
 
 /// Performs an Exchange on its own slices, and answers the new element count and the number worked out, or the number
 /// of the refusal.
@@ -16,51 +16,32 @@ pub fn perform(call: &mut Call) -> Result<[u32; 2], u32> {
     let alphabet = Alphabet::check(&call.alphabet)?;
     let moves = Moves::check(&alphabet, &call.table).ok_or(8_u32)?;
     let place = check(&alphabet, &moves, call)?;
-    splice(&mut call.tree, 1, &place, call.count);
-    splice(&mut call.sets, moves.width, &place, call.count);
-    call.tree[place.start..=place.root()].copy_from_slice(&call.replacement);
+    place.splice(&mut call.tree, 1);
+    place.splice(&mut call.sets, moves.width);
+    call.tree[place.old.start..=place.root].copy_from_slice(&call.replacement);
     let mut work = Work {
-        alphabet,
-        width: moves.width,
         front: Vec::new(),
         fresh: vec![0; moves.width],
+        alphabet,
         moves,
+        tree: &call.tree,
+        sets: &mut call.sets,
     };
-    let recomputed = work.recompute(&place, &call.tree, &mut call.sets);
+    let mut recomputed = call.replacement.len();
+    if work.renew_replacement(&place) {
+        recomputed += work.renew_ancestors(place.shape, place.old, place.root);
+    }
     Ok([place.result as u32, recomputed as u32])
 }
 
-/// Where the replacement stands, and the starts of the old tree and of the replacement.
+/// Where an exchange takes place: the old tree and its subtree that gives way, the place of the replacement's root, and
+/// how many nodes there are before and after.
 struct Place {
-    element: usize,
-    start: usize,
-    replacement: usize,
+    shape: Shape,
+    old: Subtree,
+    root: usize,
+    count: usize,
     result: usize,
-    starts: Vec<u16>,
-    inner: Vec<u16>,
-}
-
-impl Place {
-    /// The replacement's root.
-    fn root(&self) -> usize {
-        self.start + self.replacement - 1
-    }
-
-    /// Where a node of the old tree that is not in the old subtree, or is its root, stands now.
-    fn moved(&self, node: usize) -> usize {
-        if node < self.start {
-            node
-        } else {
-            node + self.root() - self.element
-        }
-    }
-
-    /// The nearest ancestor of the place above this ancestor, or above the element, in the old tree.
-    fn above(&self, node: usize) -> Option<usize> {
-        let holds = |start: &u16| usize::from(*start) <= self.start;
-        let further = self.starts[node + 1..].iter().position(holds)?;
-        Some(node + 1 + further)
-    }
 }
 
 /// The refusals behind 8.
@@ -69,31 +50,32 @@ fn check(alphabet: &Alphabet, moves: &Moves, call: &Call) -> Result<Place, u32> 
     if is_outside(count) || count > call.tree.len() {
         return Err(9);
     }
-    let starts_of = |tree| starts(alphabet, tree);
-    let starts = starts_of(&call.tree[..count]).map_err(|fault| match fault {
+    let shape = Shape::check(alphabet, &call.tree[..count]).map_err(|fault| match fault {
         Fault::Word => 10_u32,
         Fault::Shape => 11,
     })?;
     if call.sets.len() < count * moves.width {
         return Err(12);
     }
-    let start = usize::from(*starts.get(call.node).ok_or(14_u32)?);
-    let replacement = call.replacement.len();
-    if is_outside(replacement) {
+    if call.node >= count {
+        return Err(14);
+    }
+    let nodes = call.replacement.len();
+    if is_outside(nodes) || Shape::check(alphabet, &call.replacement).is_err() {
         return Err(15);
     }
-    let inner = starts_of(&call.replacement).map_err(|_| 15_u32)?;
-    let result = count - (call.node + 1 - start) + replacement;
+    let old = shape.subtree(call.node);
+    let root = old.start + nodes - 1;
+    let result = root + count - call.node;
     if result > NODE_LIMIT || result > call.tree.len() || result * moves.width > call.sets.len() {
         return Err(16);
     }
     Ok(Place {
-        element: call.node,
-        start,
-        replacement,
+        shape,
+        old,
+        root,
+        count,
         result,
-        starts,
-        inner,
     })
 }
 
@@ -101,71 +83,78 @@ fn is_outside(nodes: usize) -> bool {
     nodes == 0 || nodes > NODE_LIMIT
 }
 
-/// Moves what stands from the element on to where it stands from the replacement's root on, and clears what falls out of
-/// use. So the old element's own words come to the root's place.
-fn splice(words: &mut [u32], width: usize, place: &Place, count: usize) {
-    if place.root() == place.element {
-        return;
-    }
-    words.copy_within(place.element * width..count * width, place.root() * width);
-    if place.result < count {
-        words[place.result * width..count * width].fill(0);
+impl Place {
+    /// Moves what stands from the old element on to where it stands from the replacement's root on, and clears what falls
+    /// out of use. So the old element's own words come to the root's place.
+    fn splice(&self, words: &mut [u32], width: usize) {
+        if self.root == self.old.node {
+            return;
+        }
+        words.copy_within(self.old.node * width..self.count * width, self.root * width);
+        if self.result < self.count {
+            words[self.result * width..self.count * width].fill(0);
+        }
     }
 }
 
-/// What working out a node needs.
-struct Work {
+/// What working out a node needs: the new tree, the state sets as they stand, and buffers.
+struct Work<'a> {
     alphabet: Alphabet,
     moves: Moves,
-    width: usize,
+    tree: &'a [u32],
+    sets: &'a mut [u32],
     front: Vec<u16>,
     fresh: Vec<u32>,
 }
 
-impl Work {
-    /// Works out the replacement and then ancestors up to the first that is unchanged; answers how many nodes.
-    fn recompute(&mut self, place: &Place, tree: &[u32], sets: &mut [u32]) -> usize {
+impl Work<'_> {
+    /// Works out the replacement; answers whether the words at its root changed.
+    fn renew_replacement(&mut self, place: &Place) -> bool {
+        let mut roots = Vec::new();
         let mut changed = false;
-        for node in 0..place.replacement {
-            let children = |last: usize| (place.start + last, place.inner[last]);
-            changed = self.renew(tree, sets, place.start + node, node, children);
+        for node in place.old.start..=place.root {
+            let arity = self.alphabet.arity(symbol(self.tree[node]));
+            let first = roots.len() - arity;
+            changed = self.renew(node, &roots[first..]);
+            roots.truncate(first);
+            roots.push(node);
         }
-        let mut recomputed = place.replacement;
-        let mut node = place.element;
+        changed
+    }
+
+    /// Works out ancestors up to the first that is unchanged; answers how many. `below` was the old element, in the old
+    /// tree, and `root` stands in its place.
+    fn renew_ancestors(&mut self, shape: Shape, mut below: Subtree, root: usize) -> usize {
+        let (start, element) = (below.start, below.node);
+        let moved = |node: usize| if node < start { node } else { node + root - element };
+        let mut children = Vec::with_capacity(ARITY_LIMIT);
+        let mut recomputed = 0;
+        let mut changed = true;
         while changed {
-            let Some(above) = place.above(node) else {
+            let Some(parent) = shape.parent(&below, &mut children) else {
                 break;
             };
-            let children = |last: usize| (place.moved(last), place.starts[last]);
-            changed = self.renew(tree, sets, place.moved(above), above, children);
+            for child in &mut children {
+                *child = moved(*child);
+            }
+            changed = self.renew(moved(parent.node), &children);
             recomputed += 1;
-            node = above;
+            below = parent;
         }
         recomputed
     }
 
-    /// Works out one node; answers whether its words changed. `own` is its number where it was counted first, and
-    /// `child` says of a child with such a number where it stands and where its subtree begins.
-    fn renew(
-        &mut self,
-        tree: &[u32],
-        sets: &mut [u32],
-        node: usize,
-        own: usize,
-        child: impl Fn(usize) -> (usize, u16),
-    ) -> bool {
-        let symbol = symbol(tree[node]);
-        let arity = self.alphabet.arity(symbol);
-        let mut children: [&[u32]; ARITY_LIMIT] = [&[]; ARITY_LIMIT];
-        let mut end = own;
-        for place in children[..arity].iter_mut().rev() {
-            let (stands, start) = child(end - 1);
-            *place = &sets[stands * self.width..][..self.width];
-            end = start.into();
+    /// Works out one node over these children; answers whether its words changed.
+    fn renew(&mut self, node: usize, children: &[usize]) -> bool {
+        let width = self.moves.width;
+        let mut below: [&[u32]; ARITY_LIMIT] = [&[]; ARITY_LIMIT];
+        for (set, child) in below.iter_mut().zip(children) {
+            *set = &self.sets[child * width..][..width];
         }
-        self.moves
-            .step(symbol, &children[..arity], &mut self.fresh, &mut self.front);
-        let stored = &mut sets[node * self.width..][..self.width];
+        let symbol = symbol(self.tree[node]);
+        let below = &below[..children.len()];
+        self.moves.step(symbol, below, &mut self.fresh, &mut self.front);
+        let stored = &mut self.sets[node * width..][..width];
         let changed = *stored != *self.fresh;
         stored.copy_from_slice(&self.fresh);
         changed

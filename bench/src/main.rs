@@ -23,7 +23,7 @@ use std::time::Duration;
 
 fn main() -> ExitCode {
     let milliseconds = match std::env::args().nth(1).map(|text| text.parse()) {
-        None => 40,
+        None => 5,
         Some(Ok(milliseconds)) => milliseconds,
         Some(Err(_)) => {
             eprintln!("usage: bench [MILLISECONDS]");
@@ -36,7 +36,7 @@ fn main() -> ExitCode {
     }
     let measure = Measure {
         batch: Duration::from_millis(milliseconds),
-        batches: 5,
+        batches: 40,
     };
     let workloads = workloads::all();
     if !equal::all(&workloads) {

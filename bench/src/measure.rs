@@ -1,4 +1,5 @@
-//! Time for one call: the best of several batches, each long enough for the clock.
+//! Time for one call: the best of many short batches, each long enough for the clock, so that some of them are not
+//! interrupted.
 
 use peer::call::Call;
 use peer::library;

@@ -1,5 +1,5 @@
-//! The alphabet and the trees over it, checked: one pass over a tree's words leaves the first word of every node's
-//! subtree, from which its size and its children follow.
+//! The alphabet and the trees over it, checked: one pass over a tree's words leaves one number a word, from which the
+//! subtree, the parent and the children of a node are found.
 
 use peer::words::{ARITY_LIMIT, CONSTANT_LIMIT, SYMBOL_LIMIT};
 
@@ -58,30 +58,71 @@ pub enum Fault {
     Shape,
 }
 
-/// The first word of the subtree of every node. A tree has at most 4,096 words.
-pub fn starts(alphabet: &Alphabet, tree: &[u32]) -> Result<Vec<u16>, Fault> {
-    let mut starts = vec![0; tree.len()];
-    // The starts of the trees that no node has taken yet; the node's own place is put behind them, and a leaf keeps it.
-    let mut open = vec![0; tree.len()];
-    let mut height = 0;
-    for (place, word) in tree.iter().enumerate() {
-        let symbol = symbol(*word);
-        if !alphabet.has(symbol) {
-            return Err(Fault::Word);
+/// After each word of a tree, the number of trees that no node has taken yet. A node's own tree is the last of them, so
+/// its subtree goes back as far as the numbers are not below its own, and the next node with no more takes it.
+pub struct Shape {
+    open: Vec<u16>,
+}
+
+/// A node, and the first word of its subtree.
+pub struct Subtree {
+    pub node: usize,
+    pub start: usize,
+}
+
+impl Shape {
+    /// Checks a tree of at most 4,096 words.
+    pub fn check(alphabet: &Alphabet, tree: &[u32]) -> Result<Shape, Fault> {
+        let mut open = vec![0; tree.len()];
+        let mut last = 0;
+        for (place, (word, own)) in tree.iter().zip(&mut open).enumerate() {
+            let symbol = symbol(*word);
+            if !alphabet.has(symbol) {
+                return Err(Fault::Word);
+            }
+            let arity = alphabet.arity(symbol);
+            if arity > last {
+                return Err(shape_or_word(alphabet, &tree[place..]));
+            }
+            last = last - arity + 1;
+            *own = last as u16;
         }
-        let arity = alphabet.arity(symbol);
-        if arity > height {
-            return Err(shape_or_word(alphabet, &tree[place..]));
+        if last == 1 {
+            Ok(Shape { open })
+        } else {
+            Err(Fault::Shape)
         }
-        open[height] = place as u16;
-        height -= arity;
-        starts[place] = open[height];
-        height += 1;
     }
-    if height == 1 {
-        Ok(starts)
-    } else {
-        Err(Fault::Shape)
+
+    pub fn subtree(&self, node: usize) -> Subtree {
+        let own = self.open[node];
+        let before = self.open[..node].iter().rposition(|open| *open < own);
+        Subtree {
+            node,
+            start: before.map_or(0, |last| last + 1),
+        }
+    }
+
+    /// The subtree of the parent, whose children are left from left to right; None for the root. No word of the subtree
+    /// below is looked at again.
+    pub fn parent(&self, below: &Subtree, children: &mut Vec<usize>) -> Option<Subtree> {
+        let own = self.open[below.node];
+        let further = self.open[below.node + 1..].iter().position(|open| *open <= own)?;
+        let node = below.node + 1 + further;
+        children.clear();
+        let mut child = node - 1;
+        while child != below.node {
+            children.push(child);
+            child = self.subtree(child).start - 1;
+        }
+        children.push(child);
+        let mut start = below.start;
+        for _ in self.open[node]..own {
+            children.push(start - 1);
+            start = self.subtree(start - 1).start;
+        }
+        children.reverse();
+        Some(Subtree { node, start })
     }
 }
 
