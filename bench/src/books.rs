@@ -86,10 +86,12 @@ pub fn random(_: &[u32], nodes: usize) -> Vec<usize> {
         let runs = random.between(16, 64);
         let mut paragraph = vec![];
         for _ in 0..runs {
-            paragraph.push(TEXT);
-            if random.once_in(2) {
-                paragraph.push(EMPHASIS);
-            }
+            let run: &[usize] = if random.once_in(2) {
+                &[TEXT, EMPHASIS]
+            } else {
+                &[TEXT]
+            };
+            paragraph.extend_from_slice(run);
         }
         paragraph.push(END);
         paragraph.extend(vec![LIST; runs]);

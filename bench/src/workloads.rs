@@ -84,7 +84,7 @@ fn random_tree(alphabet: &[u32], nodes: usize) -> Vec<usize> {
     generate::tree(&mut Random::new(6), alphabet, nodes)
 }
 
-/// One g above the other, a d at the foot: as high as a chapter may be, and an eighth of that.
+/// One g above the other over a d: as high as a chapter may be, and an eighth of that.
 fn comb(_: &[u32], nodes: usize) -> Vec<usize> {
     postfix::chain(examples::D, examples::G, nodes * HEIGHT_LIMIT / NODE_LIMIT)
 }
