@@ -1,9 +1,13 @@
-//! Exchange against a fresh Run: a leaf for another leaf and back, at places spread over the chapter, and a subtree of
-//! about 100 elements for another and back. After each pair the chapter and its marks are as before.
+//! Exchange beside the incremental one and a fresh Run: a leaf for another leaf and back, at places spread over the
+//! chapter, and a subtree of about 100 elements for another and back. After each pair the chapter and its marks are as
+//! before.
 
+use crate::equal::accepted;
+use crate::incremental;
 use crate::measure::Measure;
+use crate::runs::library_run;
+use crate::targets::Target;
 use crate::workloads::Workload;
-use crate::{compare_accepted, library_run};
 use peer::call::Call;
 use peer::chance::Random;
 use peer::compare::Comparison;
@@ -77,7 +81,7 @@ pub fn compare(comparison: &mut Comparison, work: &Workload) {
         for (node, replacement) in [pair.there, pair.back] {
             call.node = node;
             call.replacement = replacement;
-            let answer = compare_accepted(comparison, work, &call);
+            let answer = accepted(comparison, work, &call);
             call = answer.after;
             call.count = answer.values[0] as usize;
         }
@@ -88,62 +92,101 @@ pub fn compare(comparison: &mut Comparison, work: &Workload) {
     }
 }
 
-/// What one exchange takes, over both exchanges of every pair: seconds, and elements worked out.
+/// An Exchange on the call's own slices; answers the new element count and the number worked out.
+type Exchange = fn(&mut Call) -> [u32; 2];
+
+fn by_library(call: &mut Call) -> [u32; 2] {
+    let mut values = [0; 2];
+    library::perform(call, &mut values);
+    values
+}
+
+fn by_peer(call: &mut Call) -> [u32; 2] {
+    incremental::perform(call).expect("an accepted call")
+}
+
+/// Seconds of one exchange, on average over both exchanges of every pair.
+fn seconds(measure: &Measure, work: &Workload, pairs: &[Pair], exchange_by: Exchange) -> f64 {
+    let mut call = exchange(work);
+    let all = measure.seconds(|| recomputed(&mut call, pairs, exchange_by));
+    all / (2 * pairs.len()) as f64
+}
+
+/// Makes both exchanges of every pair; answers how many elements were worked out in all.
+fn recomputed(call: &mut Call, pairs: &[Pair], exchange_by: Exchange) -> u32 {
+    let mut sum = 0;
+    for (node, replacement) in pairs.iter().flat_map(|pair| [&pair.there, &pair.back]) {
+        call.node = *node;
+        call.replacement.clear();
+        call.replacement.extend_from_slice(replacement);
+        let [count, recomputed] = exchange_by(call);
+        call.count = count as usize;
+        sum += recomputed;
+    }
+    sum
+}
+
+/// What one exchange takes on average: seconds, and elements worked out.
 struct Cost {
-    seconds: f64,
+    library: f64,
+    peer: f64,
     recomputed: f64,
 }
 
-fn cost(measure: &Measure, work: &Workload, pairs: &[Pair]) -> Cost {
-    let mut call = exchange(work);
-    let mut recomputed = 0;
-    let seconds = measure.seconds(|| {
-        recomputed = 0;
-        for (node, replacement) in pairs.iter().flat_map(|pair| [&pair.there, &pair.back]) {
-            recomputed += perform(&mut call, *node, replacement);
+impl Cost {
+    fn measured(measure: &Measure, work: &Workload, pairs: &[Pair]) -> Cost {
+        let all = recomputed(&mut exchange(work), pairs, by_peer);
+        Cost {
+            library: seconds(measure, work, pairs, by_library),
+            peer: seconds(measure, work, pairs, by_peer),
+            recomputed: f64::from(all) / (2 * pairs.len()) as f64,
         }
-    });
-    let calls = (2 * pairs.len()) as f64;
-    Cost {
-        seconds: seconds / calls,
-        recomputed: f64::from(recomputed) / calls,
+    }
+
+    fn ratio(&self) -> f64 {
+        self.library / self.peer
+    }
+
+    /// The columns of one kind of exchange.
+    fn columns(&self, run: f64) -> String {
+        format!(
+            "{:.1} | {:.1} | {:.2} | {:.3} | {:.1}",
+            self.library * 1e6,
+            self.peer * 1e6,
+            self.ratio(),
+            self.library / run,
+            self.recomputed
+        )
     }
 }
 
-/// One exchange by the library; answers the number worked out.
-fn perform(call: &mut Call, node: usize, replacement: &[u32]) -> u32 {
-    call.node = node;
-    call.replacement.clear();
-    call.replacement.extend_from_slice(replacement);
-    let mut values = [0; 2];
-    library::perform(call, &mut values);
-    let [count, recomputed] = values;
-    call.count = count as usize;
-    recomputed
-}
-
-pub fn print(measure: &Measure, workloads: &[Workload]) {
+/// Prints the table, and answers what it is held to.
+pub fn print(measure: &Measure, workloads: &[Workload]) -> [Target; 3] {
+    println!("Exchange: microseconds a call of the library and of the incremental peer, and how many times as long the");
     println!(
-        "Exchange: microseconds a call, as a part of a fresh Run, and the elements worked out on average.\n"
+        "library takes; the library's as a part of a fresh Run; and the elements worked out on average.\n"
     );
-    println!(
-        "| workload | fresh Run | one leaf | part | worked out | about 100 elements | part | worked out |"
-    );
-    println!("|---|---|---|---|---|---|---|---|");
+    println!("| workload | fresh Run | one leaf | peer | ratio | part | worked out | about 100 elements | peer | ratio | part | worked out |");
+    println!("|---|---|---|---|---|---|---|---|---|---|---|---|");
+    let mut one = Target::new("Exchange of one leaf to incremental", 2.0);
+    let mut hundred = Target::new("Exchange of about 100 elements to incremental", 2.0);
+    let mut whole = Target::new("Exchange to a fresh Run, where a leaf changes every element", 1.5);
     for work in workloads {
         let run = library_run(measure, work, &work.tree);
-        let leaf = cost(measure, work, &leaves(work));
-        let subtree = cost(measure, work, &subtree(work));
+        let leaf = Cost::measured(measure, work, &leaves(work));
+        let subtree = Cost::measured(measure, work, &subtree(work));
         println!(
-            "| {} | {:.1} | {:.1} | {:.3} | {:.1} | {:.1} | {:.3} | {:.1} |",
+            "| {} | {:.1} | {} | {} |",
             work.name,
             run * 1e6,
-            leaf.seconds * 1e6,
-            leaf.seconds / run,
-            leaf.recomputed,
-            subtree.seconds * 1e6,
-            subtree.seconds / run,
-            subtree.recomputed,
+            leaf.columns(run),
+            subtree.columns(run)
         );
+        one.meet(leaf.ratio(), work.name);
+        hundred.meet(subtree.ratio(), work.name);
+        if leaf.recomputed == work.tree.len() as f64 {
+            whole.meet(leaf.library.max(subtree.library) / run, work.name);
+        }
     }
+    [one, hundred, whole]
 }

@@ -1,5 +1,8 @@
-//! Time for one call: the best of several batches, each long enough for the clock.
+//! Time for one call: the best of many short batches, each long enough for the clock, so that some of them are not
+//! interrupted.
 
+use peer::call::Call;
+use peer::library;
 use std::hint::black_box;
 use std::time::{Duration, Instant};
 
@@ -37,4 +40,10 @@ impl Measure {
             calls *= 2;
         }
     }
+}
+
+/// Seconds of one call of the library.
+pub fn library_call(measure: &Measure, mut call: Call) -> f64 {
+    let mut values = [0; 2];
+    measure.seconds(|| library::perform(&mut call, &mut values))
 }

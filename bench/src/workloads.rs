@@ -1,11 +1,15 @@
 //! The inputs that are timed: a rule and a chapter each, made from a fixed seed.
 
+use crate::books;
 use peer::automaton;
 use peer::cases::{examples, largest};
 use peer::chance::Random;
 use peer::generate;
 use peer::postfix;
 use peer::words::{self, entry_word, Operator, NODE_LIMIT};
+
+/// Document 02 refuses chapters that are higher.
+const HEIGHT_LIMIT: usize = 512;
 
 pub struct Workload {
     pub name: &'static str,
@@ -24,13 +28,19 @@ impl Workload {
         tree: impl Fn(&[u32], usize) -> Vec<usize>,
     ) -> Workload {
         let table = automaton::table(&alphabet, &expression).expect("an expression");
+        let [tree, eighth] = [NODE_LIMIT, NODE_LIMIT / 8].map(|nodes| {
+            let tree = tree(&alphabet, nodes);
+            let height = height(&alphabet, &tree);
+            assert!(height <= HEIGHT_LIMIT, "{name}: the chapter is {height} high");
+            words::node_words(&tree)
+        });
         Workload {
             name,
-            tree: words::node_words(&tree(&alphabet, NODE_LIMIT)),
-            eighth: words::node_words(&tree(&alphabet, NODE_LIMIT / 8)),
             alphabet,
             expression,
             table,
+            tree,
+            eighth,
         }
     }
 
@@ -44,6 +54,16 @@ impl Workload {
     }
 }
 
+/// How many nodes stand one above the other; a leaf has height 1.
+fn height(alphabet: &[u32], tree: &[usize]) -> usize {
+    let mut heights: Vec<usize> = Vec::with_capacity(tree.len());
+    for children in postfix::tree_children(tree, &words::arities(alphabet)) {
+        let below = children.iter().map(|child| heights[*child]).max();
+        heights.push(1 + below.unwrap_or(0));
+    }
+    *heights.last().expect("a root")
+}
+
 pub fn all() -> Vec<Workload> {
     let source = || (examples::alphabet(), examples::expression());
     vec![
@@ -51,7 +71,12 @@ pub fn all() -> Vec<Workload> {
         Workload::new("1,024 states, random", full(), random_tree),
         Workload::new("1,147 words, random", largest::largest(), random_tree),
         Workload::new("source's rule, comb", source(), comb),
-        Workload::new("book, repetitive", book(), book_tree),
+        Workload::new(
+            "book, repetitive",
+            books::emphasis_before_text(),
+            books::repetitive,
+        ),
+        Workload::new("book, many sets", books::emphasis_at_sixteen(), books::random),
     ]
 }
 
@@ -59,9 +84,9 @@ fn random_tree(alphabet: &[u32], nodes: usize) -> Vec<usize> {
     generate::tree(&mut Random::new(6), alphabet, nodes)
 }
 
-/// One g above the other, a d at the foot.
+/// One g above the other over a d: as high as a chapter may be, and an eighth of that.
 fn comb(_: &[u32], nodes: usize) -> Vec<usize> {
-    postfix::chain(examples::D, examples::G, nodes)
+    postfix::chain(examples::D, examples::G, nodes * HEIGHT_LIMIT / NODE_LIMIT)
 }
 
 /// 60 words with entries and 4 constants over 16 constants, with every operator among them.
@@ -78,65 +103,4 @@ fn full() -> (Vec<u32>, Vec<u32>) {
         });
     }
     (alphabet, words::operator_words(&operators))
-}
-
-// A book: sections with a title and a list of paragraphs, a paragraph being a list of runs.
-const TEXT: usize = 0;
-const TITLE: usize = 1;
-const END: usize = 2;
-const LIST: usize = 3;
-const SECTION: usize = 4;
-const PARAGRAPH: usize = 5;
-const EMPHASIS: usize = 6;
-
-/// Paragraphs in which an emphasis is followed by text alone.
-fn book() -> (Vec<u32>, Vec<u32>) {
-    let alphabet = [0, 0, 0, 2, 2, 1, 1].map(entry_word).to_vec();
-    use Operator::{Closure, Product, Symbol};
-    let operators = [
-        Symbol(TEXT),
-        Symbol(END),
-        Symbol(LIST),
-        Closure(END),
-        Symbol(TEXT),
-        Symbol(EMPHASIS),
-        Symbol(TEXT),
-        Symbol(END),
-        Symbol(LIST),
-        Closure(END),
-        Symbol(LIST),
-        Product(END),
-        Symbol(PARAGRAPH),
-    ];
-    (alphabet, words::operator_words(&operators))
-}
-
-fn book_tree(_: &[u32], nodes: usize) -> Vec<usize> {
-    let plain = [TEXT, TEXT, TEXT, END, LIST, LIST, LIST, PARAGRAPH];
-    let emphatic = [TEXT, TEXT, EMPHASIS, TEXT, END, LIST, LIST, LIST, PARAGRAPH];
-    let mut book = vec![];
-    let mut sections = 0;
-    // Sections stand in the book's list, so each takes two elements more than its parts.
-    loop {
-        let mut section = vec![TITLE];
-        let paragraphs = 3 + sections % 4;
-        for paragraph in 0..paragraphs {
-            section.extend_from_slice(if (paragraph + sections) % 3 == 0 {
-                &emphatic
-            } else {
-                &plain
-            });
-        }
-        section.push(END);
-        section.extend(vec![LIST; paragraphs]);
-        section.push(SECTION);
-        if book.len() + section.len() + 1 + sections + 1 > nodes {
-            break;
-        }
-        book.extend(section);
-        sections += 1;
-    }
-    book.push(END);
-    book.extend(vec![LIST; sections]);
-    book
 }

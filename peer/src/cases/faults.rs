@@ -210,6 +210,7 @@ fn exchange_faults() -> Vec<Fault> {
         (10, |call| put(&mut call.tree, 0, node_word(200))),
         (10, |call| set_bit(&mut call.tree, 0, 8)),
         (10, |call| put(&mut call.tree, 0, Operator::Symbol(A).word())),
+        (10, |call| put(&mut call.tree, 3, node_word(200))),
         (11, |call| put(&mut call.tree, 0, node_word(G))),
         (11, |call| put(&mut call.tree, 6, node_word(H))),
         (12, |call| call.sets.truncate(6)),
