@@ -13,6 +13,7 @@ use Rattle.words.specs.Chapter.{isNode}
 use Rattle.words.specs.Postfix.{startOf, splice}
 use Rattle.words.proofs.TestLaws.{all-left, all-right, all-append}
 use Rattle.words.proofs.AlphabetLaws.{alphabet-most}
+use Rattle.words.proofs.AcceptedAlphabet.{alphabet-accepted}
 use Rattle.words.proofs.PostfixLaws.{start-le, splice-tree}
 use Rattle.automaton.specs.Table.{isTable}
 use Rattle.automaton.proofs.TableLaws.{isTable-sizes}
@@ -21,8 +22,8 @@ use Rattle.operations.specs.Exchange.{fault}
 use Rattle.operations.proofs.AcceptedLaws.{ExchangeAccepted, exchange-accepted}
 use Rattle.slices.proofs.StoredLaws.{words-few}
 use Rattle.refusals.proofs.ExchangeLaws.{result-length}
-use Rattle.matcher.specs.Nodes.{Workable}
-use Rattle.matcher.proofs.CallLaws.{table-right}
+use Rattle.nodes.specs.Nodes.{Workable}
+use Rattle.refusals.proofs.SharedLaws.{table-right}
 use Rattle.exchanger.specs.Tail.{TailFits}
 
 split-words : (i k size : ℕ) → (i + 1 + k) * size ≡ i * size + size + k * size
@@ -123,15 +124,17 @@ module _ (a table chapter marks : List ℕ) (n e : ℕ) (xs : List ℕ) (ok : fa
       all-append (isNode a) (take p used) (xs ++ drop (e + 1) used) (all-left (isNode a) (take p used) (drop p used) (ends p))
       (all-append (isNode a) xs (drop (e + 1) used) (g .replacement .nodes) (all-right (isNode a) (take (e + 1) used) (drop (e + 1) used) (ends (e + 1))))
 
-  pub result-workable : (marks′ : List ℕ) → length marks′ ≡ length marks → Workable a table (splice a (take n chapter) e xs) (length marks′) 4096
+  pub result-workable : (marks′ : List ℕ) → length marks′ ≡ length marks → Workable a table (splice a (take n chapter) e xs) (length marks′)
   result-workable marks′ l =
       let g = accepted-call in
       record {
         alphabet = alphabet-most a (g .alphabet);
+        ranks = alphabet-accepted a (rw (g .alphabet, g .constants)) .ranks;
         checked = table-checked;
-        nodes = result-nodes;
-        tree = splice-tree a used e (g .tree) (rw length-used (g .element)) xs (g .replacement .tree);
-        few = g .fits .few;
+        tree = record {
+          nodes = result-nodes;
+          tree = splice-tree a used e (g .tree) (rw length-used (g .element)) xs (g .replacement .tree);
+          few = g .fits .few;
+        };
         marks-room = rw l (g .fits .marks);
-        stack-room = g .fits .few;
       }

@@ -1,39 +1,40 @@
 -- Laws of the loop over the replacement's root and the nodes behind it: one node, and the loop's invariant. Assumes nothing.
-use mathlib.Core.Path.{_≡_, ap, ap₂, _∙_, sym, subst}
+use mathlib.Core.Path.{_≡_, refl, ap, ap₂, _∙_, sym, subst}
 use mathlib.Core.Bool.{Bool, true, false, not, cond}
-use mathlib.Core.List.{List, _++_, append-assoc}
+use mathlib.Core.List.{List, _++_}
 use Prim.Native.Nat.{ℕ, suc, _+_, _-_, _*_, _<_, _≤_}
 use native.Mathlib.Omega.{arith}
-use lib.ListN.{length, getD, take, drop, replicate, take-append-drop}
-use lib.Seq.{paste, take-take, drop-drop}
+use lib.ListN.{length, getD, set, take, drop, length-drop}
+use lib.Seq.{paste, take-take, take-at, length-take-le}
 use lib.Dec.{ltb}
 use borrow.Author.Tests.{lt-ltb, le-ltb}
+use Rattle.words.specs.Alphabet.{rankOf}
+use Rattle.words.specs.Chapter.{symbolOf}
 use Rattle.words.specs.Postfix.{arity}
 use Rattle.automaton.specs.StateSet.{StateSet}
 use Rattle.operations.specs.Marks.{sizeOf, storedSet, sameWords}
 use Rattle.operations.proofs.MarksLaws.{same-words}
-use Rattle.slices.proofs.StoredLaws.{row-inside, words-few}
-use Rattle.matcher.specs.Nodes.{setFrom, markedAt, AtNode}
-use Rattle.matcher.proofs.ReadyLaws.{size-few}
-use Rattle.matcher.proofs.WriteLaws.{set-front, set-written}
+use Rattle.slices.proofs.CopyLaws.{paste-same}
+use Rattle.slices.proofs.StoredLaws.{row-inside, words-few, stored-written}
+use Rattle.memo.proofs.MemoLaws.{remembered-later}
+use Rattle.nodes.specs.Nodes.{setFrom, markedAt, Pushable}
+use Rattle.nodes.specs.Marking.{AtNode, Prepared}
+use Rattle.nodes.proofs.WorkableLaws.{size-few, node-arity}
+use Rattle.nodes.proofs.StackLaws.{stack-pushable, represented-more}
+use Rattle.nodes.proofs.MarkLaws.{length-setFrom}
 use Rattle.exchanger.specs.declared.climb.Rise.{Rise}
 use Rattle.exchanger.specs.Climbing.{recomputeAt, climbStep, climbFrom}
 
 -- ---- one node is recomputed
 
--- writing the words that stand there changes nothing
-paste-same : (l : List ℕ) (at n : ℕ) → paste l at (take n (drop at l)) n ≡ l
-paste-same l at n =
-    ap₂ (λ (u v : List ℕ). take at l ++ u ++ v) (take-take n n (drop at l) (omega arith)) (sym (drop-drop n at l))
-    ∙ append-assoc (take at l) (take n (drop at l)) (drop n (drop at l))
-    ∙ ap (λ (u : List ℕ). take at l ++ u) (take-append-drop n (drop at l)) ∙ take-append-drop at l
-
 module _ (a table ch : List ℕ) (i : ℕ) (marks : List ℕ) where
   marked-same : sameWords (setFrom a table ch marks i) (storedSet (sizeOf table) marks i) ≡ true → markedAt a table ch i marks ≡ marks
   unfolding markedAt storedSet
   marked-same h =
-      ap (λ (r : StateSet). paste marks (i * sizeOf table) r (sizeOf table)) (same-words (setFrom a table ch marks i) (storedSet (sizeOf table) marks i) h)
-      ∙ paste-same marks (i * sizeOf table) (sizeOf table)
+      let at = i * sizeOf table in
+      ap (λ (r : StateSet). paste marks at r (sizeOf table)) (same-words (setFrom a table ch marks i) (storedSet (sizeOf table) marks i) h)
+      ∙ ap (λ (u : List ℕ). (take at marks ++ u) ++ drop (at + sizeOf table) marks) (take-take (sizeOf table) (sizeOf table) (drop at marks) (omega arith))
+      ∙ sym (paste-same marks at at (sizeOf table) refl)
 
   pub recomputed-is : (b : Bool) → sameWords (setFrom a table ch marks i) (storedSet (sizeOf table) marks i) ≡ b
       → (markedAt a table ch i marks, not b) ≡ recomputeAt a table ch i marks
@@ -45,29 +46,81 @@ module _ (a table ch : List ℕ) (i : ℕ) (marks : List ℕ) where
   recomputed-same h = ap (λ (m : List ℕ). (m, false)) (sym (marked-same h)) ∙ recomputed-is true h
 
 -- the node's words lie inside the marks, and their places are small numbers
-module _ {a table index ch : List ℕ} {i : ℕ} {marks array : List ℕ} {height : ℕ} (g : AtNode a table index ch i marks array height)
-    (size : ℕ) (s : size ≡ sizeOf table) where
+module _ {a table index ch : List ℕ} {i : ℕ} {marks array : List ℕ} {height : ℕ} {keys known places owners rows pending : List ℕ}
+    (g : AtNode a table index ch i marks array height keys known places owners rows pending) (size : ℕ) (s : size ≡ sizeOf table) where
   pub row-room : i * size + size ≤ length marks
   row-room = rw s (row-inside i (length ch) (sizeOf table) (length marks) (g .inside) (g .workable .marks-room))
 
   pub row-small : i * size + size ≤ 131072
-  row-small = row-inside i (length ch) size 131072 (g .inside) (words-few (length ch) size (g .workable .few) (rw s (size-few (g .workable))))
+  row-small = row-inside i (length ch) size 131072 (g .inside) (words-few (length ch) size (g .workable .tree .few) (rw s (size-few (g .workable))))
 
--- the first words of the set that is worked out are compared with the node's words in the marks, and written there
-pub node-recomputed : {a table index ch : List ℕ} {i : ℕ} {marks array : List ℕ} {height : ℕ} → AtNode a table index ch i marks array height
-    → (set : StateSet) → set ≡ setFrom a table ch marks i ++ replicate (32 - sizeOf table) 0 → (size : ℕ) → size ≡ sizeOf table
-    → (b : Bool) → b ≡ sameWords (take size set) (take (i * size + size - i * size) (drop (i * size) marks))
-    → (marks′ : List ℕ) → marks′ ≡ paste marks (i * size) (take size set) (length (take size set))
-    → (marks′, not b) ≡ recomputeAt a table ch i marks
-unfolding recomputeAt storedSet
-node-recomputed {a} {table} {index} {ch} {i} {marks} g set e size s b q marks′ p =
-    let n : i * size + size - i * size ≡ size = omega arith in
-    ap₂ (λ (m : List ℕ) (x : Bool). (m, not x)) (set-written g set e size s marks′ p)
-    (q
-    ∙ ap₂ (λ (l : StateSet) (k : ℕ). sameWords l (take k (drop (i * size) marks))) (set-front g set e size s) n
-    ∙ ap (λ (k : ℕ). sameWords (setFrom a table ch marks i) (take k (drop (i * k) marks))) s)
+  pub row-few : size ≤ 32
+  row-few = rw s (size-few (g .workable))
+
+  stored-new : (marks′ : List ℕ) → i * size + size - i * size ≡ size
+      → take (i * size + size - i * size) (drop (i * size) marks′) ≡ storedSet (sizeOf table) marks′ i
+  unfolding storedSet
+  stored-new marks′ n = ap (λ (k : ℕ). take k (drop (i * size) marks′)) n ∙ ap (λ (k : ℕ). take k (drop (i * k) marks′)) s
+
+  pub row-part : length (take (i * size + size - i * size) (drop (i * size) marks)) ≤ 32
+  row-part =
+      let n : i * size + size - i * size ≡ size = omega arith in
+      let l = row-room in
+      rw (n, length-take-le size (drop (i * size) marks) (omega (arith, length-drop (i * size) marks))) row-few
+
+  -- the words that are kept beside are the node's as they stood
+  module _ (before rest : List ℕ) (e : before ≡ take (i * size + size - i * size) (drop (i * size) marks) ++ rest) where
+    row : take (i * size + size - i * size) (drop (i * size) marks) ≡ storedSet (sizeOf table) marks i
+    unfolding storedSet
+    row = let n : i * size + size - i * size ≡ size = omega arith in stored-new marks n
+
+    row-length : length (storedSet (sizeOf table) marks i) ≡ size
+    unfolding storedSet
+    row-length =
+        let l = row-room in
+        rw (← s) (length-take-le size (drop (i * size) marks) (omega (arith, length-drop (i * size) marks)))
+
+    before-is : take size before ≡ storedSet (sizeOf table) marks i
+    before-is = ap (take size) (e ∙ ap (λ (l : List ℕ). l ++ rest) row) ∙ take-at (storedSet (sizeOf table) marks i) rest size row-length
+
+    pub before-length : size ≡ length (take size before)
+    before-length = sym (ap length before-is ∙ row-length)
+
+    -- the node's words in the marks are compared with them
+    pub node-recomputed : (marks′ : List ℕ) → marks′ ≡ markedAt a table ch i marks
+        → (b : Bool) → b ≡ sameWords (take (i * size + size - i * size) (drop (i * size) marks′)) (take size before)
+        → (marks′, not b) ≡ recomputeAt a table ch i marks
+    unfolding recomputeAt markedAt
+    node-recomputed marks′ m b q =
+        let n : i * size + size - i * size ≡ size = omega arith in
+        let new : take (i * size + size - i * size) (drop (i * size) marks′) ≡ setFrom a table ch marks i
+        = written marks′ m n in
+        ap₂ (λ (l : List ℕ) (x : Bool). (l, not x)) m (q ∙ ap₂ sameWords new before-is)
+      where
+        written : (marks′ : List ℕ) → marks′ ≡ paste marks (i * sizeOf table) (setFrom a table ch marks i) (sizeOf table)
+            → i * size + size - i * size ≡ size → take (i * size + size - i * size) (drop (i * size) marks′) ≡ setFrom a table ch marks i
+        written marks′ m n = stored-new marks′ n ∙ ap (λ (l : List ℕ). storedSet (sizeOf table) l i) m
+            ∙ stored-written (sizeOf table) marks i (setFrom a table ch marks i) (length-setFrom a table ch marks i) (rw (← s) row-room)
 
 -- ---- one node is passed
+
+module _ {a table index ch : List ℕ} {i : ℕ} {marks array : List ℕ} {height : ℕ} {keys known places owners rows pending : List ℕ}
+    (g : AtNode a table index ch i marks array height keys known places owners rows pending) where
+  pub node-rank : (k : ℕ) → k ≡ rankOf a (symbolOf (getD ch i 0)) → k ≡ arity a (getD ch i 0)
+  node-rank k e = e ∙ sym (node-arity (g .workable .tree) i (g .inside))
+
+  pub node-pushable : Pushable a ch i array height
+  node-pushable = stack-pushable (g .prepared .represented) (g .workable .tree) (g .inside) (rankOf a (symbolOf (getD ch i 0))) refl
+
+  -- the node is put on the stack, and its words stay
+  pub node-passed : {array′ : List ℕ} {height′ : ℕ} → height′ ≡ height - rankOf a (symbolOf (getD ch i 0)) + 1
+      → array′ ≡ set array (height - rankOf a (symbolOf (getD ch i 0))) i
+      → Prepared a table ch (i + 1) marks array′ height′ keys known places owners rows pending
+  node-passed p q =
+      rw (p, q) (record {
+        represented = represented-more (g .prepared .represented) (g .workable .tree) (g .inside) (rankOf a (symbolOf (getD ch i 0))) refl i (omega arith) marks (λ j l. refl) refl;
+        remembered = remembered-later (g .prepared .remembered);
+      })
 
 module _ (a table ch : List ℕ) (i : ℕ) (marks : List ℕ) (t : Rise) where
   abbrev beside : ℕ → List ℕ × Rise

@@ -23,8 +23,8 @@ use Rattle.operations.proofs.RuleLaws.{follows-length, follows-outcomes}
 use Rattle.operations.proofs.LoopLaws.{setAt, upwards}
 use Rattle.operations.proofs.LoopLaws as loops
 use Rattle.operations.proofs.ExchangeLoops.{movedSets, replacedSets, exchangedSets, exchangedSets-outcomes, length-movedSets, length-replacedSets, words-behind}
-use Rattle.matcher.specs.Nodes.{setFrom, markedFrom}
-use Rattle.matcher.proofs.MarkLaws.{Holding, holding-set, setFrom-rows, markedAt-rows}
+use Rattle.nodes.specs.Nodes.{setFrom, markedFrom}
+use Rattle.nodes.proofs.MarkLaws.{Holding, holding-set, setFrom-rows, markedAt-rows}
 use Rattle.exchanger.specs.declared.climb.Rise.{Rise}
 use Rattle.exchanger.specs.Climbing.{climbStep, climbFrom, foot}
 use Rattle.exchanger.specs.Exchanging.{exchangedFrom}

@@ -18,7 +18,7 @@ use Rattle.operations.proofs.MarksLaws.{Sized}
 use Rattle.operations.proofs.ExchangeLoops.{movedSets}
 use Rattle.slices.proofs.RefitLaws.{take-drop}
 use Rattle.slices.proofs.RowLaws.{sized-stored, flatten-stored}
-use Rattle.matcher.proofs.MarkLaws.{Holding}
+use Rattle.nodes.proofs.MarkLaws.{Holding}
 use Rattle.exchanger.proofs.TailLaws.{length-kept}
 use Rattle.exchanger.proofs.CallLaws.{Numbers, numbers, marks-fits, length-used}
 

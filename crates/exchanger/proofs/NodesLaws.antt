@@ -1,55 +1,55 @@
 -- Laws of the steps that recompute nodes behind an exchange: what each step asks, shown of what the first one asks, and what
 -- they give together. Assumes nothing.
 use mathlib.Core.Path.{_≡_, refl, ap, _∙_}
-use mathlib.Core.List.{List}
+use mathlib.Core.List.{List, reverse}
 use Prim.Native.Nat.{ℕ, _-_, _≤_}
 use native.Mathlib.Omega.{arith}
-use lib.ListN.{length}
-use Rattle.step.specs.Index.{indexOf}
-use Rattle.matcher.specs.Nodes.{rootsOf, Stacked, Rootable, markedFrom, Workable, AtNodes}
-use Rattle.matcher.proofs.ReadyLaws.{table-few}
+use lib.ListN.{length, replicate, length-replicate}
+use Rattle.step.specs.Index.{indexOf, Indexable}
+use Rattle.nodes.specs.Nodes.{rootsOf, Held, Stackable, markedFrom}
+use Rattle.nodes.specs.Marking.{Prepared, AtNodes}
+use Rattle.nodes.proofs.WorkableLaws.{table-few, workable-long}
+use Rattle.nodes.proofs.NodesLaws.{nothing-prepared}
 use Rattle.exchanger.specs.Climbing.{climbFrom, foot, ClimbStart}
 use Rattle.exchanger.specs.Exchanging.{exchangedFrom, Exchangeable}
 
--- the same for slices of the same lengths
-workable-long : (a table ch : List ℕ) (m n m′ n′ : ℕ) → m′ ≡ m → n′ ≡ n → Workable a table ch m n → Workable a table ch m′ n′
-workable-long a table ch m n m′ n′ p q w = rw (p, q) w
-
 module _ {a table ch : List ℕ} {start root : ℕ} {marks : List ℕ} (g : Exchangeable a table ch start root marks) where
-  pub nodes-roots : (array : List ℕ) → length array ≡ 4096 → Rootable a ch start array
-  nodes-roots array l =
+  pub nodes-index : Indexable table (replicate 3328 0)
+  nodes-index = record { few = table-few (g .workable); zeros = refl }
+
+  pub nodes-stack : Stackable a ch start (replicate 4100 0)
+  nodes-stack =
       let order = g .order in
       let inside = g .inside in
-      let few = g .workable .few in
-      record { tree = g .workable .tree; within = omega arith; few = few; room = omega arith }
+      record { tree = g .workable .tree; within = omega arith; long = length-replicate {A = ℕ} 4100 0; zeros = refl }
 
-  pub nodes-table-few : length table ≤ 2048
-  nodes-table-few = table-few (g .workable)
-
-  pub nodes-marks : (index : List ℕ) → index ≡ indexOf table → (array : List ℕ) (height : ℕ) → length array ≡ 4096 → Stacked array height (rootsOf a ch start)
-      → AtNodes a table index ch start root marks array height
-  nodes-marks index q array height l s =
+  pub nodes-marks : {index : List ℕ} → index ≡ indexOf table → {array : List ℕ} {height : ℕ} → length array ≡ length (replicate {A = ℕ} 4100 0)
+      → Held array height (reverse (rootsOf a ch start))
+      → AtNodes a table index ch start root marks array height (replicate 1024 0) (replicate 1024 0) (replicate 1021 0) (replicate 64 0) (replicate 2048 0) (replicate 1024 0)
+  nodes-marks q l s =
+      let order = g .order in
       let inside = g .inside in
       record {
-        workable = workable-long a table ch (length marks) 4096 (length marks) (length array) refl l (g .workable);
+        workable = g .workable;
         indexed = q;
-        order = g .order;
+        order = order;
         inside = omega arith;
-        stacked = s;
+        prepared = nothing-prepared (l ∙ length-replicate {A = ℕ} 4100 0) (omega arith) s;
       }
 
-  pub nodes-climb : (index : List ℕ) → index ≡ indexOf table → (marks′ array : List ℕ) (height : ℕ) → length marks′ ≡ length marks → length array ≡ 4096
-      → Stacked array height (rootsOf a ch root) → ClimbStart a table index ch root marks′ array height (root - start)
-  nodes-climb index q marks′ array height m l s =
+  pub nodes-climb : {index : List ℕ} → index ≡ indexOf table → {marks′ array : List ℕ} {height : ℕ} {keys known places owners rows pending : List ℕ}
+      → length marks′ ≡ length marks → Prepared a table ch root marks′ array height keys known places owners rows pending
+      → ClimbStart a table index ch root marks′ array height (root - start) keys known places owners rows pending
+  nodes-climb q m p =
       let inside = g .inside in
-      let few = g .workable .few in
+      let few = g .workable .tree .few in
       record {
         nodes = record {
-          workable = workable-long a table ch (length marks) 4096 (length marks′) (length array) m l (g .workable);
+          workable = workable-long m (g .workable);
           indexed = q;
           order = omega arith;
           inside = omega arith;
-          stacked = s;
+          prepared = p;
         };
         few = omega arith;
       }

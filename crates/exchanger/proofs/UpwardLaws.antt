@@ -15,8 +15,8 @@ use Rattle.automaton.specs.StateSet.{StateSet}
 use Rattle.operations.specs.Marks.{sizeOf, storedSet, sameWords}
 use Rattle.operations.proofs.LoopLaws.{setAt, upwards, upwards-beside, upwards-last, upwards-onward}
 use Rattle.operations.proofs.LoopLaws as loops
-use Rattle.matcher.specs.Nodes.{setFrom, markedAt}
-use Rattle.matcher.proofs.MarkLaws.{Holding, holding-set, setFrom-rows, markedAt-rows}
+use Rattle.nodes.specs.Nodes.{setFrom, markedAt}
+use Rattle.nodes.proofs.MarkLaws.{Holding, holding-set, setFrom-rows, markedAt-rows}
 use Rattle.exchanger.specs.declared.climb.Rise.{Rise}
 use Rattle.exchanger.specs.Climbing.{climbFrom}
 use Rattle.exchanger.proofs.ClimbLaws.{recomputed-is, recomputed-same, step-beside, step-ancestor, climb-goes, climb-stops}

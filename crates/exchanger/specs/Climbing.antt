@@ -7,7 +7,8 @@ use lib.ListN.{length, getD}
 use lib.Dec.{ltb}
 use Rattle.words.specs.Postfix.{arity}
 use Rattle.operations.specs.Marks.{sizeOf, storedSet, sameWords}
-use Rattle.matcher.specs.Nodes.{setFrom, markedAt, AtNode, AtNodes}
+use Rattle.nodes.specs.Nodes.{setFrom, markedAt}
+use Rattle.nodes.specs.Marking.{AtNode, AtNodes}
 use Rattle.exchanger.specs.declared.climb.Rise.{Rise}
 
 -- Node i is recomputed: its words are written, and whether they differ from those that stood there.
@@ -39,12 +40,12 @@ abbrev pub foot : ℕ → Rise
 foot count = record { reach = 0; recomputed = count; goes = true }
 
 -- what going past node i asks: the counts stay small
-pub record Climbable (a table index ch : List ℕ) (i : ℕ) (marks array : List ℕ) (height : ℕ) (t : Rise) : Type 0 where
-  pub at : AtNode a table index ch i marks array height
+pub record Climbable (a table index ch : List ℕ) (i : ℕ) (marks array : List ℕ) (height : ℕ) (t : Rise) (keys known places owners rows pending : List ℕ) : Type 0 where
+  pub at : AtNode a table index ch i marks array height keys known places owners rows pending
   pub few-reached : t .reach ≤ 4096
   pub few-recomputed : t .recomputed ≤ 8192
 
 -- what the whole loop asks, with `count` nodes recomputed before
-pub record ClimbStart (a table index ch : List ℕ) (root : ℕ) (marks array : List ℕ) (height count : ℕ) : Type 0 where
-  pub nodes : AtNodes a table index ch root (length ch) marks array height
+pub record ClimbStart (a table index ch : List ℕ) (root : ℕ) (marks array : List ℕ) (height count : ℕ) (keys known places owners rows pending : List ℕ) : Type 0 where
+  pub nodes : AtNodes a table index ch root (length ch) marks array height keys known places owners rows pending
   pub few : count ≤ 4096

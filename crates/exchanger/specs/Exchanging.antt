@@ -3,7 +3,7 @@
 use Prim.Native.Nat.{ℕ, _-_, _<_, _≤_}
 use mathlib.Core.List.{List}
 use lib.ListN.{length}
-use Rattle.matcher.specs.Nodes.{markedFrom, Workable}
+use Rattle.nodes.specs.Nodes.{markedFrom, Workable}
 use Rattle.exchanger.specs.Climbing.{climbFrom, foot}
 
 -- The nodes from `start` up to `root` are the replacement's: they are worked out. At the root's place are the old element's
@@ -13,6 +13,6 @@ exchangedFrom a table ch start root marks =
     climbFrom a table ch root (length ch - root) (markedFrom a table ch start (root - start) marks) (foot (root - start))
 
 pub record Exchangeable (a table ch : List ℕ) (start root : ℕ) (marks : List ℕ) : Type 0 where
-  pub workable : Workable a table ch (length marks) 4096
+  pub workable : Workable a table ch (length marks)
   pub order : start ≤ root
   pub inside : root < length ch

@@ -1,15 +1,16 @@
 // The replacement's root and then its ancestors, nearest first: each is recomputed, until one keeps its words.
 ghost use mathlib.Core.Path.{_≡_};
-ghost use Prim.Native.Nat.{_-_};
+ghost use Prim.Native.Nat.{_+_, _-_};
 ghost use lib.ListN.{length};
-ghost use Rattle.matcher.specs.Nodes.{AtNode};
+ghost use Rattle.nodes.specs.Marking.{Prepared, AtNode};
 ghost use Rattle.exchanger.specs.Climbing.{recomputeAt, climbStep, climbFrom, foot, Climbable, ClimbStart};
-use matcher::nodes::node_at;
-use matcher::nodes::push_root;
+use nodes::marking::mark_node;
+use nodes::stack::push_node;
 use slices::sets::same_words;
-use slices::sets::write_set_at;
+use slices::sets::write_set;
 use tables::head::set_size;
-use words::postfix::arity;
+use words::alphabet::LOW_BYTE;
+use words::alphabet::rank;
 
 // How far the loop is: how many roots on the stack, counted from the top, reach down to the one whose tree holds the
 // replacement (0 before the replacement's root is put there), how many nodes were recomputed, and whether work goes on.
@@ -19,8 +20,20 @@ pub struct Rise {
     pub goes: bool,
 }
 
-// Recomputes node i from the marks as they stand; the index is the table's. The node's own words there are still those stored
-// before the call. Answers whether they changed.
+// A node that was recomputed: whether its words changed, and the stack's height behind it.
+pub struct Recomputed {
+    pub changed: bool,
+    pub height: usize,
+}
+
+// A node that was passed: how far the loop is behind it, and the stack's height.
+pub struct Passed {
+    pub rise: Rise,
+    pub height: usize,
+}
+
+// Recomputes node i from the marks as they stand. The node's own words there are still those stored before the call: they are
+// kept beside until the new ones are compared with them.
 fn recompute(
     alphabet: &[u32],
     table: &[u32],
@@ -28,22 +41,51 @@ fn recompute(
     nodes: &[u32],
     i: usize,
     marks: &mut [u32],
-    stack: &[u32],
+    stack: &mut [u32],
     height: usize,
-) -> bool
-    requires { ⌜ AtNode (now alphabet) (now table) (now index) (now nodes) i (now marks) (now stack) height ⌝ }
-    ensures { λ r. ⌜
-        (now (marks .exit), r)
+    keys: &mut [u64],
+    known: &mut [u32],
+    places: &mut [u32],
+    owners: &mut [u32],
+    rows: &mut [u32],
+    pending: &mut [u32],
+) -> Recomputed
+    requires { ⌜
+        AtNode (now alphabet) (now table) (now index) (now nodes) i (now marks) (now stack) height (now keys) (now known) (now places) (now owners) (now rows) (now pending)
+        ⌝ }
+    ensures marks { λ r. ⌜
+        (now (marks .exit), r .changed)
         ≡ recomputeAt (now (alphabet .entry)) (now (table .entry)) (now (nodes .entry)) i (now (marks .entry))
+        ⌝ }
+    ensures kept { λ r. ⌜
+        Prepared (now (alphabet .entry)) (now (table .entry)) (now (nodes .entry)) (i + 1) (now (marks .exit)) (now (stack .exit)) (r .height) (now (keys .exit)) (now (known .exit)) (now (places .exit)) (now (owners .exit)) (now (rows .exit)) (now (pending .exit))
         ⌝ }
 {
     let size = set_size(table);
     let at = i * size;
-    let set = node_at(alphabet, table, index, nodes, i, marks, stack, height);
-    let new = &set[..size];
-    let same = same_words(new, &marks[at..at + size]);
-    write_set_at(marks, at, new);
-    !same
+    let mut before = [0u32; 32];
+    write_set(&mut before, &marks[at..at + size]);
+    let top = mark_node(
+        alphabet,
+        table,
+        index,
+        nodes,
+        i,
+        marks,
+        stack,
+        height,
+        keys,
+        known,
+        places,
+        owners,
+        rows,
+        pending,
+    );
+    let same = same_words(&marks[at..at + size], &before[..size]);
+    Recomputed {
+        changed: !same,
+        height: top,
+    }
 }
 
 // Goes past node i. A node that takes only roots above the one whose tree holds the replacement is no ancestor of it: its
@@ -55,31 +97,64 @@ fn climb_node(
     nodes: &[u32],
     i: usize,
     marks: &mut [u32],
-    stack: &[u32],
+    stack: &mut [u32],
     height: usize,
     rise: Rise,
-) -> Rise
-    requires { ⌜ Climbable (now alphabet) (now table) (now index) (now nodes) i (now marks) (now stack) height rise ⌝ }
-    ensures { λ r. ⌜
-        (now (marks .exit), r)
+    keys: &mut [u64],
+    known: &mut [u32],
+    places: &mut [u32],
+    owners: &mut [u32],
+    rows: &mut [u32],
+    pending: &mut [u32],
+) -> Passed
+    requires { ⌜
+        Climbable (now alphabet) (now table) (now index) (now nodes) i (now marks) (now stack) height rise (now keys) (now known) (now places) (now owners) (now rows) (now pending)
+        ⌝ }
+    ensures marks { λ r. ⌜
+        (now (marks .exit), r .rise)
         ≡ climbStep (now (alphabet .entry)) (now (table .entry)) (now (nodes .entry)) i (now (marks .entry)) rise
         ⌝ }
+    ensures kept { λ r. ⌜
+        Prepared (now (alphabet .entry)) (now (table .entry)) (now (nodes .entry)) (i + 1) (now (marks .exit)) (now (stack .exit)) (r .height) (now (keys .exit)) (now (known .exit)) (now (places .exit)) (now (owners .exit)) (now (rows .exit)) (now (pending .exit))
+        ⌝ }
 {
-    let children = arity(alphabet, nodes[i]);
+    let children = rank(alphabet, (nodes[i] % LOW_BYTE) as usize);
     let reach = rise.reach;
     let recomputed = rise.recomputed;
     if children < reach {
-        return Rise {
-            reach: reach - children + 1,
-            recomputed,
-            goes: true,
+        let top = push_node(alphabet, nodes, i, stack, height);
+        return Passed {
+            rise: Rise {
+                reach: reach - children + 1,
+                recomputed,
+                goes: true,
+            },
+            height: top,
         };
     }
-    let changed = recompute(alphabet, table, index, nodes, i, marks, stack, height);
-    Rise {
-        reach: 1,
-        recomputed: recomputed + 1,
-        goes: changed,
+    let node = recompute(
+        alphabet,
+        table,
+        index,
+        nodes,
+        i,
+        marks,
+        stack,
+        height,
+        keys,
+        known,
+        places,
+        owners,
+        rows,
+        pending,
+    );
+    Passed {
+        rise: Rise {
+            reach: 1,
+            recomputed: recomputed + 1,
+            goes: node.changed,
+        },
+        height: node.height,
     }
 }
 
@@ -95,8 +170,16 @@ pub fn climb(
     stack: &mut [u32],
     height: usize,
     count: usize,
+    keys: &mut [u64],
+    known: &mut [u32],
+    places: &mut [u32],
+    owners: &mut [u32],
+    rows: &mut [u32],
+    pending: &mut [u32],
 ) -> usize
-    requires { ⌜ ClimbStart (now alphabet) (now table) (now index) (now nodes) root (now marks) (now stack) height count ⌝ }
+    requires { ⌜
+        ClimbStart (now alphabet) (now table) (now index) (now nodes) root (now marks) (now stack) height count (now keys) (now known) (now places) (now owners) (now rows) (now pending)
+        ⌝ }
     ensures { λ r. ⌜
         (now (marks .exit), r)
         ≡ climbFrom (now (alphabet .entry)) (now (table .entry)) (now (nodes .entry)) root (length (now (nodes .entry)) - root) (now (marks .entry)) (foot count)
@@ -110,11 +193,28 @@ pub fn climb(
     let mut top = height;
     let mut i = root;
     while i < nodes.len() {
-        rise = climb_node(alphabet, table, index, nodes, i, marks, stack, top, rise);
+        let passed = climb_node(
+            alphabet,
+            table,
+            index,
+            nodes,
+            i,
+            marks,
+            stack,
+            top,
+            rise,
+            keys,
+            known,
+            places,
+            owners,
+            rows,
+            pending,
+        );
+        top = passed.height;
+        rise = passed.rise;
         if !rise.goes {
             return rise.recomputed;
         }
-        top = push_root(alphabet, nodes, i, stack, top);
         i += 1;
     }
     rise.recomputed

@@ -12,17 +12,17 @@ ghost use Rattle.exchanger.specs.Answers.{answerIn};
 use super::Exchanged;
 use super::climb::climb;
 use super::replace::move_tail;
-use matcher::nodes::mark_nodes;
-use matcher::nodes::stack_roots;
+use nodes::marking::mark_nodes;
+use nodes::stack::stack_nodes;
 use refusals::exchange::exchange_fault;
 use slices::moves::copy_words;
-use step::index::index_of;
+use step::index::write_index;
 use tables::head::set_size;
 use words::postfix::subtree_start;
 
 // Works out the replacement's nodes, from `start` up to its root, over a stack with the roots of the nodes before and one
-// index of the table for all. At the root's place in the marks are the old element's words: if the root's differ from them,
-// goes on with the ancestors. Answers how many nodes were worked out.
+// index of the table and one memo for all. At the root's place in the marks are the old element's words: if the root's differ
+// from them, goes on with the ancestors. Answers how many nodes were worked out.
 fn recompute_nodes(
     alphabet: &[u32],
     table: &[u32],
@@ -37,9 +37,16 @@ fn recompute_nodes(
         ≡ exchangedFrom (now (alphabet .entry)) (now (table .entry)) (now (nodes .entry)) start root (now (marks .entry))
         ⌝ }
 {
-    let index = index_of(table);
-    let mut stack = [0u32; 4096];
-    let base = stack_roots(alphabet, nodes, start, &mut stack);
+    let mut index = [0u32; 3328];
+    write_index(table, &mut index);
+    let mut stack = [0u32; 4100];
+    let mut keys = [0u64; 1024];
+    let mut known = [0u32; 1024];
+    let mut places = [0u32; 1021];
+    let mut owners = [0u32; 64];
+    let mut rows = [0u32; 2048];
+    let mut pending = [0u32; 1024];
+    let base = stack_nodes(alphabet, nodes, start, &mut stack);
     let top = mark_nodes(
         alphabet,
         table,
@@ -50,6 +57,12 @@ fn recompute_nodes(
         marks,
         &mut stack,
         base,
+        &mut keys,
+        &mut known,
+        &mut places,
+        &mut owners,
+        &mut rows,
+        &mut pending,
     );
     climb(
         alphabet,
@@ -61,6 +74,12 @@ fn recompute_nodes(
         &mut stack,
         top,
         root - start,
+        &mut keys,
+        &mut known,
+        &mut places,
+        &mut owners,
+        &mut rows,
+        &mut pending,
     )
 }
 

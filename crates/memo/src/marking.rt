@@ -34,16 +34,7 @@ fn mark_new(
     ensures closures { λ _. ⌜ Closures (now (table .entry)) (now (owners .exit)) (now (rows .exit)) ⌝ }
 {
     let size = set_size(table);
-    let set = node_set(
-        table,
-        index,
-        symbol,
-        marks,
-        children,
-        owners,
-        rows,
-        pending,
-    );
+    let set = node_set(table, index, symbol, marks, children, owners, rows, pending);
     let node = representative(marks, &set[..size], i, places);
     write_set_at(marks, i * size, &set[..size]);
     node

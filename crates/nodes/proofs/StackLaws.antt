@@ -158,10 +158,10 @@ module _ {a ch : List ℕ} {count : ℕ} {array₀ : List ℕ} (pre : Stackable 
         let roots = rootsOf a ch i in
         let rep = itself (omega (arith, inside)) in
         let pushed = held-push array height (reverse roots) r i (g .held) (omega (arith, rank-fits a ch (pre .tree) i inside r refl, length-reverse roots))
-              (stack-room rep (pre .tree) inside r refl) in
+        (stack-room rep (pre .tree) inside r refl) in
         let same : take (length (reverse roots) - r) (reverse roots) ++ i ∷ [] ≡ reverse (rootsOf a ch (i + 1))
-              = ap (λ (l : List ℕ). l ++ i ∷ []) (ap (λ (k : ℕ). take (k - r) (reverse roots)) (length-reverse roots) ∙ take-reverse r roots)
-                ∙ sym (ap reverse (roots-next a ch (pre .tree) i inside r refl) ∙ reverse-cons i (drop r roots)) in
+        = ap (λ (l : List ℕ). l ++ i ∷ []) (ap (λ (k : ℕ). take (k - r) (reverse roots)) (length-reverse roots) ∙ take-reverse r roots)
+        ∙ sym (ap reverse (roots-next a ch (pre .tree) i inside r refl) ∙ reverse-cons i (drop r roots)) in
         rw (p, q) (record {
           high = omega arith;
           long = length-set array (height - r) i ∙ g .long;

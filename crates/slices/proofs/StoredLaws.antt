@@ -59,7 +59,7 @@ module _ (size : ℕ) (marks : List ℕ) (i : ℕ) (v : StateSet) (e : length v 
       let past = j * size - (i * size + size) in
       let n : i * size + size + past ≡ j * size = omega arith in
       let back : (l : List ℕ) → drop (j * size) l ≡ drop past (drop (i * size + size) l)
-            = λ l. ap (λ (k : ℕ). drop k l) (sym n) ∙ sym (drop-drop past (i * size + size) l) in
+      = λ l. ap (λ (k : ℕ). drop k l) (sym n) ∙ sym (drop-drop past (i * size + size) l) in
       ap (take size)
       (back (paste marks (i * size) v size) ∙ ap (drop past) (drop-paste marks (i * size) v size (omega arith) (omega arith)) ∙ sym (back marks))
 

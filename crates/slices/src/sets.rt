@@ -9,7 +9,7 @@ ghost use Rattle.operations.specs.Run.{cellsIn};
 ghost use Rattle.slices.specs.Movable.{Copyable};
 
 // Writes the words of one set to the front of the part that is lent.
-fn write_set(part: &mut [u32], set: &[u32])
+pub fn write_set(part: &mut [u32], set: &[u32])
     requires { ⌜ length (now set) ≤ length (now part) ⌝ }
     ensures { λ _. ⌜ now (part .exit) ≡ now (set .entry) ++ drop (length (now (set .entry))) (now (part .entry)) ⌝ }
 {

@@ -1,53 +1,91 @@
--- `climb::climb_node` meets its contract: the arity tells whether the node is an ancestor. Assumes nothing.
-use Rattle.exchanger.proofs.ClimbLaws.{step-beside, step-ancestor}
+-- `climb::climb_node` meets its contract: the rank tells whether the node is an ancestor.
+use native.Mathlib.Omega.{arith}
+use Rattle.exchanger.proofs.ClimbLaws.{node-rank, node-pushable, node-passed, step-beside, step-ancestor}
 use borrow.Author.Needs.{needs}
 use Rattle.exchanger.proofs.climb.climb_node.Statement.{statement}
 use Rattle.exchanger.proofs.climb.climb_node.Tie as tie
 
-mul-arity : tie.Need-mul-arity
-mul-arity c = search needs
+mul-rank : tie.Need-mul-rank
+mul-rank c = search needs
 
-shared-slice-read-arity : tie.Need-shared-slice-read-arity
-shared-slice-read-arity c = search needs
+shared-slice-read-rank : tie.Need-shared-slice-read-rank
+shared-slice-read-rank c = search needs
 
-arity-requires : tie.Need-arity-requires
-arity-requires c κs = search needs
+cast-rank : tie.Need-cast-rank
+cast-rank c = search needs
 
-sub-t18 : tie.Need-sub-t18
-sub-t18 c = search needs
+rank-requires : tie.Need-rank-requires
+rank-requires c κs = search needs
 
-add-t19 : tie.Need-add-t19
-add-t19 c = search needs
+push-node-requires : tie.Need-push-node-requires
+push-node-requires c κs = node-pushable (c .before .before .before .before .before .before .before .before .before .before .before .before .before .before .before .before .pre .at)
 
-returns : tie.Need-returns
-returns c = step-beside _ _ _ _ _ _ _ (c .before .arity .ensures) (c .if1 .taken)
+sub-t29 : tie.Need-sub-t29
+sub-t29 c = search needs
 
-recompute-requires : tie.Need-recompute-requires
-recompute-requires c κs = search needs
-
-add-t14 : tie.Need-add-t14
-add-t14 c = search needs
+add-t30 : tie.Need-add-t30
+add-t30 c = search needs
 
 same-length : tie.Need-same-length
 same-length c = search needs
 
+returns : tie.Need-returns
+returns c = let k = c .before .before .before .before .before in let p = c .before .before in let g = c .before .before .before .before .before .before .before .before .before .before .before .before .before .before .before .before .before .before .before .pre .at in (step-beside _ _ _ _ _ _ _ (node-rank g _ (k .rank .ensures)) (c .before .before .before .before .if1 .taken), node-passed g (p .push-node .ensures .0) (p .push-node .ensures .1))
+
+recompute-requires : tie.Need-recompute-requires
+recompute-requires c κs = c .before .before .before .before .before .before .before .before .before .before .before .before .before .before .before .before .before .before .before .before .before .before .before .pre .at
+
+add-t21 : tie.Need-add-t21
+add-t21 c = omega (arith, c .before .before .before .before .before .before .before .before .before .before .before .before .before .before .before .before .before .before .before .before .before .before .before .before .before .before .before .before .before .before .before .before .before .before .before .before .before .before .before .before .pre .few-recomputed)
+
+same-length-2 : tie.Need-same-length-2
+same-length-2 c = search needs
+
+same-length-3 : tie.Need-same-length-3
+same-length-3 c = search needs
+
+same-length-4 : tie.Need-same-length-4
+same-length-4 c = search needs
+
+same-length-5 : tie.Need-same-length-5
+same-length-5 c = search needs
+
+same-length-6 : tie.Need-same-length-6
+same-length-6 c = search needs
+
+same-length-7 : tie.Need-same-length-7
+same-length-7 c = search needs
+
+same-length-8 : tie.Need-same-length-8
+same-length-8 c = search needs
+
+same-length-9 : tie.Need-same-length-9
+same-length-9 c = search needs
+
 returns-2 : tie.Need-returns-2
-returns-2 c =
-    let r = c .before .before in
-    let d = r .before .before in
-    step-ancestor _ _ _ _ _ _ _ (d .before .arity .ensures) (d .if1 .left) _ (r .recompute .ensures)
+returns-2 c = let k = c .before .before .before .before .before .before .before .before .before .before .before .before .before .before .before .before .before .before .before .before .before .before .before .before .before .before in let r = c .before .before .before .before .before .before .before .before .before .before .before .before .before .before .before .before in (step-ancestor _ _ _ _ _ _ _ (node-rank (c .before .before .before .before .before .before .before .before .before .before .before .before .before .before .before .before .before .before .before .before .before .before .before .before .before .before .before .before .before .before .before .before .before .before .before .before .before .before .before .before .pre .at) _ (k .rank .ensures)) (c .before .before .before .before .before .before .before .before .before .before .before .before .before .before .before .before .before .before .before .before .before .before .before .before .before .if1 .left) _ (r .recompute .ensures .0), r .recompute .ensures .1)
 
 pub climb-node-spec : {M : Type 1} → statement M
 climb-node-spec =
     tie.close
     (tie.spec
-    mul-arity
-    shared-slice-read-arity
-    arity-requires
-    sub-t18
-    add-t19
+    mul-rank
+    shared-slice-read-rank
+    cast-rank
+    rank-requires
+    push-node-requires
+    sub-t29
+    add-t30
+    same-length
     returns
     recompute-requires
-    add-t14
-    same-length
+    add-t21
+    same-length-2
+    same-length-3
+    same-length-4
+    same-length-5
+    same-length-6
+    same-length-7
+    same-length-8
+    same-length-9
     returns-2)

@@ -1,17 +1,14 @@
--- `climb::recompute` meets its contract: the first words of the set that is worked out are compared with the node's words in the
--- marks, and written there. Assumes nothing.
+-- `climb::recompute` meets its contract: the words that the node gets are compared with those that stood there, which are kept beside.
 use native.Mathlib.Omega.{arith}
-use Rattle.matcher.proofs.WriteLaws.{set-length, set-long, set-room}
-use Rattle.exchanger.proofs.ClimbLaws.{row-room, row-small, node-recomputed}
+use Prim.Native.Nat.{ℕ}
+use lib.ListN.{length-replicate}
+use Rattle.exchanger.proofs.ClimbLaws.{row-room, row-small, row-few, row-part, before-length, node-recomputed}
 use borrow.Author.Needs.{needs}
 use Rattle.exchanger.proofs.climb.recompute.Statement.{statement}
 use Rattle.exchanger.proofs.climb.recompute.Tie as tie
 
 abbrev start : tie.After-set-size → tie.Start
-start s = s .before .before .before .before .before .before .before
-
-abbrev sized : tie.After-node-at → tie.After-set-size
-sized n = n .before .before
+start s = s .before .before .before .before .before .before .before .before .before .before .before .before .before
 
 set-size-requires : tie.Need-set-size-requires
 set-size-requires c κs = search needs
@@ -19,29 +16,35 @@ set-size-requires c κs = search needs
 mul-at : tie.Need-mul-at
 mul-at c = let l = row-small (start c .pre) _ (c .set-size .ensures) in omega arith
 
-node-at-requires : tie.Need-node-at-requires
-node-at-requires c κs = search needs
+slice-aggregate-write-set : tie.Need-slice-aggregate-write-set
+slice-aggregate-write-set c = search needs
 
-array-share-prefix-set : tie.Need-array-share-prefix-set
-array-share-prefix-set c = let s = sized c in set-long (start s .pre) _ (c .node-at .ensures) _ (s .set-size .ensures)
+add-write-set : tie.Need-add-write-set
+add-write-set c = let s = c .before in let l = row-small (start s .pre) _ (s .set-size .ensures) in omega arith
 
-slice-aggregate-new : tie.Need-slice-aggregate-new
-slice-aggregate-new c =
-    let n = c .before in
-    let s = sized n in
-    set-length (start s .pre) _ (n .node-at .ensures) _ (s .set-size .ensures)
+mul-write-set : tie.Need-mul-write-set
+mul-write-set c = let s = c .before in let l = row-small (start s .pre) _ (s .set-size .ensures) in omega arith
+
+sub-write-set : tie.Need-sub-write-set
+sub-write-set c = search needs
+
+part-write-set-start : tie.Need-part-write-set-start
+part-write-set-start c = search needs
+
+part-write-set-end : tie.Need-part-write-set-end
+part-write-set-end c = let s = c .before .before in row-room (start s .pre) _ (s .set-size .ensures)
+
+write-set-requires : tie.Need-write-set-requires
+write-set-requires c κs = let s = c .before .before .before in row-part (start s .pre) _ (s .set-size .ensures)
+
+mark-node-requires : tie.Need-mark-node-requires
+mark-node-requires c κs = c .before .before .before .before .before .before .before .before .before .before .before .before .before .before .before .before .before .before .before .before .before .before .before .before .before .before .pre
 
 add-same-words : tie.Need-add-same-words
-add-same-words c =
-    let s = sized (c .before) in
-    let l = row-small (start s .pre) _ (s .set-size .ensures) in
-    omega arith
+add-same-words c = let s = c .before .before .before .before .before .before .before .before .before .before .before .before .before .before .before .before .before .before .before .before .before .before .before .before .before .before .before .before .before .before in let l = row-small (start s .pre) _ (s .set-size .ensures) in omega arith
 
 mul-same-words : tie.Need-mul-same-words
-mul-same-words c =
-    let s = sized (c .before) in
-    let l = row-small (start s .pre) _ (s .set-size .ensures) in
-    omega arith
+mul-same-words c = let s = c .before .before .before .before .before .before .before .before .before .before .before .before .before .before .before .before .before .before .before .before .before .before .before .before .before .before .before .before .before .before in let l = row-small (start s .pre) _ (s .set-size .ensures) in omega arith
 
 sub-same-words : tie.Need-sub-same-words
 sub-same-words c = search needs
@@ -50,27 +53,43 @@ part-same-words-start : tie.Need-part-same-words-start
 part-same-words-start c = search needs
 
 part-same-words-end : tie.Need-part-same-words-end
-part-same-words-end c = let s = sized (c .before .before) in row-room (start s .pre) _ (s .set-size .ensures)
+part-same-words-end c = let s = c .before .before .before .before .before .before .before .before .before .before .before .before .before .before .before .before .before .before .before .before .before .before .before .before .before .before .before .before .before .before .before in omega (arith, row-room (start s .pre) _ (s .set-size .ensures), c .before .before .before .before .before .before .before .before .before .before .before .before .before .before .before .before .before .mark-node .kept .1 .1 .1 .1 .1 .0)
+
+array-share-prefix-before : tie.Need-array-share-prefix-before
+array-share-prefix-before c = let s = c .before .before .before .before .before .before .before .before .before .before .before .before .before .before .before .before .before .before .before .before .before .before .before .before .before .before .before .before .before .before .before .before in omega (arith, row-few (start s .pre) _ (s .set-size .ensures), c .before .before .before .before .before .before .before .before .before .before .before .before .before .before .before .before .before .before .before .before .before .before .before .before .before .before .before .before .write-set .kept .0, length-replicate {A = ℕ} 32 0)
+
+slice-aggregate-same-words : tie.Need-slice-aggregate-same-words
+slice-aggregate-same-words c = let s = c .before .before .before .before .before .before .before .before .before .before .before .before .before .before .before .before .before .before .before .before .before .before .before .before .before .before .before .before .before .before .before .before .before in before-length (start s .pre) _ (s .set-size .ensures) _ _ (c .before .before .before .before .before .before .before .before .before .before .before .before .before .before .before .before .before .before .before .before .before .before .before .before .before .before .before .before .before .write-set .ensures)
 
 same-words-requires : tie.Need-same-words-requires
 same-words-requires c κs = search needs
 
-write-set-at-requires : tie.Need-write-set-at-requires
-write-set-at-requires c κs =
-    let n = c .before .before .before .before .before in
-    let s = sized n in
-    set-room (start s .pre) _ (n .node-at .ensures) _ (s .set-size .ensures)
-
 same-length : tie.Need-same-length
 same-length c = search needs
 
+same-length-2 : tie.Need-same-length-2
+same-length-2 c = search needs
+
+same-length-3 : tie.Need-same-length-3
+same-length-3 c = search needs
+
+same-length-4 : tie.Need-same-length-4
+same-length-4 c = search needs
+
+same-length-5 : tie.Need-same-length-5
+same-length-5 c = search needs
+
+same-length-6 : tie.Need-same-length-6
+same-length-6 c = search needs
+
+same-length-7 : tie.Need-same-length-7
+same-length-7 c = search needs
+
+same-length-8 : tie.Need-same-length-8
+same-length-8 c = search needs
+
 returns : tie.Need-returns
-returns c =
-    let w = c .before .before in
-    let t = w .before .before in
-    let n = t .before .before .before .before in
-    let s = sized n in
-    node-recomputed (start s .pre) _ (n .node-at .ensures) _ (s .set-size .ensures) _ (t .same-words .ensures) _ (w .write-set-at .ensures)
+returns c = let s = c .before .before .before .before .before .before .before .before .before .before .before .before .before .before .before .before .before .before .before .before .before .before .before .before .before .before .before .before .before .before .before .before .before .before in let m = c .before .before .before .before .before .before .before .before .before .before .before .before .before .before .before .before .before .before .before .before in (node-recomputed (start s .pre) _ (s .set-size .ensures) _ _ (c .before .before .before .before .before .before .before .before .before .before .before .before .before .before .before .before .before .before .before .before .before .before .before .before .before .before .before .before .before .before .write-set .ensures) _ (m .mark-node .ensures .0) _ (c .same-words .ensures), m .mark-node .ensures .1)
 
 pub recompute-spec : {M : Type 1} → statement M
 recompute-spec =
@@ -78,15 +97,28 @@ recompute-spec =
     (tie.spec
     set-size-requires
     mul-at
-    node-at-requires
-    array-share-prefix-set
-    slice-aggregate-new
+    slice-aggregate-write-set
+    add-write-set
+    mul-write-set
+    sub-write-set
+    part-write-set-start
+    part-write-set-end
+    write-set-requires
+    mark-node-requires
     add-same-words
     mul-same-words
     sub-same-words
     part-same-words-start
     part-same-words-end
+    array-share-prefix-before
+    slice-aggregate-same-words
     same-words-requires
-    write-set-at-requires
     same-length
+    same-length-2
+    same-length-3
+    same-length-4
+    same-length-5
+    same-length-6
+    same-length-7
+    same-length-8
     returns)
