@@ -18,16 +18,16 @@ static const uint32_t d[] = {0x70000003};
 /* Chapter a b f d g h f. The slices are lent to the calls. */
 static uint32_t chapter[] = {
     0x70000000, 0x70000001, 0x70000004, 0x70000003, 0x70000005, 0x70000006, 0x70000004};
-static uint32_t table[2048];
-static uint32_t marks[7 * 32];
-static uint32_t list[7];
+static uint32_t table[HAQBYLUR_MOST_COMPILED_WORDS];
+static uint32_t marks[HAQBYLUR_MARK_WORDS(LENGTH(chapter), HAQBYLUR_MOST_STATES)];
+static uint32_t list[LENGTH(chapter)];
 
 static void print_hits(const char *name, uint32_t words, uint32_t elements)
 {
     uint32_t hits;
     uint32_t status = haqbylur_list(alphabet, LENGTH(alphabet), table, words, elements, marks, LENGTH(marks),
                                     list, LENGTH(list), &hits);
-    if (status != 0) {
+    if (status != HAQBYLUR_ACCEPTED) {
         printf("%s refused %u\n", name, (unsigned)status);
         return;
     }
@@ -41,26 +41,29 @@ int main(void)
 {
     uint32_t words, elements, cells, worked_out;
     uint32_t status = haqbylur_compile(alphabet, LENGTH(alphabet), rule, LENGTH(rule), table, LENGTH(table), &words);
-    if (status != 0)
+    if (status != HAQBYLUR_ACCEPTED)
         return 1;
     printf("compile words %u head 0x%08x\n", (unsigned)words, (unsigned)table[0]);
+    printf("mark words %u\n", (unsigned)HAQBYLUR_MARK_WORDS(LENGTH(chapter), HAQBYLUR_STATE_COUNT(table[0])));
 
     status = haqbylur_run(alphabet, LENGTH(alphabet), table, words, chapter, LENGTH(chapter), marks, LENGTH(marks),
                           &elements, &cells);
-    if (status != 0)
+    if (status != HAQBYLUR_ACCEPTED)
         return 1;
     print_hits("run", words, elements);
 
     status = haqbylur_exchange(alphabet, LENGTH(alphabet), table, words, chapter, LENGTH(chapter), elements, marks, LENGTH(marks),
                                4, d, LENGTH(d), &elements, &worked_out);
-    if (status != 0)
+    if (status != HAQBYLUR_ACCEPTED)
         return 1;
     printf("exchange worked out %u\n", (unsigned)worked_out);
     print_hits("exchange", words, elements);
 
-    /* An element that the chapter does not have: document 01's number 14. */
+    /* An element that the chapter does not have. */
     status = haqbylur_exchange(alphabet, LENGTH(alphabet), table, words, chapter, LENGTH(chapter), elements, marks, LENGTH(marks),
                                elements, d, LENGTH(d), &elements, &worked_out);
+    if (status != HAQBYLUR_NO_ELEMENT)
+        return 1;
     printf("exchange refused %u\n", (unsigned)status);
     return 0;
 }

@@ -4,12 +4,49 @@
  * where the length is 0. Each function returns 0 where the call is accepted, and otherwise document 01's number of the
  * refusal; then no lent word changes, and no out-parameter either. What a call may write (slices and out-parameters that are
  * not const) overlaps with no other argument of that call. Any thread may call while no other uses the same memory: the
- * library keeps nothing between calls. It allocates nothing and calls memcpy and memset alone. */
+ * library keeps nothing between calls. It allocates nothing and calls memcpy, memmove and memset alone. */
 #ifndef HAQBYLUR_H
 #define HAQBYLUR_H
 
 #include <stddef.h>
 #include <stdint.h>
+
+/* The most that document 01 allows. No table that haqbylur_compile writes is longer than HAQBYLUR_MOST_COMPILED_WORDS; the
+ * other functions take tables of up to HAQBYLUR_MOST_TABLE_WORDS. */
+#define HAQBYLUR_MOST_SYMBOLS 64u
+#define HAQBYLUR_MOST_CONSTANTS 16u
+#define HAQBYLUR_MOST_RANK 4u
+#define HAQBYLUR_MOST_RULE_WORDS 64u
+#define HAQBYLUR_MOST_STATES 1024u
+#define HAQBYLUR_MOST_TABLE_WORDS 2048u
+#define HAQBYLUR_MOST_COMPILED_WORDS 1147u
+#define HAQBYLUR_MOST_ELEMENTS 4096u
+
+/* What the functions return: accepted, or document 01's number of a refusal. */
+#define HAQBYLUR_ACCEPTED 0u
+#define HAQBYLUR_NO_ALPHABET 1u      /* 0 or over 64 words, or a word that is no alphabet entry */
+#define HAQBYLUR_WRONG_CONSTANTS 2u  /* no constant, or over 16 */
+#define HAQBYLUR_WRONG_LENGTH 3u     /* rule of 0 or over 64 words */
+#define HAQBYLUR_NO_RULE_WORD 4u     /* a word that is no rule word, an unknown symbol, or a c that is no constant */
+#define HAQBYLUR_NOT_ONE_RULE 5u     /* some word lacks parts, or not exactly one rule remains */
+#define HAQBYLUR_TOO_MANY_STATES 6u  /* over 1,024 states */
+#define HAQBYLUR_TABLE_TOO_LONG 7u   /* the table slice is shorter than the table */
+#define HAQBYLUR_NO_TABLE 8u         /* the table is not well-formed */
+#define HAQBYLUR_WRONG_COUNT 9u      /* 0 or over 4,096 elements, or a used count over the chapter slice */
+#define HAQBYLUR_NO_ELEMENT_WORD 10u /* a word that is no element, or an unknown symbol */
+#define HAQBYLUR_NOT_ONE_TREE 11u    /* no single tree */
+#define HAQBYLUR_FEW_MARKS 12u       /* fewer marks than HAQBYLUR_MARK_WORDS */
+#define HAQBYLUR_LIST_TOO_SHORT 13u  /* the list slice is shorter than the element count */
+#define HAQBYLUR_NO_ELEMENT 14u      /* no such element */
+#define HAQBYLUR_NO_REPLACEMENT 15u  /* 0 or over 4,096 words, or no tree over the alphabet */
+#define HAQBYLUR_RESULT_TOO_LONG 16u /* the result is over 4,096 elements, the chapter slice or the marks slice */
+
+/* The state count of a table, from its first word. */
+#define HAQBYLUR_STATE_COUNT(head) (((uint32_t)(head) >> 10) & 0x7ffu)
+
+/* How many mark words a chapter of so many elements needs with a table of so many states: elements times S, where S is the
+ * state count divided by 32, rounded up. For HAQBYLUR_MOST_ELEMENTS and HAQBYLUR_MOST_STATES it is 131,072. */
+#define HAQBYLUR_MARK_WORDS(elements, states) ((size_t)(elements) * (((size_t)(states) + 31u) / 32u))
 
 #ifdef __cplusplus
 extern "C" {

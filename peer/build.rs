@@ -1,4 +1,4 @@
-//! Links the static library `exports` where HAQBYLUR_LIB_DIR names its folder. Without that variable
+//! Links the static library libhaqbylur.a where HAQBYLUR_LIB_DIR names its folder. Without that variable
 //! everything still builds, and the model takes the library's place.
 
 use std::path::Path;
@@ -8,13 +8,13 @@ fn main() {
     let Ok(folder) = std::env::var("HAQBYLUR_LIB_DIR") else {
         return;
     };
-    let archive = Path::new(&folder).join("libexports.a");
+    let archive = Path::new(&folder).join("libhaqbylur.a");
     let archive = archive
         .canonicalize()
         .unwrap_or_else(|error| panic!("HAQBYLUR_LIB_DIR: {}: {error}", archive.display()));
     let folder = archive.parent().expect("a folder");
     println!("cargo:rerun-if-changed={}", archive.display());
     println!("cargo:rustc-link-search=native={}", folder.display());
-    println!("cargo:rustc-link-lib=static=exports");
+    println!("cargo:rustc-link-lib=static=haqbylur");
     println!("cargo:rustc-cfg=linked");
 }

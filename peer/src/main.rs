@@ -1,5 +1,6 @@
-//! Compares the library with the model: `peer [SEED [CASES]]`. The last line is a summary, `peer: N cases, D differences`,
-//! with what was left out behind it; the exit status is 0 exactly if nothing differed.
+//! Compares the library with the model: `peer [SEED [CASES]]`. The line before the last says how many cases agree; the last
+//! is a summary, `peer: N cases, D differences`, with what was left out behind it. The exit status is 0 exactly if nothing
+//! differed.
 //! HAQBYLUR_LIB_DIR names the folder of the static library when this is built, HAQBYLUR_MARKLIST the program when it runs.
 
 use peer::cases::{damage, examples, faults, histories, largest, lengths, limits, program, random};
@@ -53,6 +54,7 @@ fn main() -> ExitCode {
     section("numbers answered", &mut Comparison::check_numbers);
     print_numbers(&comparison);
     let (cases, differences) = (comparison.cases, comparison.differences);
+    println!("peer: {} of {cases} cases agree", cases - differences);
     println!(
         "peer: {cases} cases, {differences} differences{}",
         missing(path.is_some())

@@ -8,7 +8,9 @@ use lib.ListN.{length, getD, take, drop, replicate, length-replicate}
 use lib.Seq.{length-sets, take-all, length-take-le}
 use Rattle.lines.specs.Line.{refusedLine}
 use Rattle.report.specs.Output.{outputOf}
-use Rattle.report.specs.Input.{wordsIn, complete, alphabetIn, ruleIn, chapterIn, programOutput}
+use lib.Dec.{ltb}
+use Rattle.words.proofs.TestLaws.{all-append}
+use Rattle.report.specs.Input.{areBytes, wordsIn, complete, alphabetIn, ruleIn, chapterIn, programOutput}
 use Rattle.report.proofs.InputLaws.{length-wordsIn}
 use Rattle.report.proofs.OutputLength.{output-short}
 use Rattle.report.proofs.KeptLaws.{early-output}
@@ -58,6 +60,12 @@ module _ (counts₀ counts alphabet₀ alphabet rule₀ rule chapter₀ chapter 
   abbrev pub allBytes : List ℕ
   allBytes = c .bytes ++ (s .bytes ++ (t .bytes ++ u .bytes))
 
+  pub all-bytes : areBytes allBytes ≡ true
+  all-bytes =
+      let join = all-append (λ x. ltb x 256) in
+      join (c .bytes) (s .bytes ++ (t .bytes ++ u .bytes)) (c .small)
+      (join (s .bytes) (t .bytes ++ u .bytes) (s .small) (join (t .bytes) (u .bytes) (t .small) (u .small)))
+
   all-words : wordsIn allBytes
       ≡ getD counts 0 0 ∷ getD counts 1 0 ∷ getD counts 2 0 ∷ (wordsIn (s .bytes) ++ (wordsIn (t .bytes) ++ (wordsIn (u .bytes) ++ [])))
   all-words =
@@ -87,14 +95,14 @@ nothing-printed : programOutput [] ≡ refusedLine 0
 nothing-printed = program-early [] 3 (omega arith) (omega arith)
 
 pub printed : (all : Bool) (a e ch before after : List ℕ) (r : ℕ)
-    → (all ≡ true → (input : List ℕ) × (programOutput input ≡ outputOf true a e ch))
+    → (all ≡ true → (input : List ℕ) × (areBytes input ≡ true) × (programOutput input ≡ outputOf true a e ch))
     → r ≡ length (outputOf all a e ch) → after ≡ outputOf all a e ch ++ drop r before → Printed before after r
 printed true a e ch before after r whole long same =
-    let (input, q) = whole refl in
-    record { input = input; long = long ∙ ap length (sym q); same = same ∙ ap (λ (l : List ℕ). l ++ drop r before) (sym q) }
+    let (input, small, q) = whole refl in
+    record { input = input; small = small; long = long ∙ ap length (sym q); same = same ∙ ap (λ (l : List ℕ). l ++ drop r before) (sym q) }
 printed false a e ch before after r whole long same =
     let q = early-output false a e ch refl ∙ sym nothing-printed in
-    record { input = []; long = long ∙ ap length q; same = same ∙ ap (λ (l : List ℕ). l ++ drop r before) q }
+    record { input = []; small = refl; long = long ∙ ap length q; same = same ∙ ap (λ (l : List ℕ). l ++ drop r before) q }
 
 -- ---- the whole function: four calls that read, and the report
 
@@ -108,14 +116,18 @@ module _ {counts alphabet rule chapter : List ℕ} {b₁ b₂ b₃ b₄ : Bool}
     (first : ReadAll true 3 (zeros 3) counts b₁) (second : ReadAll b₁ (getD counts 0 0) (zeros 65) alphabet b₂)
     (third : ReadAll b₂ (getD counts 1 0) (zeros 65) rule b₃) (fourth : ReadAll b₃ (getD counts 2 0) (zeros 257) chapter b₄) where
   read-input : b₄ ≡ true → (input : List ℕ)
+      × (areBytes input ≡ true)
       × (programOutput input
       ≡ outputOf true (take (min (getD counts 0 0) 65) alphabet) (take (min (getD counts 1 0) 65) rule) (take (min (getD counts 2 0) 257) chapter))
   read-input e =
       let u = fourth e in
       let t = third (u .0) in
       let s = second (t .0) in
-      let c = first (s .0) in
-      (allBytes _ _ _ _ _ _ _ _ (many 3) (many 65) (many 65) (many 257) (c .1) (s .1) (t .1) (u .1), all-printed _ _ _ _ _ _ _ _ (many 3) (many 65) (many 65) (many 257) (c .1) (s .1) (t .1) (u .1))
+      let c = first (s .0) in (
+        allBytes _ _ _ _ _ _ _ _ (many 3) (many 65) (many 65) (many 257) (c .1) (s .1) (t .1) (u .1),
+        all-bytes _ _ _ _ _ _ _ _ (many 3) (many 65) (many 65) (many 257) (c .1) (s .1) (t .1) (u .1),
+        all-printed _ _ _ _ _ _ _ _ (many 3) (many 65) (many 65) (many 257) (c .1) (s .1) (t .1) (u .1),
+      )
 
   pub answered : {n m k r : ℕ} {out₀ out : List ℕ} → n ≡ min (getD counts 0 0) 65 → m ≡ min (getD counts 1 0) 65 → k ≡ min (getD counts 2 0) 257
       → r ≡ length (outputOf b₄ (take n alphabet) (take m rule) (take k chapter))

@@ -5,7 +5,10 @@ use Prim.Native.Nat.{ℕ, _+_, _*_, _-_, _/_, _<_, _≤_, min}
 use native.Mathlib.Omega.{arith}
 use lib.ListN.{length, take, drop, length-append}
 use lib.Seq.{sets, length-sets, length-front, length-take-le}
-use Rattle.report.specs.Input.{wordsIn}
+use lib.Dec.{ltb}
+use mathlib.Core.Bool.{true}
+use Rattle.words.proofs.TestLaws.{all-append}
+use Rattle.report.specs.Input.{areBytes, wordsIn}
 use Rattle.report.proofs.ProgramLaws.{kept-parts}
 use Rattle.marklist.specs.Reading.{Stored}
 
@@ -26,19 +29,20 @@ pub record SoFar (count : ℕ) (words₀ words : List ℕ) (seen : ℕ) : Type 0
 module _ (count : ℕ) (words₀ : List ℕ) where
   pub so-far-none : SoFar count words₀ words₀ 0
   unfolding wordsIn
-  so-far-none = record { few = omega arith; long = refl; stored = record { bytes = []; whole = refl; same = refl } }
+  so-far-none = record { few = omega arith; long = refl; stored = record { bytes = []; small = refl; whole = refl; same = refl } }
 
   -- the next part, of which there are as many bytes as asked for
   pub so-far-more : (words : List ℕ) (seen : ℕ) → SoFar count words₀ words seen → seen < count
-      → (part words′ : List ℕ) (n : ℕ) → n ≡ 4 * min (count - seen) 1024 → n ≡ length part → words′ ≡ sets words seen (wordsIn part)
+      → (part words′ : List ℕ) (n : ℕ) → n ≡ 4 * min (count - seen) 1024 → n ≡ length part → words′ ≡ sets words seen (wordsIn part) → areBytes part ≡ true
       → SoFar count words₀ words′ (seen + n / 4)
-  so-far-more words seen s h part words′ n e l q =
+  so-far-more words seen s h part words′ n e l q b =
       let t = s .stored in
       record {
         few = omega arith;
         long = ap length q ∙ length-sets words seen (wordsIn part) ∙ s .long;
         stored = record {
           bytes = t .bytes ++ part;
+          small = all-append (λ x. ltb x 256) (t .bytes) part (t .small) b;
           whole = length-append (t .bytes) part ∙ (let w = t .whole in omega arith);
           same = q ∙ ap (λ (ws : List ℕ). sets ws seen (wordsIn part)) (t .same) ∙ kept-parts (t .bytes) part seen (t .whole) words₀;
         };

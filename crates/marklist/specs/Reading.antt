@@ -6,11 +6,12 @@ use mathlib.Core.Bool.{Bool, true}
 use mathlib.Core.List.{List, _++_}
 use lib.ListN.{length, drop}
 use lib.Seq.{sets}
-use Rattle.report.specs.Input.{wordsIn, programOutput}
+use Rattle.report.specs.Input.{areBytes, wordsIn, programOutput}
 
 -- some bytes of `count` words, and a slice into which their words were stored, as far as it reaches
 pub record Stored (count : ℕ) (before after : List ℕ) : Type 0 where
   pub bytes : List ℕ
+  pub small : areBytes bytes ≡ true
   pub whole : length bytes ≡ 4 * count
   pub same : after ≡ sets before 0 (wordsIn bytes)
 
@@ -21,5 +22,6 @@ ReadAll complete count before after r = r ≡ true → (complete ≡ true) × St
 -- the slice begins with the output of some input, and the answer is its length
 pub record Printed (before after : List ℕ) (r : ℕ) : Type 0 where
   pub input : List ℕ
+  pub small : areBytes input ≡ true
   pub long : r ≡ length (programOutput input)
   pub same : after ≡ programOutput input ++ drop r before

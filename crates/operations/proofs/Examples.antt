@@ -172,6 +172,11 @@ rows =
     (a ∷ b ∷ f ∷ a ∷ g ∷ h ∷ f ∷ 1 ∷ 2 ∷ 3 ∷ [])
     (34636297 ∷ 69272594 ∷ 0 ∷ 34636297 ∷ 0 ∷ 0 ∷ 0 ∷ 7 ∷ 7 ∷ 7 ∷ [])
     []
+    -- a false mark behind the element, at one that is no ancestor, stays
+    ∷ inSource (set marks 3 0) 0 (b ∷ []) (accepted (7 ∷ 3 ∷ []))
+    (b ∷ b ∷ f ∷ d ∷ g ∷ h ∷ f ∷ 1 ∷ 2 ∷ 3 ∷ [])
+    (69272594 ∷ 69272594 ∷ 0 ∷ 0 ∷ 25983424 ∷ 0 ∷ 0 ∷ 7 ∷ 7 ∷ 7 ∷ [])
+    (4 ∷ [])
     -- false marks above the ancestor that comes out unchanged stay
     ∷ inSource (set marks 6 5) 4 (d ∷ []) (accepted (6 ∷ 2 ∷ []))
     (a ∷ b ∷ f ∷ d ∷ h ∷ f ∷ 0 ∷ 1 ∷ 2 ∷ 3 ∷ [])
@@ -264,7 +269,7 @@ examples = (
                                                   record { answers = refl; chapterLeft = refl; marksLeft = refl; lists = refl },
                                                   (
                                                     record { answers = refl; chapterLeft = refl; marksLeft = refl; lists = refl },
-                                                    tt,
+                                                    (record { answers = refl; chapterLeft = refl; marksLeft = refl; lists = refl }, tt),
                                                   ),
                                                 ),
                                               ),

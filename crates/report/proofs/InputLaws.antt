@@ -1,6 +1,7 @@
 -- Laws of words in bytes, and of the loop that keeps them as far as a slice reaches. Assumes nothing.
 use mathlib.Core.Path.{_≡_, refl, ap, ap₂, _∙_, sym}
 use mathlib.Core.List.{List, [], _∷_}
+use mathlib.Core.Bool.{true}
 use Prim.Native.Nat.{ℕ, suc, _+_, _*_, _-_, _/_, _<_, _≤_, min}
 use native.Mathlib.Omega.{arith}
 use native.Mathlib.Nat.{zero-add}
@@ -8,10 +9,17 @@ use native.Mathlib.Numerals.{add-one}
 use native.Mathlib.Decide.{decLe}
 use lib.ListN.{length, getD, take, drop, set, length-set, take-append-drop}
 use lib.Seq.{sets, length-sets, set-out, take-suc, take-all, length-take-le}
+use lib.Dec.{ltb}
+use borrow.Author.Tests.{lt-ltb}
 use Rattle.words.proofs.ListLaws.{sets-append, length-listFrom, getD-listFrom}
-use Rattle.report.specs.Input.{wordAt, wordsIn}
+use Rattle.words.proofs.TestLaws.{true-and}
+use Rattle.report.specs.Input.{areBytes, wordAt, wordsIn}
 
 -- ---- words in bytes
+
+pub bytes-are : (l : List ℕ) → ((i : ℕ) → getD l i 0 < 256) → areBytes l ≡ true
+bytes-are [] h = refl
+bytes-are (b ∷ bs) h = true-and (ltb b 256) (areBytes bs) (lt-ltb b 256 (h 0)) (bytes-are bs (λ i. h (suc i)))
 
 pub length-wordsIn : (bytes : List ℕ) → length (wordsIn bytes) ≡ length bytes / 4
 unfolding wordsIn

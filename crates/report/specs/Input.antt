@@ -3,9 +3,13 @@ use Prim.Native.Nat.{ℕ, _+_, _*_, _/_}
 use mathlib.Core.List.{List}
 use mathlib.Core.Bool.{Bool}
 use lib.ListN.{length, getD, take, drop}
-use lib.Dec.{leb}
-use Rattle.words.specs.Lists.{listFrom}
+use lib.Dec.{leb, ltb}
+use Rattle.words.specs.Lists.{all, listFrom}
 use Rattle.report.specs.Output.{outputOf}
+
+-- bytes are numbers below 256
+abbrev pub areBytes : List ℕ → Bool
+areBytes bytes = all (λ b. ltb b 256) bytes
 
 -- word i: "four bytes each, low byte first"
 unfoldable pub wordAt : List ℕ → ℕ → ℕ

@@ -3,7 +3,8 @@ ghost use mathlib.Core.Path.{_≡_};
 ghost use Prim.Native.Nat.{_+_, _*_, _≤_, min};
 ghost use lib.ListN.{length};
 ghost use lib.Seq.{sets};
-ghost use Rattle.report.specs.Input.{wordAt, wordsIn};
+ghost use mathlib.Core.Bool.{true};
+ghost use Rattle.report.specs.Input.{areBytes, wordAt, wordsIn};
 
 // The bytes of a word.
 pub const WORD_BYTES: usize = 4;
@@ -34,9 +35,11 @@ fn least(a: usize, b: usize) -> usize
     if a < b { a } else { b }
 }
 
-// Writes the words of the bytes to the places from index `at` on, as far as the slice reaches; the others are left out.
+// Writes the words of the bytes to the places from index `at` on, as far as the slice reaches; the others are left out. That
+// the bytes are below 256 says their type; callers take it from here.
 pub fn keep_words(words: &mut [u32], at: usize, bytes: &[u8])
-    ensures { λ _. ⌜ now (words .exit) ≡ sets (now (words .entry)) at (wordsIn (now (bytes .entry))) ⌝ }
+    ensures words { λ _. ⌜ now (words .exit) ≡ sets (now (words .entry)) at (wordsIn (now (bytes .entry))) ⌝ }
+    ensures bytes { λ _. ⌜ areBytes (now (bytes .entry)) ≡ true ⌝ }
 {
     if at < words.len() {
         let count = least(bytes.len() / WORD_BYTES, words.len() - at);

@@ -67,7 +67,7 @@ loop-again c =
     let call = c .before .before in
     let read = c .before .before .before .before .before .before .before in
     so-far-more _ _ _ _ (c .before .before .before .before .before .before .before .before .before .before .before .before .loop .inv) (c .before .before .before .before .before .before .before .before .before .before .before .loop-test .taken) _ _ _ (c .before .before .before .before .before .before .before .before .before .before .part-bytes .ensures)
-    (part-long (c .before .before .before .before .before .before .before .before .before .buffer .result) (read .read-full .last .1 .0) _ (omega arith) (read .read-full .kept .1 .0)) (call .keep-words .ensures)
+    (part-long (c .before .before .before .before .before .before .before .before .before .buffer .result) (read .read-full .last .1 .0) _ (omega arith) (read .read-full .kept .1 .0)) (call .keep-words .ensures .0) (call .keep-words .ensures .1)
 
 same-length-2 : tie.Need-same-length-2 Inv-loop μ-loop
 same-length-2 c = c .before .loop .inv .long

@@ -2,9 +2,10 @@
 -- Assumes nothing.
 use Prim.Native.Nat.{_-_}
 use mathlib.Core.Path.{sym}
+use native.Mathlib.Omega.{arith}
 use borrow.Author.Needs.{needs}
 use Rattle.report.specs.Input.{wordsIn}
-use Rattle.report.proofs.InputLaws.{Keeping, keeping-none, keeping-inside, keeping-more, keeping-end, sets-past}
+use Rattle.report.proofs.InputLaws.{bytes-are, Keeping, keeping-none, keeping-inside, keeping-more, keeping-end, sets-past}
 use Rattle.report.proofs.input.keep_words.Statement.{statement}
 use Rattle.report.proofs.input.keep_words.Tie as tie
 
@@ -52,10 +53,16 @@ same-length c = c .before .loop .inv .long
 returns : tie.Need-returns Inv-loop μ-loop
 returns c =
     let loop = c .before in
-    keeping-end _ _ _ _ _ _ (loop .loop .inv) (c .loop-test .left) (loop .before .before .if1 .taken) (loop .before .least .ensures)
+    let start = loop .before .before .before in (
+      keeping-end _ _ _ _ _ _ (loop .loop .inv) (c .loop-test .left) (loop .before .before .if1 .taken) (loop .before .least .ensures),
+      bytes-are (start .before .before .args .bytes .now) (λ i. omega (arith, start .shared-slice-known .given i)),
+    )
 
 returns-2 : tie.Need-returns-2 Inv-loop μ-loop
-returns-2 c = sym (sets-past (wordsIn (c .before .before .before .args .bytes .now)) _ _ (c .if1 .left))
+returns-2 c = (
+  sym (sets-past (wordsIn (c .before .before .before .args .bytes .now)) _ _ (c .if1 .left)),
+  bytes-are (c .before .before .before .args .bytes .now) (λ i. omega (arith, c .before .shared-slice-known .given i)),
+)
 
 pub keep-words-spec : {M : Type 1} → statement M
 keep-words-spec =

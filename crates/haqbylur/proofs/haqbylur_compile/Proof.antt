@@ -1,10 +1,10 @@
 -- `haqbylur_compile` meets its contract: it hands on what Compile answers and leaves, and each value fits 32 bits. Assumes nothing.
 use native.Mathlib.Omega.{arith}
-use Rattle.exports.proofs.StatusLaws.{compiled-table, compiled-refused}
-use Rattle.exports.proofs.ValueLaws.{compile-small}
+use Rattle.haqbylur.proofs.StatusLaws.{compiled-table, compiled-refused}
+use Rattle.haqbylur.proofs.ValueLaws.{compile-small}
 use borrow.Author.Needs.{needs}
-use Rattle.exports.proofs.haqbylur_compile.Statement.{statement}
-use Rattle.exports.proofs.haqbylur_compile.Tie as tie
+use Rattle.haqbylur.proofs.haqbylur_compile.Statement.{statement}
+use Rattle.haqbylur.proofs.haqbylur_compile.Tie as tie
 
 compile-requires : tie.Need-compile-requires
 compile-requires c κs = tt

@@ -1,10 +1,10 @@
 -- `haqbylur_list` meets its contract: it hands on what List answers and leaves, and each value fits 32 bits. Assumes nothing.
-use Rattle.exports.proofs.StatusLaws.{listed-matches, listed-refused}
-use Rattle.exports.proofs.ValueLaws.{list-small}
+use Rattle.haqbylur.proofs.StatusLaws.{listed-matches, listed-refused}
+use Rattle.haqbylur.proofs.ValueLaws.{list-small}
 use native.Mathlib.Omega.{arith}
 use borrow.Author.Needs.{needs}
-use Rattle.exports.proofs.haqbylur_list.Statement.{statement}
-use Rattle.exports.proofs.haqbylur_list.Tie as tie
+use Rattle.haqbylur.proofs.haqbylur_list.Statement.{statement}
+use Rattle.haqbylur.proofs.haqbylur_list.Tie as tie
 
 list-requires : tie.Need-list-requires
 list-requires c κs = tt

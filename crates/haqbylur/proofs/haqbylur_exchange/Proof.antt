@@ -1,10 +1,10 @@
 -- `haqbylur_exchange` meets its contract: it hands on what Exchange answers and leaves, and each value fits 32 bits. Assumes nothing.
-use Rattle.exports.proofs.StatusLaws.{exchanged-replaced, exchanged-refused}
-use Rattle.exports.proofs.ValueLaws.{exchange-small}
+use Rattle.haqbylur.proofs.StatusLaws.{exchanged-replaced, exchanged-refused}
+use Rattle.haqbylur.proofs.ValueLaws.{exchange-small}
 use native.Mathlib.Omega.{arith}
 use borrow.Author.Needs.{needs}
-use Rattle.exports.proofs.haqbylur_exchange.Statement.{statement}
-use Rattle.exports.proofs.haqbylur_exchange.Tie as tie
+use Rattle.haqbylur.proofs.haqbylur_exchange.Statement.{statement}
+use Rattle.haqbylur.proofs.haqbylur_exchange.Tie as tie
 
 exchange-requires : tie.Need-exchange-requires
 exchange-requires c κs = tt

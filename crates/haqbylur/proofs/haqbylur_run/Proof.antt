@@ -1,10 +1,10 @@
 -- `haqbylur_run` meets its contract: it hands on what Run answers and leaves, and each value fits 32 bits. Assumes nothing.
-use Rattle.exports.proofs.StatusLaws.{ran-marked, ran-refused}
-use Rattle.exports.proofs.ValueLaws.{run-small}
+use Rattle.haqbylur.proofs.StatusLaws.{ran-marked, ran-refused}
+use Rattle.haqbylur.proofs.ValueLaws.{run-small}
 use native.Mathlib.Omega.{arith}
 use borrow.Author.Needs.{needs}
-use Rattle.exports.proofs.haqbylur_run.Statement.{statement}
-use Rattle.exports.proofs.haqbylur_run.Tie as tie
+use Rattle.haqbylur.proofs.haqbylur_run.Statement.{statement}
+use Rattle.haqbylur.proofs.haqbylur_run.Tie as tie
 
 run-requires : tie.Need-run-requires
 run-requires c κs = tt

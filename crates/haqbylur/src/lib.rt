@@ -6,7 +6,7 @@ ghost use Rattle.operations.specs.Compile.{compileAnswer, compileExit};
 ghost use Rattle.operations.specs.Run.{runAnswer, runExit};
 ghost use Rattle.operations.specs.Listing.{listAnswer, listExit};
 ghost use Rattle.operations.specs.Exchange.{exchangeAnswer, exchangeChapter, exchangeMarks};
-ghost use Rattle.exports.specs.Status.{statusOf, valueOr};
+ghost use Rattle.haqbylur.specs.Status.{statusOf, valueOr};
 use compiler::Compiled;
 use compiler::compile;
 use exchanger::Exchanged;

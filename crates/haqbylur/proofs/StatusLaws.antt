@@ -15,7 +15,7 @@ use Rattle.matcher.specs.Answers.{answerInRan, answerInListed}
 use Rattle.exchanger.specs.declared.Exchanged.{Exchanged}
 use Rattle.exchanger.specs.declared.Exchanged.the-variants.{Replaced, Refused as Exchanged·Refused}
 use Rattle.exchanger.specs.Answers.{answerIn as answerInExchanged}
-use Rattle.exports.specs.Status.{statusOf, valueOr}
+use Rattle.haqbylur.specs.Status.{statusOf, valueOr}
 
 module _ {X : Answer} {s s′ : List ℕ} where
   -- ---- Compile

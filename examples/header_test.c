@@ -1,0 +1,16 @@
+/* What the header's constants and macros have to be. ./check compiles this file; a false line is an array of length -1. */
+#include "haqbylur.h"
+
+#define HOLDS(name, fact) typedef char name[(fact) ? 1 : -1]
+
+HOLDS(most_words, HAQBYLUR_MARK_WORDS(HAQBYLUR_MOST_ELEMENTS, HAQBYLUR_MOST_STATES) == 131072);
+HOLDS(one_state, HAQBYLUR_MARK_WORDS(7, 1) == 7);
+HOLDS(one_word, HAQBYLUR_MARK_WORDS(7, 32) == 7);
+HOLDS(two_words, HAQBYLUR_MARK_WORDS(7, 33) == 14);
+/* arguments and results that stand beside other operators */
+HOLDS(sums, HAQBYLUR_MARK_WORDS(1 + 1, 32 | 1) == 4);
+HOLDS(divided, 56 / HAQBYLUR_MARK_WORDS(7, 33) == 4);
+HOLDS(unsigned_size, HAQBYLUR_MARK_WORDS(0, 0) - 1 > 0);
+/* the head of the source's table, and the largest */
+HOLDS(source, HAQBYLUR_STATE_COUNT(0x80007418) == 29);
+HOLDS(most, HAQBYLUR_STATE_COUNT(0x80000000 | 0x100000 | 0x3ff) == HAQBYLUR_MOST_STATES);

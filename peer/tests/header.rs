@@ -1,0 +1,52 @@
+//! The constants of the C header beside the limits and the numbers that the model has from document 01.
+
+use peer::call::Operation;
+use peer::refusals;
+use peer::words;
+use std::collections::BTreeMap;
+
+const HEADER: &str = include_str!("../../include/haqbylur.h");
+
+/// The constants whose name begins with HAQBYLUR_, without that prefix, with their values.
+fn constants() -> BTreeMap<&'static str, usize> {
+    let constant = |line: &'static str| {
+        let (name, value) = line.strip_prefix("#define HAQBYLUR_")?.split_once(' ')?;
+        let digits = value.split('u').next()?;
+        Some((name, digits.parse().ok()?))
+    };
+    HEADER.lines().filter_map(constant).collect()
+}
+
+#[test]
+fn a_limit_of_the_header_is_not_document_01s() {
+    let limits = [
+        ("MOST_SYMBOLS", words::SYMBOL_LIMIT),
+        ("MOST_CONSTANTS", words::CONSTANT_LIMIT),
+        ("MOST_RANK", words::ARITY_LIMIT),
+        ("MOST_RULE_WORDS", words::EXPRESSION_LIMIT),
+        ("MOST_STATES", words::STATE_LIMIT),
+        ("MOST_TABLE_WORDS", words::TABLE_LIMIT),
+        ("MOST_COMPILED_WORDS", 1147),
+        ("MOST_ELEMENTS", words::NODE_LIMIT),
+    ];
+    let mut stated = constants();
+    stated.retain(|name, _| name.starts_with("MOST_"));
+    assert_eq!(stated, BTreeMap::from(limits));
+}
+
+#[test]
+fn a_refusal_number_has_no_name_or_two() {
+    let mut stated = constants();
+    stated.retain(|name, _| !name.starts_with("MOST_"));
+    let mut values: Vec<usize> = stated.into_values().collect();
+    values.sort_unstable();
+    let operations = Operation::ALL.iter();
+    let mut numbers: Vec<usize> = operations
+        .flat_map(|operation| refusals::numbers(*operation))
+        .map(|number| *number as usize)
+        .chain([0])
+        .collect();
+    numbers.sort_unstable();
+    numbers.dedup();
+    assert_eq!(values, numbers);
+}

@@ -1,0 +1,155 @@
+/* How much stack each C function takes: it is called on a painted stack with the largest rule (1,024 states, 1,147 table
+ * words) and a chapter of 4,093 elements, and with the source's rule. Printed are the bytes below the caller's frame that
+ * were written, the return address included. What is measured is this build on this machine: no theorem bounds a stack.
+ *
+ *   rt staticlib haqbylur
+ *   gcc -O2 -Iinclude tools/stack.c target/staticlib/libhaqbylur.a -lpthread -o target/stack && target/stack */
+#include <pthread.h>
+#include <stdio.h>
+#include <stdlib.h>
+#include <string.h>
+#include <sys/mman.h>
+
+#include "haqbylur.h"
+
+#define STACK_BYTES ((size_t)1 << 20)
+#define PAINT 0xa5
+/* Left unpainted below the caller's frame, whose own bytes are among these. */
+#define GAP 256
+
+static uint32_t alphabet[HAQBYLUR_MOST_SYMBOLS], rule[HAQBYLUR_MOST_RULE_WORDS], table[HAQBYLUR_MOST_COMPILED_WORDS];
+static uint32_t chapter[HAQBYLUR_MOST_ELEMENTS], list[HAQBYLUR_MOST_ELEMENTS];
+static uint32_t marks[HAQBYLUR_MARK_WORDS(HAQBYLUR_MOST_ELEMENTS, HAQBYLUR_MOST_STATES)];
+static size_t symbols, rule_words, chapter_words;
+static uint32_t words, elements, cells, hits, worked_out, status;
+static size_t exchanged;
+static uint32_t replacement[5];
+static size_t replacement_words;
+
+static void compile(void)
+{
+    status = haqbylur_compile(alphabet, symbols, rule, rule_words, table, HAQBYLUR_MOST_COMPILED_WORDS, &words);
+}
+
+static void run(void)
+{
+    status = haqbylur_run(alphabet, symbols, table, words, chapter, chapter_words, marks,
+                          sizeof marks / sizeof marks[0], &elements, &cells);
+}
+
+static void list_hits(void)
+{
+    status = haqbylur_list(alphabet, symbols, table, words, elements, marks, sizeof marks / sizeof marks[0], list,
+                           HAQBYLUR_MOST_ELEMENTS, &hits);
+}
+
+static void exchange(void)
+{
+    status = haqbylur_exchange(alphabet, symbols, table, words, chapter, HAQBYLUR_MOST_ELEMENTS, elements, marks,
+                               sizeof marks / sizeof marks[0], exchanged, replacement, replacement_words, &elements,
+                               &worked_out);
+}
+
+static unsigned char *stack;
+static void (*call)(void);
+static unsigned char *caller;
+
+__attribute__((noinline)) static void *on_stack(void *unused)
+{
+    (void)unused;
+    caller = (unsigned char *)__builtin_frame_address(0);
+    /* By a loop, since a call would write there. */
+    for (volatile unsigned char *at = stack; at < caller - GAP; at++)
+        *at = PAINT;
+    call();
+    return NULL;
+}
+
+static void measure(const char *name, void (*function)(void))
+{
+    pthread_attr_t attributes;
+    pthread_t thread;
+    call = function;
+    if (pthread_attr_init(&attributes) != 0 || pthread_attr_setstack(&attributes, stack, STACK_BYTES) != 0 ||
+        pthread_create(&thread, &attributes, on_stack, NULL) != 0 || pthread_join(thread, NULL) != 0)
+        exit(2);
+    size_t lowest = 0;
+    while (stack + lowest < caller && stack[lowest] == PAINT)
+        lowest++;
+    size_t used = (size_t)(caller - stack) - lowest;
+    printf("  %-8s %s%zu bytes\n", name, used <= GAP ? "at most " : "", used);
+    if (status != HAQBYLUR_ACCEPTED)
+        exit(1);
+}
+
+static void measure_all(const char *name)
+{
+    printf("%s\n", name);
+    measure("compile", compile);
+    measure("run", run);
+    measure("list", list_hits);
+    measure("exchange", exchange);
+    printf("  states %u, table words %u, elements %u, worked out %u\n", (unsigned)HAQBYLUR_STATE_COUNT(table[0]),
+           (unsigned)words, (unsigned)elements, (unsigned)worked_out);
+}
+
+/* A symbol of rank 4 over 4 constants under 59 closures, over 16 constants. */
+static void take_largest(void)
+{
+    symbols = 17;
+    for (size_t i = 0; i < 16; i++)
+        alphabet[i] = 0x10000000;
+    alphabet[16] = 0x10000004;
+    rule_words = 64;
+    for (uint32_t i = 0; i < 4; i++)
+        rule[i] = 0x20000000 | i;
+    rule[4] = 0x20000000 | 16;
+    for (uint32_t i = 0; i < 59; i++)
+        rule[5 + i] = 0x60000000 | (7 * i) % 16;
+    /* one element over four constants, and then each over the one before and three constants */
+    chapter_words = 0;
+    chapter[chapter_words++] = 0x70000000;
+    while (chapter_words + 4 <= HAQBYLUR_MOST_ELEMENTS) {
+        for (uint32_t i = 1; i < 4; i++)
+            chapter[chapter_words++] = 0x70000000 | i;
+        chapter[chapter_words++] = 0x70000000 | 16;
+    }
+    exchanged = 0;
+    replacement_words = 5;
+    for (uint32_t i = 0; i < 4; i++)
+        replacement[i] = 0x70000000 | (3 - i);
+    replacement[4] = 0x70000000 | 16;
+    /* room for four elements more */
+    chapter_words -= 4;
+}
+
+static void take_source(void)
+{
+    static const uint32_t ranks[] = {0, 0, 0, 0, 2, 1, 1};
+    static const uint32_t words_of_rule[] = {0x20000000, 0x20000001, 0x20000004, 0x20000002, 0x20000005,
+                                             0x20000003, 0x50000002, 0x40000000, 0x60000003};
+    static const uint32_t words_of_chapter[] = {0x70000000, 0x70000001, 0x70000004, 0x70000003,
+                                                0x70000005, 0x70000006, 0x70000004};
+    symbols = 7;
+    for (size_t i = 0; i < symbols; i++)
+        alphabet[i] = 0x10000000 | ranks[i];
+    rule_words = 9;
+    memcpy(rule, words_of_rule, sizeof words_of_rule);
+    chapter_words = 7;
+    memcpy(chapter, words_of_chapter, sizeof words_of_chapter);
+    exchanged = 4;
+    replacement_words = 1;
+    replacement[0] = 0x70000003;
+}
+
+int main(void)
+{
+    stack = mmap(NULL, STACK_BYTES, PROT_READ | PROT_WRITE, MAP_PRIVATE | MAP_ANONYMOUS, -1, 0);
+    if (stack == MAP_FAILED)
+        return 2;
+    take_largest();
+    measure_all("largest rule");
+    take_source();
+    measure_all("the source's rule");
+    return 0;
+}

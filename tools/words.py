@@ -1,0 +1,393 @@
+#!/usr/bin/env python3
+"""Inputs of marklist as text.
+
+    words.py make [TEXT]            the text as marklist's input, on standard output
+    words.py show [INPUT] [NAMES]   an input as text; NAMES is a text from whose alphabet the symbols take their names
+    words.py hits INPUT OUTPUT [NAMES]   what marklist printed of the input, with each hit's subtree beside it
+
+A file that is left out, or `-`, is standard input. docs/BENCH.md describes the text. What `show` prints, `make` turns back
+into the very same bytes, whatever they are.
+"""
+
+import re
+import struct
+import sys
+
+ENTRY, SYMBOL, EMPTY, UNION, PRODUCT, CLOSURE, ELEMENT = range(1, 8)
+SECTIONS = ("alphabet", "rule", "chapter")
+NAME = r"[A-Za-z][A-Za-z0-9_]*"
+
+
+class Wrong(Exception):
+    """A text that is no input, or a run of words that is no tree."""
+
+
+def word(kind, field=0):
+    return kind << 28 | field
+
+
+class Alphabet:
+    """Names and ranks of the symbols, by symbol number."""
+
+    def __init__(self, names, ranks):
+        self.names, self.ranks = names, ranks
+        self.numbers = {name: number for number, name in enumerate(names)}
+        if len(self.numbers) < len(names):
+            raise Wrong("a name stands twice in the alphabet")
+
+    @staticmethod
+    def of_words(words, names=None):
+        for w in words:
+            if w >> 28 != ENTRY or w != word(ENTRY, w & 0xFF) or w & 0xFF > 4:
+                raise Wrong("no alphabet entry: 0x%08x" % w)
+        names = names or ["s%d" % i for i in range(len(words))]
+        if len(names) != len(words):
+            raise Wrong("the names are those of %d symbols, the input has %d" % (len(names), len(words)))
+        return Alphabet(names, [w & 0xFF for w in words])
+
+    def words(self):
+        return [word(ENTRY, rank) for rank in self.ranks]
+
+    def number(self, name):
+        if name not in self.numbers:
+            raise Wrong("no such symbol: " + name)
+        return self.numbers[name]
+
+    def constant(self, name):
+        number = self.number(name)
+        if self.ranks[number] != 0:
+            raise Wrong("no constant: " + name)
+        return number
+
+
+# Reading: each reader takes the tokens that it needs from the front of the list.
+
+def tokens_of(text, pattern):
+    found = re.findall(r"\s+|" + pattern + r"|.", text, re.S)
+    return [token for token in found if not token.isspace()] + [""]
+
+
+def take(tokens, token):
+    if tokens[0] != token:
+        raise Wrong("%s stands where %s is due" % (tokens[0] or "the end", token or "the end"))
+    tokens.pop(0)
+
+
+def parts_of(alphabet, name, tokens, reader):
+    """The words of a symbol's parts, in brackets with commas; none where its rank is 0."""
+    rank = alphabet.ranks[alphabet.number(name)]
+    words = []
+    for i in range(rank):
+        take(tokens, "," if i else "(")
+        words += reader(alphabet, tokens)
+    if rank:
+        take(tokens, ")")
+    return words
+
+
+def read_sum(alphabet, tokens):
+    words = read_product(alphabet, tokens)
+    while tokens[0] == "+":
+        tokens.pop(0)
+        words += read_product(alphabet, tokens) + [word(UNION)]
+    return words
+
+
+def read_product(alphabet, tokens):
+    words = read_term(alphabet, tokens)
+    while tokens[0].startswith(".") and len(tokens[0]) > 1:
+        c = alphabet.constant(tokens.pop(0)[1:-1].strip())
+        words += read_term(alphabet, tokens) + [word(PRODUCT, c)]
+    return words
+
+
+def read_term(alphabet, tokens):
+    first = tokens.pop(0)
+    if first == "(":
+        words = read_sum(alphabet, tokens)
+        take(tokens, ")")
+    elif first == "_":
+        words = [word(EMPTY)]
+    elif re.fullmatch(NAME, first):
+        words = parts_of(alphabet, first, tokens, read_sum) + [word(SYMBOL, alphabet.number(first))]
+    else:
+        raise Wrong("%s stands where a rule is due" % (first or "the end"))
+    while tokens[0].startswith("*") and len(tokens[0]) > 1:
+        words.append(word(CLOSURE, alphabet.constant(tokens.pop(0)[1:].strip())))
+    return words
+
+
+def read_rule(alphabet, text):
+    tokens = tokens_of(text, r"\.\s*%s\s*:|\*\s*%s|%s" % (NAME, NAME, NAME))
+    words = read_sum(alphabet, tokens)
+    take(tokens, "")
+    return words
+
+
+def read_tree(alphabet, tokens):
+    name = tokens.pop(0)
+    if not re.fullmatch(NAME, name):
+        raise Wrong("%s stands where an element is due" % (name or "the end"))
+    return parts_of(alphabet, name, tokens, read_tree) + [word(ELEMENT, alphabet.number(name))]
+
+
+def read_chapter(alphabet, text):
+    if re.match(r"\s*\d", text):
+        return read_numbered(alphabet, text)
+    tokens = tokens_of(text, NAME)
+    words = read_tree(alphabet, tokens)
+    take(tokens, "")
+    return words
+
+
+def read_numbered(alphabet, text):
+    """Elements with their numbers, and with their parts' numbers in brackets: `2: f(0,1)`."""
+    words, roots = [], []
+    for line in filter(str.strip, text.split("\n")):
+        found = re.fullmatch(r"\s*(\d+)\s*:\s*(%s)\s*(?:\(([\d\s,]*)\))?\s*" % NAME, line)
+        if not found:
+            raise Wrong("no numbered element: " + line.strip())
+        number, name = int(found[1]), found[2]
+        parts = [int(part) for part in (found[3] or "").split(",") if part.strip()]
+        rank = alphabet.ranks[alphabet.number(name)]
+        due = roots[len(roots) - rank:]
+        if number != len(words) or rank > len(roots) or parts != due:
+            raise Wrong("%s: element %d with the parts %s is due" % (line.strip(), len(words), due))
+        roots[len(roots) - rank:] = [number]
+        words.append(word(ELEMENT, alphabet.number(name)))
+    if len(roots) != 1:
+        raise Wrong("%d elements are in no other, and not one" % len(roots))
+    return words
+
+
+def read_words(text):
+    words = [int(token, 16) for token in text.split()]
+    if any(w >> 32 for w in words):
+        raise Wrong("a word is over 32 bits")
+    return words
+
+
+def read_alphabet(text):
+    items = [re.fullmatch(r"(%s)/([0-4])" % NAME, item) for item in text.split()]
+    if not items or not all(items):
+        raise Wrong("the alphabet is NAME/RANK, with ranks 0 to 4, or words 0x..")
+    return Alphabet([item[1] for item in items], [int(item[2]) for item in items])
+
+
+def sections_of(text):
+    """The text of each section. A section begins with its name and a colon; a line that begins with a space continues it."""
+    sections, last = {}, None
+    for number, line in enumerate(text.split("\n"), 1):
+        line = line.split("#")[0].rstrip()
+        found = re.match(r"(\w+):(.*)", line)
+        if found and found[1] in SECTIONS + ("counts", "bytes"):
+            last = found[1]
+            if last in sections:
+                raise Wrong("line %d: %s stands twice" % (number, last))
+            sections[last] = found[2]
+        elif line and (last is None or not line[0].isspace()):
+            raise Wrong("line %d: no section begins here: %s" % (number, line))
+        elif line:
+            sections[last] += "\n" + line
+    return sections
+
+
+def is_words(text):
+    return re.match(r"\s*(0x|$)", text) is not None
+
+
+def make(text):
+    """The input's bytes."""
+    sections = sections_of(text)
+    missing = [name for name in SECTIONS if name not in sections]
+    if missing and "counts" not in sections and "bytes" not in sections:
+        raise Wrong("no line `%s:`" % missing[0])
+    alphabet, words = None, {}
+    for name, read in zip(SECTIONS, (None, read_rule, read_chapter)):
+        section = sections.get(name, "")
+        try:
+            if is_words(section):
+                words[name] = read_words(section)
+                if name == "alphabet" and not all(is_words(sections.get(other, "")) for other in SECTIONS):
+                    alphabet = Alphabet.of_words(words[name])
+            elif name == "alphabet":
+                alphabet = read_alphabet(section)
+                words[name] = alphabet.words()
+            else:
+                words[name] = read(alphabet, section)
+        except (Wrong, ValueError) as error:
+            raise Wrong("%s: %s" % (name, error))
+    counts = [len(words[name]) for name in SECTIONS]
+    if "counts" in sections:
+        counts = [int(count) for count in sections["counts"].split()]
+    elif "bytes" in sections and missing:
+        counts = []
+    numbers = counts + [w for name in SECTIONS for w in words[name]]
+    return struct.pack("<%dI" % len(numbers), *numbers) + bytes.fromhex(sections.get("bytes", ""))
+
+
+# Writing.
+
+def operands(alphabet, w):
+    """How many parts a rule word or an element takes."""
+    kind, field = w >> 28, w & 0xFF
+    if kind in (SYMBOL, ELEMENT):
+        if w != word(kind, field) or field >= len(alphabet.ranks):
+            raise Wrong("0x%08x" % w)
+        return alphabet.ranks[field]
+    if kind in (PRODUCT, CLOSURE):
+        if w != word(kind, field) or field >= len(alphabet.ranks) or alphabet.ranks[field] != 0:
+            raise Wrong("0x%08x" % w)
+        return 2 if kind == PRODUCT else 1
+    if w not in (word(EMPTY), word(UNION)):
+        raise Wrong("0x%08x" % w)
+    return 2 if kind == UNION else 0
+
+
+def fold(alphabet, words, kinds, write):
+    """Reads postfix words with a stack; `write` gets each word's index and what stands for its parts."""
+    stack = []
+    for i, w in enumerate(words):
+        count = operands(alphabet, w)
+        if w >> 28 not in kinds or count > len(stack):
+            raise Wrong("0x%08x" % w)
+        parts = stack[len(stack) - count:]
+        stack[len(stack) - count:] = [write(i, parts)]
+    if len(stack) != 1:
+        raise Wrong("no single tree")
+    return stack[0]
+
+
+def show_rule(alphabet, words):
+    """With the fewest brackets. What stands for a part is its text and how tightly that binds: 0 union, 1 product, 2 closure."""
+    def at_least(binding, part):
+        return part[0] if part[1] >= binding else "(%s)" % part[0]
+
+    def write(i, parts):
+        kind = words[i] >> 28
+        if kind == EMPTY:
+            return "_", 2
+        if kind == UNION:
+            return "%s + %s" % (parts[0][0], at_least(1, parts[1])), 0
+        name = alphabet.names[words[i] & 0xFF]
+        if kind == PRODUCT:
+            return "%s .%s: %s" % (at_least(1, parts[0]), name, at_least(2, parts[1])), 1
+        if kind == CLOSURE:
+            return "%s*%s" % (at_least(2, parts[0]), name), 2
+        return name + ("(%s)" % ", ".join(part[0] for part in parts) if parts else ""), 2
+
+    return " " + fold(alphabet, words, (SYMBOL, EMPTY, UNION, PRODUCT, CLOSURE), write)[0]
+
+
+def show_chapter(alphabet, words):
+    lines = []
+
+    def write(i, parts):
+        name = alphabet.names[words[i] & 0xFF]
+        lines.append("\n  %d: %s" % (i, name) + ("(%s)" % ",".join(map(str, parts)) if parts else ""))
+        return i
+
+    fold(alphabet, words, (ELEMENT,), write)
+    return "".join(lines)
+
+
+def show_words(words):
+    return "".join(("\n  " if i % 6 == 0 and len(words) > 6 else " ") + "0x%08x" % w for i, w in enumerate(words))
+
+
+def split(data):
+    """Counts, the words of the three sections as far as they are present, and the bytes behind them."""
+    if len(data) < 12:
+        return None, [[], [], []], data
+    counts = struct.unpack("<3I", data[:12])
+    at, sections = 12, []
+    for count in counts:
+        present = min(count, (len(data) - at) // 4)
+        sections.append(list(struct.unpack("<%dI" % present, data[at:at + 4 * present])))
+        at += 4 * present
+    return counts, sections, data[at:]
+
+
+def show(data, names=None):
+    """The input as text."""
+    counts, sections, rest = split(data)
+    if counts is None:
+        return "bytes: %s\n" % rest.hex(" ")
+    whole = list(counts) == [len(words) for words in sections]
+    text = "" if whole else "# the input ends early\ncounts: %d %d %d\n" % counts
+    alphabet = None
+    try:
+        alphabet = Alphabet.of_words(sections[0], names)
+        shown = "".join(" %s/%d" % pair for pair in zip(alphabet.names, alphabet.ranks))
+    except Wrong:
+        if names:
+            raise
+        shown = show_words(sections[0])
+    text += "alphabet:%s\n" % shown
+    for name, words, write in zip(SECTIONS[1:], sections[1:], (show_rule, show_chapter)):
+        try:
+            if alphabet is None:
+                raise Wrong("no alphabet")
+            shown = write(alphabet, words)
+        except Wrong:
+            shown = show_words(words)
+        text += "%s:%s\n" % (name, shown)
+    if rest:
+        text += "# behind the last whole word\nbytes: %s\n" % rest.hex(" ")
+    return text
+
+
+def hits(data, output, names=None):
+    """Each line of the output that names a hit, with the hit's subtree behind it."""
+    sections = split(data)[1]
+    lines = output.split("\n")[:-1]
+    if not lines or not lines[0].startswith("nodes "):
+        return output
+    alphabet = Alphabet.of_words(sections[0], names)
+    trees = []
+
+    def write(i, parts):
+        name = alphabet.names[sections[2][i] & 0xFF]
+        trees.append(name + ("(%s)" % ", ".join(parts) if parts else ""))
+        return trees[-1]
+
+    fold(alphabet, sections[2], (ELEMENT,), write)
+    return "".join([lines[0] + "\n"] + ["%s  %s\n" % (line, trees[int(line.split()[0])]) for line in lines[1:]])
+
+
+def read_file(arguments, place):
+    if len(arguments) <= place or arguments[place] == "-":
+        return sys.stdin.buffer.read()
+    with open(arguments[place], "rb") as file:
+        return file.read()
+
+
+def names_in(arguments, place):
+    if len(arguments) <= place:
+        return None
+    return read_alphabet(sections_of(read_file(arguments, place).decode()).get("alphabet", "")).names
+
+
+def main(arguments):
+    command, rest = (arguments[:1] or [""])[0], arguments[1:]
+    try:
+        if command == "make" and len(rest) <= 1:
+            sys.stdout.buffer.write(make(read_file(rest, 0).decode()))
+        elif command == "show" and len(rest) <= 2:
+            sys.stdout.write(show(read_file(rest, 0), names_in(rest, 1)))
+        elif command == "hits" and 2 <= len(rest) <= 3:
+            sys.stdout.write(hits(read_file(rest, 0), read_file(rest, 1).decode(), names_in(rest, 2)))
+        else:
+            sys.stderr.write(__doc__)
+            return 2
+    except (Wrong, ValueError, OSError, struct.error) as error:
+        sys.stderr.write("words.py: %s\n" % error)
+        return 1
+    return 0
+
+
+# A chapter is read by a function that calls itself, and may be a comb of 4,096 elements.
+sys.setrecursionlimit(20000)
+
+if __name__ == "__main__":
+    sys.exit(main(sys.argv[1:]))

@@ -1,0 +1,142 @@
+#!/usr/bin/env python3
+"""Tests of words.py: what it makes of the source's example, and that what it shows is turned back into the same bytes."""
+
+import os
+import random
+import struct
+import unittest
+
+import words
+
+ROOT = os.path.dirname(os.path.dirname(os.path.abspath(__file__)))
+ALPHABET = "alphabet: a/0 b/0 c/0 d/0 f/2 g/1 h/1\n"
+with open(os.path.join(ROOT, "examples", "source.txt")) as example:
+    SOURCE = example.read()
+
+
+def rule_words(text):
+    return words.read_rule(words.read_alphabet("a/0 b/0 c/0 d/0 f/2 g/1 h/1"), text)
+
+
+def random_postfix(chance, ranks, kind, length):
+    """One tree of about this length: constants and symbols while trees are few, then whatever joins them."""
+    found, trees = [], 0
+    constants = [i for i, rank in enumerate(ranks) if rank == 0]
+    while len(found) < length or trees != 1:
+        fitting = [i for i, rank in enumerate(ranks) if 0 < rank <= trees]
+        if fitting and (len(found) >= length or chance.random() < 0.6):
+            symbol = chance.choice(fitting)
+        elif len(found) >= length + 40:
+            return None
+        else:
+            symbol = chance.choice(constants)
+        trees += 1 - ranks[symbol]
+        found.append(words.word(kind, symbol))
+    return found
+
+
+def random_rule(chance, depth):
+    shape = chance.randrange(9) if depth else chance.randrange(2)
+    part = lambda: random_rule(chance, depth - 1)
+    c = chance.randrange(4)
+    if shape == 0:
+        return [words.word(words.EMPTY)]
+    if shape == 1:
+        return [words.word(words.SYMBOL, c)]
+    if shape == 2:
+        return part() + part() + [words.word(words.SYMBOL, 4)]
+    if shape == 3:
+        return part() + [words.word(words.SYMBOL, 5)]
+    if shape in (4, 5):
+        return part() + part() + [words.word(words.UNION)]
+    if shape in (6, 7):
+        return part() + part() + [words.word(words.PRODUCT, c)]
+    return part() + [words.word(words.CLOSURE, c)]
+
+
+class Words(unittest.TestCase):
+    def same_again(self, data):
+        text = words.show(data)
+        self.assertEqual(words.make(text), data, text)
+
+    def test_source(self):
+        with open(os.path.join(ROOT, "crates", "marklist", "stdin"), "rb") as file:
+            self.assertEqual(words.make(SOURCE), file.read())
+
+    def test_numbered_chapter(self):
+        numbered = "chapter:\n 0: a\n 1: b\n 2: f(0,1)\n 3: d\n 4: g(3)\n 5: h(4)\n 6: f(2, 5)\n"
+        self.assertEqual(words.make(SOURCE.split("chapter")[0] + numbered), words.make(SOURCE))
+
+    def test_hexadecimal_words(self):
+        text = ALPHABET + "rule: 0x20000003\nchapter: 0x70000003 # d\n"
+        self.assertEqual(words.make(text), words.make(ALPHABET + "rule: d\nchapter: d\n"))
+
+    def test_how_tightly_a_rule_binds(self):
+        for text, bracketed in (
+            ("a + b + c", "(a + b) + c"),
+            ("a .c: b .d: c", "(a .c: b) .d: c"),
+            ("a + b .c: d*a", "a + (b .c: (d*a))"),
+            ("a*c*d", "(a*c)*d"),
+            ("f(a + b, _)*c", "(f((a + b), (_)))*c"),
+        ):
+            self.assertEqual(rule_words(text), rule_words(bracketed))
+        self.assertNotEqual(rule_words("a + (b + c)"), rule_words("a + b + c"))
+        self.assertNotEqual(rule_words("(a + b)*c"), rule_words("a + b*c"))
+
+    def test_wrong_texts(self):
+        for line in (
+            "rule: e\nchapter: d", "rule: f(a)\nchapter: d", "rule: a b\nchapter: d", "rule: a .g: b\nchapter: d",
+            "rule: a +\nchapter: d", "rule: (a\nchapter: d", "rule: a\nchapter: f(a)", "rule: a\nchapter: a + b",
+            "rule: a\nchapter:\n 0: a\n 2: g(0)", "rule: a\nchapter:\n 0: a\n 1: b\n 2: f(1,0)", "rule: a\nchapter:\n 0: a\n 1: b",
+            "rule: a", "rule: a\nrule: a\nchapter: d", "rules: a\nchapter: d", "rule: 0x1ffffffff\nchapter: d",
+        ):
+            with self.assertRaises((words.Wrong, ValueError), msg=line):
+                words.make(ALPHABET + line + "\n")
+
+    def test_random_inputs(self):
+        chance = random.Random(1)
+        entries = [words.word(words.ENTRY, rank) for rank in (0, 0, 0, 0, 2, 1, 1)]
+        whole = 0
+        for _ in range(500):
+            chapter = random_postfix(chance, (0, 0, 0, 0, 2, 1, 1), words.ELEMENT, chance.randrange(1, 60))
+            if chapter is None:
+                continue
+            whole += 1
+            rule = random_rule(chance, 5)
+            numbers = [len(entries), len(rule), len(chapter)] + entries + rule + chapter
+            data = struct.pack("<%dI" % len(numbers), *numbers)
+            self.assertNotIn("0x", words.show(data))
+            self.same_again(data)
+            cut = data[:chance.randrange(len(data))]
+            self.same_again(cut)
+            self.same_again(data + bytes(chance.randrange(256) for _ in range(chance.randrange(1, 9))))
+            at = chance.randrange(len(data))
+            self.same_again(data[:at] + bytes([chance.randrange(256)]) + data[at + 1:])
+        self.assertGreater(whole, 400)
+
+    def test_random_bytes(self):
+        chance = random.Random(2)
+        for _ in range(500):
+            self.same_again(bytes(chance.randrange(256) for _ in range(chance.randrange(40))))
+            few = [chance.randrange(4) for _ in range(3)] + [chance.choice((1, 2, 3, 4, 5, 6, 7)) << 28 for _ in range(9)]
+            self.same_again(struct.pack("<12I", *few))
+
+    def test_names(self):
+        data = words.make(SOURCE)
+        names = ["a", "b", "c", "d", "f", "g", "h"]
+        self.assertIn("rule: (f(a, b) + g(c) .c: d)*d\n", words.show(data, names))
+        self.assertIn("  6: f(2,5)\n", words.show(data, names))
+        printed = "nodes 7 states 29 hits 3\n2 4 3\n3 3 1\n4 5 2\n"
+        self.assertEqual(
+            words.hits(data, printed, names),
+            "nodes 7 states 29 hits 3\n2 4 3  f(a, b)\n3 3 1  d\n4 5 2  g(d)\n",
+        )
+        self.assertEqual(words.hits(data, "refused 5\n", names), "refused 5\n")
+
+    def test_comb(self):
+        text = "alphabet: a/0 g/1\nrule: a\nchapter: " + "g(" * 4095 + "a" + ")" * 4095 + "\n"
+        self.assertEqual(len(words.make(text)), 12 + 4 * (2 + 1 + 4096))
+
+
+if __name__ == "__main__":
+    unittest.main()
