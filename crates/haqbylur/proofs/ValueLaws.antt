@@ -37,7 +37,7 @@ use Rattle.matcher.specs.Answers.{answerInRan, answerInListed}
 use Rattle.exchanger.specs.declared.Exchanged.{Exchanged}
 use Rattle.exchanger.specs.declared.Exchanged.the-variants.{Replaced}
 use Rattle.exchanger.specs.Answers.{answerIn as answerInExchanged}
-use Rattle.slices.proofs.CellLaws.{cells-append}
+use Rattle.sets.proofs.CellLaws.{cells-append}
 use Rattle.refusals.proofs.SharedLaws.{words-fit}
 use Rattle.matcher.proofs.CallLaws.{list-accepted}
 use Rattle.matcher.proofs.ListingLaws.{matchesOf-few}
