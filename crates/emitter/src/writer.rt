@@ -3,7 +3,7 @@
 ghost use mathlib.Core.List.{[], _∷_};
 ghost use Prim.Native.Nat.{_+_, _*_, _<_};
 ghost use Rattle.automaton.specs.Transition.{transitionWords, onSymbol, epsilon};
-ghost use Rattle.ports.specs.Writing.{Wrote, lastIndex};
+ghost use Rattle.emitter.specs.Writing.{Wrote, lastIndex};
 
 // The word of a symbol move, kind 9, over the numbers in its lower bits.
 const TRANSITION_WORD: u32 = 2415919104;

@@ -1,12 +1,12 @@
--- `ports::writer::push` meets its contract: a store past the end of a list changes nothing. Assumes nothing.
+-- `emitter::writer::push` meets its contract: a store past the end of a list changes nothing. Assumes nothing.
 use mathlib.Core.Path.{_≡_, ap, _∙_, sym}
 use mathlib.Core.Logic.{⊎-elim}
 use lib.ListN.{length, set, length-set}
 use lib.Seq.{set-out}
 use borrow.Author.Needs.{needs}
-use Rattle.ports.proofs.WritingLaws.{wrote-one}
-use Rattle.ports.proofs.writer.push.Statement.{statement}
-use Rattle.ports.proofs.writer.push.Tie as tie
+use Rattle.emitter.proofs.WritingLaws.{wrote-one}
+use Rattle.emitter.proofs.writer.push.Statement.{statement}
+use Rattle.emitter.proofs.writer.push.Tie as tie
 
 mul-out : tie.Need-mul-out
 mul-out c = search needs

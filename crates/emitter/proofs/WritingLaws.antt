@@ -6,7 +6,7 @@ use native.Mathlib.Omega.{arith}
 use native.Mathlib.Nat.{add-zero, add-assoc}
 use lib.ListN.{length, set, length-append}
 use Rattle.words.proofs.ListLaws.{sets-append}
-use Rattle.ports.specs.Writing.{Wrote}
+use Rattle.emitter.specs.Writing.{Wrote}
 
 pub wrote-none : (at : ℕ) (out : List ℕ) → Wrote 0 at [] out out at
 wrote-none at out = record { words = refl; next = sym (add-zero at); short = omega arith }
