@@ -16,3 +16,7 @@ digitsWithin (suc k) n = let front = digitsWithin k (n / 10) in cond (ltb n 10) 
 -- n in decimal: it never has more than n + 1 digits
 unfoldable pub decimal : ℕ → List ℕ
 decimal n = digitsWithin (suc n) n
+
+-- a number, and the byte behind it
+abbrev pub field : ℕ → ℕ → List ℕ
+field n end = decimal n ++ end ∷ []

@@ -8,7 +8,7 @@ use native.Mathlib.Numerals.{add-one}
 use lib.ListN.{length, getD, take, drop, set, length-append}
 use lib.Seq.{sets, length-sets, take-suc, take-all}
 use Rattle.words.proofs.ListLaws.{sets-append, sets-whole}
-use Rattle.lines.specs.Writing.{Written}
+use Rattle.encoding.specs.Writing.{Written}
 
 pub written-none : (at : ℕ) (out : List ℕ) → Written at [] out out at
 written-none at out = record { bytes = λ room. refl; next = λ room. sym (add-zero at) }

@@ -6,9 +6,9 @@ use Prim.Native.Nat.{ℕ, zero, suc, _/_, _%_, _<_, _≤_}
 use native.Mathlib.Omega.{arith}
 use lib.Dec.{ltb}
 use borrow.Author.Tests.{lt-ltb, le-ltb, ltb-false}
-use Rattle.lines.specs.Writing.{Written}
-use Rattle.lines.proofs.WritingLaws.{written-more, written-same}
-use Rattle.lines.specs.Decimal.{digit, digitsWithin, decimal}
+use Rattle.encoding.specs.Writing.{Written}
+use Rattle.encoding.proofs.WritingLaws.{written-more, written-same}
+use Rattle.encoding.specs.Decimal.{digit, digitsWithin, decimal}
 
 -- more room changes nothing where there is enough
 enough : (k j n : ℕ) → n < k → n < j → digitsWithin k n ≡ digitsWithin j n

@@ -1,8 +1,8 @@
--- `writer::write_byte` meets its contract: it stores the byte where there is room. Assumes nothing.
+-- `encoding::writer::write_byte` meets its contract: it stores the byte where there is room. Assumes nothing.
 use borrow.Author.Needs.{needs}
-use Rattle.lines.proofs.WritingLaws.{written-one, written-full}
-use Rattle.lines.proofs.writer.write_byte.Statement.{statement}
-use Rattle.lines.proofs.writer.write_byte.Tie as tie
+use Rattle.encoding.proofs.WritingLaws.{written-one, written-full}
+use Rattle.encoding.proofs.writer.write_byte.Statement.{statement}
+use Rattle.encoding.proofs.writer.write_byte.Tie as tie
 
 slice-write-out : tie.Need-slice-write-out
 slice-write-out c = search needs

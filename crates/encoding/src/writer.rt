@@ -1,8 +1,7 @@
 // Writers of bytes: each writes from an index on, as far as the slice reaches, and answers the next index.
 ghost use mathlib.Core.List.{[], _∷_};
-ghost use Rattle.lines.specs.Decimal.{decimal};
-ghost use Rattle.lines.specs.Line.{field};
-ghost use Rattle.lines.specs.Writing.{Written};
+ghost use Rattle.encoding.specs.Decimal.{decimal, field};
+ghost use Rattle.encoding.specs.Writing.{Written};
 
 // The byte of the digit 0.
 const ZERO: u8 = 48;

@@ -1,10 +1,10 @@
--- `writer::write_text` meets its contract: the loop writes the bytes one after the other. Assumes nothing.
+-- `encoding::writer::write_text` meets its contract: the loop writes the bytes one after the other. Assumes nothing.
 use Prim.Native.Nat.{_-_}
 use lib.ListN.{length}
 use borrow.Author.Needs.{needs}
-use Rattle.lines.proofs.WritingLaws.{Texted, texted-none, texted-more, texted-end}
-use Rattle.lines.proofs.writer.write_text.Statement.{statement}
-use Rattle.lines.proofs.writer.write_text.Tie as tie
+use Rattle.encoding.proofs.WritingLaws.{Texted, texted-none, texted-more, texted-end}
+use Rattle.encoding.proofs.writer.write_text.Statement.{statement}
+use Rattle.encoding.proofs.writer.write_text.Tie as tie
 
 abbrev Inv-loop : tie.InvT-loop
 Inv-loop out₀ at text next₀ i₀ out next i = Texted text at out₀ out next i

@@ -1,8 +1,8 @@
--- `input::word_at` meets its contract: it reads the four bytes of the word. Assumes nothing.
+-- `encoding::word::word_at` meets its contract: it reads the four bytes of the word. Assumes nothing.
 use borrow.Author.Needs.{needs}
-use Rattle.report.specs.Input.{wordAt}
-use Rattle.report.proofs.input.word_at.Statement.{statement}
-use Rattle.report.proofs.input.word_at.Tie as tie
+use Rattle.encoding.specs.Words.{wordAt}
+use Rattle.encoding.proofs.word.word_at.Statement.{statement}
+use Rattle.encoding.proofs.word.word_at.Tie as tie
 
 mul-first : tie.Need-mul-first
 mul-first c = search needs

@@ -1,13 +1,13 @@
--- `input::keep_words` meets its contract: the loop stores word after word, and a store past the end would change nothing.
+-- `encoding::word::keep_words` meets its contract: the loop stores word after word, and a store past the end would change nothing.
 -- Assumes nothing.
 use Prim.Native.Nat.{_-_}
 use mathlib.Core.Path.{sym}
 use native.Mathlib.Omega.{arith}
 use borrow.Author.Needs.{needs}
-use Rattle.report.specs.Input.{wordsIn}
-use Rattle.report.proofs.InputLaws.{bytes-are, Keeping, keeping-none, keeping-inside, keeping-more, keeping-end, sets-past}
-use Rattle.report.proofs.input.keep_words.Statement.{statement}
-use Rattle.report.proofs.input.keep_words.Tie as tie
+use Rattle.encoding.specs.Words.{wordsIn}
+use Rattle.encoding.proofs.WordLaws.{bytes-are, Keeping, keeping-none, keeping-inside, keeping-more, keeping-end, sets-past}
+use Rattle.encoding.proofs.word.keep_words.Statement.{statement}
+use Rattle.encoding.proofs.word.keep_words.Tie as tie
 
 abbrev Inv-loop : tie.InvT-loop
 Inv-loop words₀ at bytes count i₀ words i = Keeping words₀ at bytes count words i

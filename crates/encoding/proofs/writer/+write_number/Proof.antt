@@ -1,18 +1,18 @@
--- `writer::write_number` meets its contract: it writes the digits of a tenth of the number and then the last one, as the
+-- `encoding::writer::write_number` meets its contract: it writes the digits of a tenth of the number and then the last one, as the
 -- decimal of a number of several digits says. The measure is the number. Assumes nothing.
 use mathlib.Core.Path.{_∙_}
 use native.Mathlib.Omega.{arith}
 use borrow.Author.Needs.{needs}
-use Rattle.lines.proofs.DecimalLaws.{number-one, number-several}
+use Rattle.encoding.proofs.DecimalLaws.{number-one, number-several}
 use Prim.Native.Nat.{ℕ, _<_}
 use borrow.Fn.Kinds.{In}
 use borrow.Fn.PlainCycle.{Measures, is, falls, and}
-use Rattle.lines.proofs.writer.write_number.Reads as write-number
-use Rattle.lines.proofs.writer.write_number.Kinds as write-number-kinds
-use Rattle.lines.proofs.writer.+write_number.Lts-write_number as write-number-lts
-use Rattle.lines.proofs.writer.write_byte.Reads as write-byte-reads
-use Rattle.lines.proofs.writer.+write_number.{statement}
-use Rattle.lines.proofs.writer.+write_number.Tie.{close}
+use Rattle.encoding.proofs.writer.write_number.Reads as write-number
+use Rattle.encoding.proofs.writer.write_number.Kinds as write-number-kinds
+use Rattle.encoding.proofs.writer.+write_number.Lts-write_number as write-number-lts
+use Rattle.encoding.proofs.writer.write_byte.Reads as write-byte-reads
+use Rattle.encoding.proofs.writer.+write_number.{statement}
+use Rattle.encoding.proofs.writer.+write_number.Tie.{close}
 
 abbrev μ-write-number : Measures 1 write-number-kinds.ps ℕ
 μ-write-number κs a = a .1 .1 .0

@@ -1,8 +1,8 @@
--- `writer::write_field` meets its contract: the byte stands behind the number. Assumes nothing.
+-- `encoding::writer::write_field` meets its contract: the byte stands behind the number. Assumes nothing.
 use mathlib.Core.Path.{_∙_}
-use Rattle.lines.proofs.WritingLaws.{written-more}
-use Rattle.lines.proofs.writer.write_field.Statement.{statement}
-use Rattle.lines.proofs.writer.write_field.Tie as tie
+use Rattle.encoding.proofs.WritingLaws.{written-more}
+use Rattle.encoding.proofs.writer.write_field.Statement.{statement}
+use Rattle.encoding.proofs.writer.write_field.Tie as tie
 
 write-number-requires : tie.Need-write-number-requires
 write-number-requires c κs = tt
