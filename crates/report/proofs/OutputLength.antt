@@ -20,7 +20,7 @@ use Rattle.automaton.specs.Numbering.{compiled}
 use Rattle.operations.specs.Compile.{compiledTable, tooManyStates}
 use Rattle.operations.specs.Marks.{nodeSets}
 use Rattle.operations.specs.Listing.{matchesIn}
-use Rattle.matcher.proofs.ListingLaws.{matches-few}
+use Rattle.operations.proofs.MatchLaws.{matches-few}
 use Rattle.operations.proofs.MarksLaws.{length-nodeSets}
 use Rattle.encoding.specs.Decimal.{decimal}
 use Rattle.lines.specs.Line.{refusedLine, headLine, hitLine, hitLines}

@@ -21,7 +21,7 @@ use Rattle.matcher.specs.declared.Listed.{Listed}
 use Rattle.matcher.specs.declared.Listed.the-variants.{Matches, Refused as Listed·Refused}
 use Rattle.matcher.specs.Answers.{answerInRan, answerInListed}
 use Rattle.matcher.proofs.CallLaws.{list-accepted as list-fine}
-use Rattle.matcher.proofs.ListingLaws.{matchesOf-few}
+use Rattle.operations.proofs.MatchLaws.{matchesOf-few}
 use Rattle.lines.specs.Line.{refusedLine, headLine, hitLines}
 use Rattle.report.specs.Output.{marklistOutput, outputOf}
 use Rattle.report.specs.Stages.{Compiles, Marks}

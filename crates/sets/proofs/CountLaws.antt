@@ -1,19 +1,15 @@
--- Laws of the ones in a list of words, counted word by word. Assumes nothing.
+-- The ones in a list of words are counted word by word. Assumes nothing.
 use mathlib.Core.Path.{_≡_, refl, ap, ap₂, _∙_, sym}
-use mathlib.Core.List.{List, [], _∷_, _++_}
+use mathlib.Core.List.{List, [], _∷_}
 use Prim.Native.Nat.{ℕ, _+_, _*_, _<_, _≤_, _^_}
 use native.Mathlib.Omega.{arith}
-use native.Mathlib.Nat.{zero-add, add-zero, add-assoc}
+use native.Mathlib.Nat.{add-zero}
 use native.Mathlib.Numerals.{add-one}
 use lib.ListN.{length, getD, take}
 use lib.Seq.{take-suc, take-all}
 use lib.Count.{ones, ones-le}
 use Rattle.operations.specs.Run.{cellsIn}
-
-pub cells-append : (l k : List ℕ) → cellsIn (l ++ k) ≡ cellsIn l + cellsIn k
-unfolding cellsIn
-cells-append [] k = sym (zero-add (cellsIn k))
-cells-append (w ∷ l) k = ap (λ (i : ℕ). ones w + i) (cells-append l k) ∙ sym (add-assoc (ones w) (cellsIn l) (cellsIn k))
+use Rattle.operations.proofs.CellLaws.{cells-append}
 
 -- the ones of the first k words; each word has at most 32
 pub record Summed (ws : List ℕ) (n k : ℕ) : Type 0 where
