@@ -2,6 +2,7 @@
 ghost use mathlib.Core.Path.{_≡_};
 ghost use mathlib.Core.List.{_++_};
 ghost use Prim.Native.Nat.{_+_, _≤_};
+ghost use lib.Count.{ones};
 ghost use lib.ListN.{length, take, drop};
 ghost use lib.Seq.{paste};
 ghost use Rattle.operations.specs.Marks.{sameWords};
@@ -69,16 +70,30 @@ pub fn same_words(left: &[u32], right: &[u32]) -> bool
     true
 }
 
-// The number of ones in the words, of which there are at most 4,096 times 32.
+// A word of 32 bits is below this.
+const WORD_RANGE: u64 = 4294967296;
+
+// The ones of two words.
+fn count_pair(low: u32, high: u32) -> usize
+    ensures { λ r. ⌜ r ≡ ones low + ones high ⌝ }
+{
+    u64::count_ones(high as u64 * WORD_RANGE + low as u64) as usize
+}
+
+// The number of ones in the words, of which there are at most 4,096 times 32. Two words are counted at once, which takes half
+// the time.
 pub fn count_cells(words: &[u32]) -> usize
     requires { ⌜ length (now words) ≤ 131072 ⌝ }
     ensures { λ r. ⌜ r ≡ cellsIn (now (words .entry)) ⌝ }
 {
     let mut cells: usize = 0;
     let mut k = 0;
-    while k < words.len() {
+    while k + 1 < words.len() {
+        cells += count_pair(words[k], words[k + 1]);
+        k += 2;
+    }
+    if k < words.len() {
         cells += u32::count_ones(words[k]) as usize;
-        k += 1;
     }
     cells
 }
