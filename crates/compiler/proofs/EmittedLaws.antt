@@ -23,10 +23,10 @@ use Rattle.automaton.specs.Transition.{Transition, transitionsWords}
 use Rattle.automaton.specs.Numbering.{Port, statesOf, portOf, ownTransitions, transitionsFrom}
 use Rattle.automaton.proofs.TransitionLaws.{transitionsWords-append}
 use Rattle.automaton.proofs.Reading.{expression-length}
-use Rattle.ports.specs.Writing.{Wrote}
+use Rattle.emitter.specs.Writing.{Wrote}
 use Rattle.ports.specs.Ports.{portIn, portsIn, fullPort}
 use Rattle.emitter.specs.Emission.{Emits, Takes}
-use Rattle.ports.proofs.WritingLaws.{wrote-none, wrote-more, wrote-same, wrote-next}
+use Rattle.emitter.proofs.WritingLaws.{wrote-none, wrote-more, wrote-same, wrote-next}
 use Rattle.compiler.proofs.StateLaws.{portOf-full}
 use Rattle.compiler.proofs.KnownConstants.{constants-once, word-takes}
 

@@ -15,10 +15,10 @@ use Rattle.automaton.specs.Transition.{transitionsWords}
 use Rattle.automaton.specs.Numbering.{Port, statesOf, portOf, childPort, portsFrom, statesAfter, transitionsFrom, lastPort, compiled}
 use Rattle.automaton.proofs.TransitionLaws.{transitionsWords-append}
 use Rattle.operations.specs.Compile.{compiledTable}
-use Rattle.ports.specs.Writing.{Wrote}
+use Rattle.emitter.specs.Writing.{Wrote}
 use Rattle.ports.specs.Ports.{portIn}
 use Rattle.emitter.specs.Emission.{constantTransitions}
-use Rattle.ports.proofs.WritingLaws.{wrote-more, wrote-same}
+use Rattle.emitter.proofs.WritingLaws.{wrote-more, wrote-same}
 
 -- ---- the last word
 

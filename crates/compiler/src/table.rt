@@ -2,7 +2,7 @@
 ghost use mathlib.Core.List.{[]};
 ghost use Rattle.automaton.specs.Transition.{transitionsWords};
 ghost use Rattle.automaton.specs.Numbering.{transitionsFrom};
-ghost use Rattle.ports.specs.Writing.{Wrote};
+ghost use Rattle.emitter.specs.Writing.{Wrote};
 ghost use Rattle.operations.specs.Compile.{compiledTable};
 ghost use Rattle.compiler.specs.Compiling.{Accepted, Compiles};
 use super::states::states_after;
@@ -10,8 +10,8 @@ use super::states::states_of;
 use super::states::word_port;
 use emitter::constants::push_constants;
 use emitter::own::push_own;
-use ports::writer::ABOVE;
-use ports::writer::push;
+use emitter::writer::ABOVE;
+use emitter::writer::push;
 use words::alphabet::write_constants;
 use words::postfix::arity;
 

@@ -10,9 +10,9 @@ use Rattle.words.proofs.ListLaws.{map-append}
 use Rattle.automaton.specs.Transition.{onSymbol, transitionWords, transitionsWords}
 use Rattle.automaton.specs.Numbering.{numbered, constantTransitions}
 use Rattle.automaton.proofs.TransitionLaws.{transitionsWords-append, numbered-append}
-use Rattle.ports.specs.Writing.{Wrote}
+use Rattle.emitter.specs.Writing.{Wrote}
 use Rattle.ports.specs.Ports.{exitIn, portIn}
-use Rattle.ports.proofs.WritingLaws.{wrote-none, wrote-more, wrote-same}
+use Rattle.emitter.proofs.WritingLaws.{wrote-none, wrote-more, wrote-same}
 use Rattle.ports.proofs.PortLaws.{entries-every, entries-none, entries-own}
 
 -- the words of the moves into the entries for the constants, where x is the word's exit

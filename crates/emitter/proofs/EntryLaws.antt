@@ -13,12 +13,12 @@ use Rattle.words.proofs.ScanLaws.{drop-part}
 use Rattle.automaton.specs.Transition.{epsilon, transitionWords, transitionsWords}
 use Rattle.automaton.specs.Numbering.{entryFor, epsilons}
 use Rattle.automaton.proofs.TransitionLaws.{transitionsWords-append}
-use Rattle.ports.specs.Writing.{Wrote}
+use Rattle.emitter.specs.Writing.{Wrote}
 use Rattle.ports.specs.declared.port.Entry.{Entry}
 use Rattle.ports.specs.declared.port.Entry.the-variants.{Missing, State}
 use Rattle.ports.specs.Ports.{portIn, statesIn, Low, EntryOf}
 use Rattle.emitter.specs.Emission.{Emits, childEntries, productEntries, closureEntries}
-use Rattle.ports.proofs.WritingLaws.{wrote-none, wrote-more, wrote-same}
+use Rattle.emitter.proofs.WritingLaws.{wrote-none, wrote-more, wrote-same}
 
 -- the words of the epsilon transitions from a state to states
 abbrev pub epsilonWords : ℕ → List ℕ → List ℕ

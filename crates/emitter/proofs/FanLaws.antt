@@ -9,8 +9,8 @@ use lib.Seq.{take-suc, take-all, length-take-le}
 use Rattle.automaton.specs.Transition.{Transition, transitionsWords}
 use Rattle.automaton.specs.Numbering.{numbered, epsilons, fan}
 use Rattle.automaton.proofs.TransitionLaws.{transitionsWords-append, numbered-append, fan-append}
-use Rattle.ports.specs.Writing.{Wrote, lastIndex}
-use Rattle.ports.proofs.WritingLaws.{wrote-none, wrote-more, wrote-same, wrote-next}
+use Rattle.emitter.specs.Writing.{Wrote, lastIndex}
+use Rattle.emitter.proofs.WritingLaws.{wrote-none, wrote-more, wrote-same, wrote-next}
 
 -- the words of the transitions from the entries for the constants, where x is the word's exit
 abbrev pub fanWords : ℕ → List ℕ → (ℕ → List ℕ) → List ℕ

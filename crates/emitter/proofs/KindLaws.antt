@@ -8,9 +8,9 @@ use borrow.Author.Tests.{eq-eqb, ne-eqb}
 use Rattle.words.specs.Word.{numberOf, lowByte}
 use Rattle.automaton.specs.Transition.{Transition, transitionsWords}
 use Rattle.automaton.specs.Numbering.{Port, symbolTransitions, unionTransitions, productTransitions, closureTransitions, ownTransitions}
-use Rattle.ports.specs.Writing.{Wrote}
+use Rattle.emitter.specs.Writing.{Wrote}
 use Rattle.ports.specs.Ports.{portsIn}
-use Rattle.ports.proofs.WritingLaws.{wrote-none, wrote-same}
+use Rattle.emitter.proofs.WritingLaws.{wrote-none, wrote-same}
 use Rattle.emitter.proofs.OwnLaws.{both, single, F, G}
 
 module _ (w : ℕ) (E : Port) (cs : List ℕ) where

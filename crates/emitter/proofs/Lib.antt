@@ -1,3 +1,4 @@
+pub mod WritingLaws
 pub mod EntryLaws
 pub mod FanLaws
 pub mod OwnLaws

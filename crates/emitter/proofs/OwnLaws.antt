@@ -9,10 +9,10 @@ use lib.Dec.{eqb}
 use Rattle.automaton.specs.Transition.{Transition, onSymbol, epsilon, transitionWords, transitionsWords}
 use Rattle.automaton.specs.Numbering.{Port, numbered, entryFor, epsilons, symbolTransitions, unionTransitions, productTransitions, closureTransitions}
 use Rattle.automaton.proofs.TransitionLaws.{transitionsWords-append, fan-same}
-use Rattle.ports.specs.Writing.{Wrote}
+use Rattle.emitter.specs.Writing.{Wrote}
 use Rattle.ports.specs.Ports.{exitIn, portIn, portsIn, fullPort}
 use Rattle.emitter.specs.Emission.{Emits, childEntries, productEntries, closureEntries, sourceWords}
-use Rattle.ports.proofs.WritingLaws.{wrote-more, wrote-same}
+use Rattle.emitter.proofs.WritingLaws.{wrote-more, wrote-same}
 use Rattle.emitter.proofs.EntryLaws.{epsilonWords, epsilonWords-append}
 use Rattle.emitter.proofs.FanLaws.{fanWords}
 use Rattle.emitter.proofs.SourceLaws.{sources-exits}

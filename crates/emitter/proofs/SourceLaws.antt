@@ -8,10 +8,10 @@ use lib.ListN.{length, getD, take}
 use lib.Seq.{take-suc, take-all}
 use Rattle.words.specs.Word.{sourceKind, wordOf}
 use Rattle.words.proofs.ListLaws.{map-append}
-use Rattle.ports.specs.Writing.{Wrote}
+use Rattle.emitter.specs.Writing.{Wrote}
 use Rattle.ports.specs.Ports.{exitIn, portsIn}
 use Rattle.emitter.specs.Emission.{sourceWords}
-use Rattle.ports.proofs.WritingLaws.{wrote-none, wrote-more, wrote-same}
+use Rattle.emitter.proofs.WritingLaws.{wrote-none, wrote-more, wrote-same}
 
 pub sources-exits : (cs ps : List ℕ) → sourceWords ps ≡ map (λ p. wordOf sourceKind p) (map (λ P. P .exit) (portsIn cs ps))
 sources-exits cs [] = refl

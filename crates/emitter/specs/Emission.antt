@@ -9,7 +9,7 @@ use lib.Dec.{eqb}
 use Rattle.words.specs.Word.{sourceKind, numberOf, wordOf, lowByte}
 use Rattle.automaton.specs.Numbering.{entryFor}
 pub use Rattle.automaton.specs.Numbering.{constantTransitions}
-use Rattle.ports.specs.Writing.{lastIndex}
+use Rattle.emitter.specs.Writing.{lastIndex}
 use Rattle.ports.specs.Ports.{EachOnce, exitIn, portsIn}
 
 -- the children's entries for a constant

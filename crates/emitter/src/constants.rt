@@ -2,14 +2,14 @@
 ghost use Prim.Native.Nat.{suc, _+_, _<_};
 ghost use Rattle.automaton.specs.Transition.{transitionsWords};
 ghost use Rattle.automaton.specs.Numbering.{numbered};
-ghost use Rattle.ports.specs.Writing.{Wrote};
+ghost use Rattle.emitter.specs.Writing.{Wrote};
 ghost use Rattle.ports.specs.Ports.{portIn};
 ghost use Rattle.emitter.specs.Emission.{Symbols, constantTransitions};
+use super::writer::push_transition;
 use ports::port::EVERY;
 use ports::port::EXIT_UNIT;
 use ports::port::NONE;
 use ports::port::exit_of;
-use ports::writer::push_transition;
 
 // Into an entry for each constant.
 fn push_every(constants: &[u32], out: &mut [u32], at: usize, exit: u32) -> usize

@@ -3,12 +3,12 @@ ghost use Prim.Native.Nat.{suc, _+_, _≤_, _<_};
 ghost use lib.ListN.{length, getD};
 ghost use Rattle.automaton.specs.Transition.{transitionsWords};
 ghost use Rattle.automaton.specs.Numbering.{numbered, epsilons, fan};
-ghost use Rattle.ports.specs.Writing.{Wrote, lastIndex};
+ghost use Rattle.emitter.specs.Writing.{Wrote, lastIndex};
 ghost use Rattle.ports.specs.Ports.{Low, statesIn};
 ghost use Rattle.emitter.specs.Emission.{Emits, childEntries, productEntries, closureEntries};
+use super::writer::push_epsilon;
 use ports::port::Entry;
 use ports::port::entry_at;
-use ports::writer::push_epsilon;
 
 // "A move that names a missing entry is omitted."
 pub(crate) fn push_to(out: &mut [u32], at: usize, from: u32, to: Entry) -> usize

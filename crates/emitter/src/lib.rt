@@ -2,3 +2,4 @@
 pub mod constants;
 mod entries;
 pub mod own;
+pub mod writer;

@@ -20,7 +20,7 @@ use Rattle.automaton.proofs.TableLaws.{isTable-sizes}
 use Rattle.operations.specs.Marks.{sizeOf}
 use Rattle.operations.specs.Exchange.{fault}
 use Rattle.operations.proofs.AcceptedLaws.{ExchangeAccepted, exchange-accepted}
-use Rattle.slices.proofs.StoredLaws.{words-few}
+use Rattle.sets.proofs.StoredLaws.{words-few}
 use Rattle.refusals.proofs.ExchangeLaws.{result-length}
 use Rattle.nodes.specs.Nodes.{Workable}
 use Rattle.refusals.proofs.SharedLaws.{table-right}

@@ -15,7 +15,7 @@ use Rattle.automaton.specs.StateSet.{StateSet}
 use Rattle.operations.specs.Marks.{sizeOf, storedSet, sameWords}
 use Rattle.operations.proofs.MarksLaws.{same-words}
 use Rattle.slices.proofs.CopyLaws.{paste-same}
-use Rattle.slices.proofs.StoredLaws.{row-inside, words-few, stored-written}
+use Rattle.sets.proofs.StoredLaws.{row-inside, words-few, stored-written}
 use Rattle.memo.proofs.MemoLaws.{remembered-later}
 use Rattle.nodes.specs.Nodes.{setFrom, markedAt, Pushable}
 use Rattle.nodes.specs.Marking.{AtNode, Prepared}

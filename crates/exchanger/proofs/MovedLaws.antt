@@ -17,7 +17,7 @@ use Rattle.operations.specs.Exchange.{fault}
 use Rattle.operations.proofs.MarksLaws.{Sized}
 use Rattle.operations.proofs.ExchangeLoops.{movedSets}
 use Rattle.slices.proofs.RefitLaws.{take-drop}
-use Rattle.slices.proofs.RowLaws.{sized-stored, flatten-stored}
+use Rattle.sets.proofs.RowLaws.{sized-stored, flatten-stored}
 use Rattle.nodes.proofs.MarkLaws.{Holding}
 use Rattle.exchanger.proofs.TailLaws.{length-kept}
 use Rattle.exchanger.proofs.CallLaws.{Numbers, numbers, marks-fits, length-used}

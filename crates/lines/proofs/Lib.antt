@@ -1,3 +1,1 @@
-pub mod WritingLaws
-pub mod DecimalLaws
 pub mod LineLaws

@@ -8,9 +8,10 @@ use lib.ListN.{length, getD, take, List·getD-eq-default}
 use lib.Seq.{take-suc, take-all}
 use Rattle.words.specs.Chapter.{symbolOf}
 use Rattle.words.specs.Postfix.{startOf}
-use Rattle.lines.specs.Line.{space, newline, refusedText, nodesText, statesText, hitsText, field, refusedLine, headLine, hitLine, hitLines}
-use Rattle.lines.specs.Writing.{Written}
-use Rattle.lines.proofs.WritingLaws.{written-none, written-more, written-same}
+use Rattle.lines.specs.Line.{space, newline, refusedText, nodesText, statesText, hitsText, refusedLine, headLine, hitLine, hitLines}
+use Rattle.encoding.specs.Decimal.{field}
+use Rattle.encoding.specs.Writing.{Written}
+use Rattle.encoding.proofs.WritingLaws.{written-none, written-more, written-same}
 
 -- ---- lines
 

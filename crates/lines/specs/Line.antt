@@ -4,7 +4,7 @@ use mathlib.Core.List.{List, [], _∷_, _++_}
 use lib.ListN.{getD}
 use Rattle.words.specs.Chapter.{symbolOf}
 use Rattle.words.specs.Postfix.{startOf}
-use Rattle.lines.specs.Decimal.{decimal}
+use Rattle.encoding.specs.Decimal.{field}
 
 -- ---- texts, in ASCII
 
@@ -31,10 +31,6 @@ abbrev pub hitsText : List ℕ
 hitsText = 104 ∷ 105 ∷ 116 ∷ 115 ∷ 32 ∷ []
 
 -- ---- lines
-
--- a number, and the byte behind it
-abbrev pub field : ℕ → ℕ → List ℕ
-field n end = decimal n ++ end ∷ []
 
 unfoldable pub refusedLine : ℕ → List ℕ
 refusedLine number = refusedText ++ field number newline

@@ -1,15 +1,13 @@
 // Writers of the lines that `marklist` prints.
 ghost use Rattle.lines.specs.Line.{refusedLine, headLine, hitLine, hitLines};
-ghost use Rattle.lines.specs.Writing.{Written};
+ghost use Rattle.encoding.specs.Writing.{Written};
 ghost use mathlib.Core.Path.{_≡_};
 ghost use mathlib.Core.List.{_++_};
 ghost use lib.ListN.{length, getD};
 ghost use Rattle.words.specs.Chapter.{symbolOf};
+use encoding::writer::write_field;
+use encoding::writer::write_text;
 use words::postfix::subtree_start;
-use writer::write_field;
-use writer::write_text;
-
-mod writer;
 
 // The line `refused N`.
 pub fn write_refused(out: &mut [u8], number: u32) -> usize

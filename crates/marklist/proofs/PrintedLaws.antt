@@ -10,11 +10,12 @@ use Rattle.lines.specs.Line.{refusedLine}
 use Rattle.report.specs.Output.{outputOf}
 use lib.Dec.{ltb}
 use Rattle.words.proofs.TestLaws.{all-append}
-use Rattle.report.specs.Input.{areBytes, wordsIn, complete, alphabetIn, ruleIn, chapterIn, programOutput}
-use Rattle.report.proofs.InputLaws.{length-wordsIn}
+use Rattle.encoding.specs.Words.{areBytes, wordsIn}
+use Rattle.report.specs.Input.{complete, alphabetIn, ruleIn, chapterIn, programOutput}
+use Rattle.encoding.proofs.WordLaws.{length-wordsIn, wordsIn-append, kept-words}
 use Rattle.report.proofs.OutputLength.{output-short}
 use Rattle.report.proofs.KeptLaws.{early-output}
-use Rattle.report.proofs.ProgramLaws.{wordsIn-append, kept-words, program-early, program-complete}
+use Rattle.report.proofs.ProgramLaws.{program-early, program-complete}
 use Rattle.marklist.specs.Reading.{Stored, ReadAll, Printed}
 
 -- ---- words that are stored

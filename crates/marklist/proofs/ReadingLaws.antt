@@ -8,8 +8,8 @@ use lib.Seq.{sets, length-sets, length-front, length-take-le}
 use lib.Dec.{ltb}
 use mathlib.Core.Bool.{true}
 use Rattle.words.proofs.TestLaws.{all-append}
-use Rattle.report.specs.Input.{areBytes, wordsIn}
-use Rattle.report.proofs.ProgramLaws.{kept-parts}
+use Rattle.encoding.specs.Words.{areBytes, wordsIn}
+use Rattle.encoding.proofs.WordLaws.{kept-parts}
 use Rattle.marklist.specs.Reading.{Stored}
 
 -- a part of the buffer that was lent and came back is as long as before

@@ -6,7 +6,8 @@ use mathlib.Core.Bool.{Bool, true}
 use mathlib.Core.List.{List, _++_}
 use lib.ListN.{length, drop}
 use lib.Seq.{sets}
-use Rattle.report.specs.Input.{areBytes, wordsIn, programOutput}
+use Rattle.encoding.specs.Words.{areBytes, wordsIn}
+use Rattle.report.specs.Input.{programOutput}
 
 -- some bytes of `count` words, and a slice into which their words were stored, as far as it reaches
 pub record Stored (count : ℕ) (before after : List ℕ) : Type 0 where

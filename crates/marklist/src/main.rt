@@ -3,10 +3,10 @@
 ghost use Prim.Native.Nat.{_≤_};
 ghost use lib.ListN.{length};
 ghost use Rattle.marklist.specs.Reading.{ReadAll, Printed};
+use encoding::word::WORD_BYTES;
+use encoding::word::keep_words;
 use libc::STDIN_FILENO;
 use libc::STDOUT_FILENO;
-use report::input::WORD_BYTES;
-use report::input::keep_words;
 use report::input::kept;
 use report::input::part_bytes;
 use report::report;

@@ -14,7 +14,7 @@ use Rattle.operations.specs.Marks.{sizeOf}
 use Rattle.operations.specs.Run.{runFault}
 use Rattle.operations.specs.Listing.{listTooShort, listRefusals, listFault}
 use Rattle.operations.proofs.AcceptedLaws.{Counted, count-right, marks-fit, run-accepted}
-use Rattle.slices.proofs.StoredLaws.{row-inside}
+use Rattle.sets.proofs.StoredLaws.{row-inside}
 use Rattle.refusals.proofs.SharedLaws.{table-right}
 use Rattle.nodes.specs.Nodes.{Workable}
 

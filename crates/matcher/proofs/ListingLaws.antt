@@ -13,6 +13,7 @@ use Rattle.automaton.specs.StateSet.{StateSet, contains}
 use Rattle.operations.specs.Answer.{refused, accepted}
 use Rattle.operations.specs.Marks.{sizeOf, finalOf, storedSet}
 use Rattle.operations.specs.Listing.{matchesIn, matchesOf, listFault, listAnswer, listExit}
+use Rattle.operations.proofs.MatchLaws.{matches-few, matchesOf-few}
 use Rattle.refusals.proofs.AnswerLaws.{answer-refused, answer-accepted, exit-refused, exit-accepted}
 
 module _ (final : ℕ) where
@@ -27,17 +28,6 @@ module _ (final : ℕ) where
       go : (b : Bool) (u v : List ℕ) → cond b (i ∷ (u ++ v)) (u ++ v) ≡ cond b (i ∷ u) u ++ v
       go true u v = refl
       go false u v = refl
-
-  -- no more matches than nodes
-  pub matches-few : (l : List StateSet) (i : ℕ) → length (matchesIn final i l) ≤ length l
-  unfolding matchesIn
-  matches-few [] i = omega arith
-  matches-few (r ∷ l) i = go (contains r final) (matches-few l (suc i))
-    where
-      go : (b : Bool) → length (matchesIn final (suc i) l) ≤ length l
-          → length (cond b (i ∷ matchesIn final (suc i) l) (matchesIn final (suc i) l)) ≤ suc (length l)
-      go true h = omega arith
-      go false h = omega arith
 
   -- one node
   pub match-here : (r : StateSet) (i : ℕ) → contains r final ≡ true → matchesIn final i (r ∷ []) ≡ i ∷ []
@@ -66,10 +56,6 @@ module _ (table marks : List ℕ) where
   abbrev stored : ℕ → StateSet
   stored = storedSet (sizeOf table) marks
 
-  pub matchesOf-few : (i : ℕ) → length (matchesOf table i marks) ≤ i
-  unfolding matchesOf
-  matchesOf-few i = let n = length-listFrom stored i 0 in omega (arith, matches-few (finalOf table) (listFrom stored 0 i) 0)
-
   pub matchesOf-more : (i : ℕ) → matchesOf table (i + 1) marks ≡ matchesOf table i marks ++ matchesIn (finalOf table) i (storedSet (sizeOf table) marks i ∷ [])
   unfolding matchesOf
   matchesOf-more i =
@@ -90,7 +76,7 @@ module _ (table marks : List ℕ) where
     found-more list found i list′ found′ set last g es el room ef eq n =
         let ms = matchesOf table i marks in
         let one = matchesIn last i (set ∷ []) in
-        let few = matchesOf-few i in
+        let few = matchesOf-few table marks i in
         let more : matchesOf table (i + 1) marks ≡ ms ++ one =
         matchesOf-more i ∙ ap₂ (λ (f : ℕ) (s : StateSet). ms ++ matchesIn f i (s ∷ [])) (sym el) (sym es) in
         let small = matches-few last (set ∷ []) i in

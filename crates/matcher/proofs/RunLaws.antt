@@ -15,7 +15,7 @@ use Rattle.operations.specs.Marks.{sizeOf, nodeSet, nodeSets, storedSet}
 use Rattle.operations.specs.Run.{runFault, runMarks, cellsIn, runAnswer, runExit}
 use Rattle.operations.proofs.LoopLaws.{Recomputing}
 use Rattle.operations.proofs.RunLaws.{run-writes, run-length}
-use Rattle.slices.proofs.StoredLaws.{words-few}
+use Rattle.sets.proofs.StoredLaws.{words-few}
 use Rattle.step.specs.Index.{indexOf, Indexable}
 use Rattle.nodes.specs.Nodes.{markedFrom, Workable}
 use Rattle.nodes.specs.Marking.{AtNodes}

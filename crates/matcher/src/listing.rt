@@ -8,9 +8,9 @@ ghost use Rattle.operations.specs.Listing.{listFault, matchesIn, matchesOf, lis
 ghost use Rattle.matcher.specs.Answers.{answerInListed};
 use super::Listed;
 use refusals::list::list_fault;
+use sets::state::contains;
 use tables::head::final_state;
 use tables::head::set_size;
-use tables::set::contains;
 
 // Writes the number of a node behind the matches found so far if its state set holds the final state; answers how many
 // matches there are then.

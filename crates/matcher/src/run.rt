@@ -10,7 +10,7 @@ use super::Ran;
 use nodes::marking::mark_nodes;
 use nodes::stack::STACK_BASE;
 use refusals::run::run_fault;
-use slices::sets::count_cells;
+use sets::whole::count_cells;
 use step::index::write_index;
 use tables::head::set_size;
 

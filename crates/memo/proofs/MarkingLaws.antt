@@ -12,8 +12,8 @@ use Rattle.automaton.proofs.SetLength.{length-stateSet}
 use Rattle.automaton.proofs.TableLaws.{isTable-sizes}
 use Rattle.operations.specs.Marks.{sizeOf, storedSet}
 use Rattle.step.specs.Ready.{childSets}
-use Rattle.slices.specs.Movable.{Copyable}
-use Rattle.slices.proofs.StoredLaws.{words-few, stored-written, stored-before}
+use Rattle.sets.specs.Copyable.{Copyable}
+use Rattle.sets.proofs.StoredLaws.{words-few, stored-written, stored-before}
 use Rattle.memo.specs.Memo.{setOver, Placeable, Represents, itself, earlier, AtNew, New}
 
 pub length-setOver : (table : List ℕ) (f : ℕ) (marks cs : List ℕ) → length (setOver table f marks cs) ≡ sizeOf table

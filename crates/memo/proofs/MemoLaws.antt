@@ -13,8 +13,8 @@ use Rattle.automaton.specs.Transition.{automatonOf}
 use Rattle.automaton.specs.StateSet.{StateSet, stateSet}
 use Rattle.operations.specs.Marks.{sizeOf, storedSet}
 use Rattle.step.specs.Closure.{Closures}
-use Rattle.slices.specs.Movable.{Copyable}
-use Rattle.slices.proofs.StoredLaws.{row-inside, stored-before}
+use Rattle.sets.specs.Copyable.{Copyable}
+use Rattle.sets.proofs.StoredLaws.{row-inside, stored-before}
 use Rattle.memo.specs.Key.{packed, keyOf}
 use Rattle.memo.specs.Memo.{setOver, Slot, empty, known, Remembered, AtNew, AtNext, New, Next}
 use Rattle.memo.proofs.KeyLaws.{packed-same, key-symbol, key-nodes, key-some}

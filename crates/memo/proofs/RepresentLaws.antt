@@ -8,7 +8,7 @@ use native.Mathlib.Nat.{le-trans, mul-le-mul-right}
 use lib.ListN.{length, take, drop}
 use Rattle.operations.specs.Marks.{storedSet, sameWords}
 use Rattle.operations.proofs.MarksLaws.{same-words}
-use Rattle.slices.proofs.StoredLaws.{row-inside, words-few}
+use Rattle.sets.proofs.StoredLaws.{row-inside, words-few}
 use Rattle.memo.specs.Memo.{Placeable, Represents, earlier}
 
 module _ {marks set : List ℕ} {i : ℕ} {places : List ℕ} (g : Placeable marks set i places) (node : ℕ) (l : node < i) where

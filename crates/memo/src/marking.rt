@@ -4,13 +4,13 @@ ghost use Prim.Native.Nat.{_-_, _*_};
 ghost use lib.ListN.{take, drop};
 ghost use lib.Seq.{paste};
 ghost use Rattle.step.specs.Closure.{Closures};
-ghost use Rattle.slices.specs.Movable.{Copyable};
+ghost use Rattle.sets.specs.Copyable.{Copyable};
 ghost use Rattle.memo.specs.Memo.{AtNew, New, AtNext, Next};
 use super::key::key_of;
 use super::key::slot_of;
 use super::representative::representative;
-use slices::sets::copy_set;
-use slices::sets::write_set_at;
+use sets::whole::copy_set;
+use sets::whole::write_set_at;
 use step::node::node_set;
 use tables::head::set_size;
 

@@ -2,7 +2,7 @@
 ghost use Prim.Native.Nat.{_<_, _≤_};
 ghost use lib.ListN.{length};
 ghost use Rattle.memo.specs.Memo.{Placeable, Represents};
-use slices::sets::same_words;
+use sets::whole::same_words;
 
 // The places of the nodes that represent others, by their words.
 const PLACES: u64 = 1021;

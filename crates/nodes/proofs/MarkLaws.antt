@@ -15,7 +15,7 @@ use Rattle.operations.specs.Run.{runMarks}
 use Rattle.operations.proofs.MarksLaws.{Sized, length-nodeSet, storedSet-flatten}
 use Rattle.operations.proofs.LoopLaws.{setAt, Recomputing}
 use Rattle.operations.proofs.LoopLaws as loops
-use Rattle.slices.proofs.RowLaws.{paste-row, sized-set, sized-stored, stored-split}
+use Rattle.sets.proofs.RowLaws.{paste-row, sized-set, sized-stored, stored-split}
 use Rattle.nodes.specs.Nodes.{setFrom, markedAt, markedFrom}
 use Rattle.nodes.proofs.RootLaws.{children-below}
 use Rattle.nodes.proofs.WorkedLaws.{workedFrom, length-worked, worked-is}

@@ -18,7 +18,7 @@ use Rattle.step.specs.Ready.{RowsInside, Prepared}
 use Rattle.step.proofs.FollowLaws.{states-most}
 use Rattle.step.proofs.SymbolLaws.{prepared-checked}
 use Rattle.slices.proofs.RefitLaws.{take-drop}
-use Rattle.slices.proofs.StoredLaws.{row-inside, stored-written}
+use Rattle.sets.proofs.StoredLaws.{row-inside, stored-written}
 use Rattle.memo.specs.Memo.{setOver, AtNext, Next}
 use Rattle.memo.proofs.MarkingLaws.{length-setOver}
 use Rattle.memo.proofs.MemoLaws.{stored-kept}

@@ -9,6 +9,8 @@ pub mod AcceptedLaws
 pub mod RunLaws
 pub mod Demand3
 pub mod CompileLaws
+pub mod CellLaws
+pub mod ValueLaws
 pub mod AnyTable
 pub mod Demand2
 pub mod BehindLaws

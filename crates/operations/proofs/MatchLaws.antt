@@ -1,13 +1,17 @@
--- Which nodes List names: those whose state set holds the final state. Assumes nothing.
-use Prim.Native.Nat.{ℕ, zero, suc, _+_, _<_}
+-- Which nodes List names: those whose state set holds the final state; and that they are no more than the nodes. Assumes
+-- nothing.
+use Prim.Native.Nat.{ℕ, zero, suc, _+_, _<_, _≤_}
 use mathlib.Core.Path.{_≡_, refl}
 use mathlib.Core.Bool.{Bool, true, false, cond}
 use mathlib.Core.List.{List, [], _∷_, List·Memᴰ, List·Memᴰ·head, List·Memᴰ·tail, List·Memᴰ·not-nil}
 use native.Mathlib.Omega.{arith}
 use native.Mathlib.Nat.{add-zero, add-suc, suc-add}
 use lib.ListN.{length, getD}
+use Rattle.words.specs.Lists.{listFrom}
+use Rattle.words.proofs.ListLaws.{length-listFrom}
 use Rattle.automaton.specs.StateSet.{StateSet, contains}
-use Rattle.operations.specs.Listing.{matchesIn}
+use Rattle.operations.specs.Marks.{sizeOf, finalOf, storedSet}
+use Rattle.operations.specs.Listing.{matchesIn, matchesOf}
 
 module _ (final : ℕ) where
   -- row k holds the final state
@@ -39,3 +43,21 @@ module _ (final : ℕ) where
       go true e (List·Memᴰ·head q) later = (0, omega arith, (omega arith, e))
       go true e (List·Memᴰ·tail q) later = step (later q)
       go false e q later = step (later q)
+
+  -- no more matches than nodes
+  pub matches-few : (l : List StateSet) (i : ℕ) → length (matchesIn final i l) ≤ length l
+  unfolding matchesIn
+  matches-few [] i = omega arith
+  matches-few (r ∷ l) i = go (contains r final) (matches-few l (suc i))
+    where
+      go : (b : Bool) → length (matchesIn final (suc i) l) ≤ length l
+          → length (cond b (i ∷ matchesIn final (suc i) l) (matchesIn final (suc i) l)) ≤ suc (length l)
+      go true h = omega arith
+      go false h = omega arith
+
+pub matchesOf-few : (table marks : List ℕ) (n : ℕ) → length (matchesOf table n marks) ≤ n
+unfolding matchesOf
+matchesOf-few table marks n =
+    let stored = storedSet (sizeOf table) marks in
+    let k = length-listFrom stored n 0 in
+    omega (arith, matches-few (finalOf table) (listFrom stored 0 n) 0)

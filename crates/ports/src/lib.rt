@@ -1,3 +1,2 @@
-// A rule word's exit and entries as one number, and words written into a table.
+// A rule word's exit and entries as one number.
 pub mod port;
-pub mod writer;

@@ -1,4 +1,3 @@
-pub mod InputLaws
 pub mod KeptLaws
 pub mod OutputLength
 pub mod ProgramLaws

@@ -20,12 +20,12 @@ use Rattle.automaton.specs.Numbering.{compiled}
 use Rattle.operations.specs.Compile.{compiledTable, tooManyStates}
 use Rattle.operations.specs.Marks.{nodeSets}
 use Rattle.operations.specs.Listing.{matchesIn}
-use Rattle.matcher.proofs.ListingLaws.{matches-few}
+use Rattle.operations.proofs.MatchLaws.{matches-few}
 use Rattle.operations.proofs.MarksLaws.{length-nodeSets}
-use Rattle.lines.specs.Decimal.{decimal}
+use Rattle.encoding.specs.Decimal.{decimal}
 use Rattle.lines.specs.Line.{refusedLine, headLine, hitLine, hitLines}
 use Rattle.report.specs.Output.{wrongChapter, marklistRefusals, marklistFault, hitsOf, marklistOutput, outputOf}
-use Rattle.lines.proofs.DecimalLaws.{decimal-one, decimal-several}
+use Rattle.encoding.proofs.DecimalLaws.{decimal-one, decimal-several}
 
 -- ---- how many digits a number has
 

@@ -21,12 +21,12 @@ use Rattle.matcher.specs.declared.Listed.{Listed}
 use Rattle.matcher.specs.declared.Listed.the-variants.{Matches, Refused as Listed·Refused}
 use Rattle.matcher.specs.Answers.{answerInRan, answerInListed}
 use Rattle.matcher.proofs.CallLaws.{list-accepted as list-fine}
-use Rattle.matcher.proofs.ListingLaws.{matchesOf-few}
+use Rattle.operations.proofs.MatchLaws.{matchesOf-few}
 use Rattle.lines.specs.Line.{refusedLine, headLine, hitLines}
 use Rattle.report.specs.Output.{marklistOutput, outputOf}
 use Rattle.report.specs.Stages.{Compiles, Marks}
-use Rattle.lines.specs.Writing.{Written}
-use Rattle.lines.proofs.WritingLaws.{written-same, written-whole}
+use Rattle.encoding.specs.Writing.{Written}
+use Rattle.encoding.proofs.WritingLaws.{written-same, written-whole}
 use Rattle.report.proofs.KeptLaws.{complete-output, early-output}
 use Rattle.report.proofs.OutputLength.{output-short}
 use Rattle.report.proofs.AnswerLaws.{compile-refused, chapter-over, run-refused, list-accepted, listed-long, listed-output}

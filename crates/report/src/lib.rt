@@ -5,7 +5,7 @@ ghost use Prim.Native.Nat.{ℕ, _≤_};
 ghost use lib.ListN.{length, drop};
 ghost use Rattle.report.specs.Output.{marklistOutput, outputOf};
 ghost use Rattle.report.specs.Stages.{Compiles, Marks};
-ghost use Rattle.lines.specs.Writing.{Written};
+ghost use Rattle.encoding.specs.Writing.{Written};
 use compiler::Compiled;
 use compiler::compile;
 use lines::write_lines;

@@ -1,9 +1,4 @@
 pub mod CopyLaws
 pub mod MoveLaws
-pub mod CompareLaws
-pub mod CellLaws
 pub mod RefitLaws
-pub mod RowLaws
 pub mod PartLaws
-pub mod SetLaws
-pub mod StoredLaws

@@ -7,9 +7,3 @@ use lib.ListN.{length}
 pub record Movable (words : List ℕ) (from to count : ℕ) : Type 0 where
   pub source : from + count ≤ length words
   pub target : to + count ≤ length words
-
--- one set of at most 32 words from index `from` on, and its places from index `to` on, lie inside the slice
-pub record Copyable (words : List ℕ) (from to size : ℕ) : Type 0 where
-  pub small : size ≤ 32
-  pub source : from + size ≤ length words
-  pub target : to + size ≤ length words

@@ -1,3 +1,2 @@
-// Words of a slice: moved, copied, made zero, compared and counted.
+// Words of a slice: moved, copied and made zero.
 pub mod moves;
-pub mod sets;

@@ -11,8 +11,9 @@ use Rattle.automaton.specs.Transition.{epsilon, automatonOf}
 use Rattle.automaton.specs.StateSet.{StateSet, contains, insert}
 use Rattle.automaton.proofs.BitLaws.{contains-replicate}
 use Rattle.operations.specs.Marks.{storedSet}
-use Rattle.slices.proofs.StoredLaws.{stored-written, stored-other}
-use Rattle.step.specs.Closure.{Stack, Settled, Room, Put, Followed, Closable, ClosureOf, Closures, Keepable, Kept, joined, JoinedClosure}
+use Rattle.sets.proofs.StoredLaws.{stored-written, stored-other}
+use Rattle.sets.specs.Joined.{joined}
+use Rattle.step.specs.Closure.{Stack, Settled, Room, Put, Followed, Closable, ClosureOf, Closures, Keepable, Kept, JoinedClosure}
 use Rattle.step.proofs.StartLaws.{member-starts, table-transitions}
 use Rattle.step.proofs.StackLaws.{missing-most, stack-room, stack-put, put-cases}
 use Rattle.step.proofs.SearchLaws.{search-first, settled-all}

@@ -5,7 +5,6 @@ pub mod SearchLaws
 pub mod FollowLaws
 pub mod EpsilonLaws
 pub mod ClosureLaws
-pub mod JoinLaws
 pub mod SymbolLaws
 pub mod NodeLaws
 pub mod StartLaws

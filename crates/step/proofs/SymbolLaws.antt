@@ -19,7 +19,7 @@ use Rattle.step.specs.Node.{Sources, Growing, Satisfied, Steppable, Seed
 use Rattle.step.proofs.ChainLaws.{Next, SymbolWord, nextWith, next-some, next-none, symbol-word}
 use Rattle.step.proofs.WordLaws.{symbol-below, symbol-reached, symbol-sources}
 use Rattle.step.proofs.FollowLaws.{InChain, left, states-most, keyed, first, in-chain, next, left-less}
-use Rattle.step.proofs.JoinLaws.{joined-length, words-joined, joined-cases, joined-left, joined-right}
+use Rattle.sets.proofs.JoinLaws.{joined-length, words-joined, joined-cases, joined-left, joined-right}
 
 pub prepared-checked : {table index : List ℕ} {f : ℕ} {marks children : List ℕ} → Prepared table index f marks children → Checked table index
 prepared-checked p =

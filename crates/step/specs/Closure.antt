@@ -1,17 +1,17 @@
 -- The epsilon closure of one state, as code works it out: states are reached one after another, and a stack holds those whose
 -- epsilon transitions are still to be followed. Closures that were worked out are kept for other nodes. These definitions
 -- serve inner functions. Assumes nothing.
-use Prim.Native.Nat.{ℕ, zero, suc, _+_, _-_, _^_, _%_, _<_, _≤_}
+use Prim.Native.Nat.{ℕ, _+_, _-_, _^_, _%_, _<_, _≤_}
 use mathlib.Core.Path.{_≡_}
 use mathlib.Core.Bool.{true, false, cond}
 use mathlib.Core.List.{List, [], _∷_, List·Memᴰ}
-use lib.Bits.{bitOr}
 use lib.ListN.{length, getD, drop, set}
 use Rattle.words.specs.Lists.{count, listFrom}
 use Rattle.words.specs.Word.{transitionKind, epsilonKind, hasKind, symbolAbove, stateAbove, stateBelow}
 use Rattle.automaton.specs.Transition.{Transition, onSymbol, epsilon, sourcesAt, automatonOf}
 use Rattle.automaton.specs.StateSet.{StateSet, contains, insert}
 use Rattle.operations.specs.Marks.{storedSet}
+use Rattle.sets.specs.Joined.{joined}
 use Rattle.step.specs.Index.{keyOf}
 use Rattle.step.specs.Ready.{Checked}
 
@@ -33,14 +33,6 @@ pub record ClosureOf (table : List ℕ) (s : ℕ) (r : StateSet) : Type 0 where
   pub holds : contains r s ≡ true
   pub closed : Closed table r
   pub within : (q : ℕ) → contains r q ≡ true → ReachedFrom (automatonOf table .transitions) s q
-
--- the states of both sets: the first k words are joined
-unfoldable pub joinedTo : ℕ → StateSet → StateSet → StateSet
-joinedTo zero r t = r
-joinedTo (suc k) r t = set (joinedTo k r t) k (bitOr (getD (joinedTo k r t) k 0) (getD t k 0))
-
-abbrev pub joined : StateSet → StateSet → StateSet
-joined r t = joinedTo (length t) r t
 
 -- ---- the closures that are kept
 

@@ -2,13 +2,14 @@
 ghost use Prim.Native.Nat.{_+_, _≤_};
 ghost use mathlib.Core.Path.{_≡_};
 ghost use lib.ListN.{length};
-ghost use Rattle.step.specs.Closure.{Room, Put, Closing, ClosingAt, Followed, Closable, ClosureOf, joined, Keepable, Kept, Joinable, JoinedClosure};
+ghost use Rattle.step.specs.Closure.{Room, Put, Closing, ClosingAt, Followed, Closable, ClosureOf, Keepable, Kept, Joinable, JoinedClosure};
 use super::index::KEYS;
 use super::index::STATE_KEYS;
-use slices::sets::write_set_at;
+use sets::state::contains;
+use sets::state::insert;
+use sets::whole::join;
+use sets::whole::write_set_at;
 use tables::head::STATE_RANGE;
-use tables::set::contains;
-use tables::set::insert;
 
 // How many closures are kept, one in a row of SET_WORDS words.
 const ROWS: usize = 64;
@@ -99,18 +100,6 @@ fn keep_closure(
     let closure = close_state(table, index, state, pending);
     write_set_at(rows, row * SET_WORDS, &closure);
     owners[row] = owner;
-}
-
-// Puts the states of another set into a set.
-fn join(set: &mut [u32], other: &[u32])
-    requires { ⌜ length (now other) ≤ length (now set) ⌝ }
-    ensures { λ _. ⌜ now (set .exit) ≡ joined (now (set .entry)) (now (other .entry)) ⌝ }
-{
-    let mut k = 0;
-    while k < other.len() {
-        set[k] = set[k] | other[k];
-        k += 1;
-    }
 }
 
 // Puts the closure of a state into a set.

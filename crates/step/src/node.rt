@@ -12,9 +12,9 @@ ghost use Rattle.step.specs.Closure.{Closures};
 ghost use Rattle.step.specs.Node.{Sources, Steppable, Seeding, SeedingAt, Joined, Seeded};
 use super::closure::join_closure;
 use super::index::KEYS;
+use sets::state::contains;
 use tables::head::STATE_RANGE;
 use tables::head::set_size;
-use tables::set::contains;
 
 // Whether the part states from word `at` on are all in the children's sets.
 fn sources_contained(table: &[u32], at: usize, size: usize, marks: &[u32], children: &[u32]) -> bool

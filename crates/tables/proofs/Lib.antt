@@ -1,4 +1,2 @@
-pub mod Constants
-pub mod MaskLaws
 pub mod CheckLaws
 pub mod ScanLaws

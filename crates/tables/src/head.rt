@@ -3,7 +3,7 @@ ghost use mathlib.Core.Path.{_≡_};
 ghost use lib.ListN.{getD};
 ghost use Rattle.automaton.specs.Transition.{automatonOf};
 ghost use Rattle.operations.specs.Marks.{sizeOf, finalOf};
-use super::set::WORD_BITS;
+use sets::state::size_for;
 
 // Bits 9..0 of a word of a table are a state. Above them stand a head's state count, a symbol transition's symbol, or the
 // from state of an epsilon transition.
@@ -43,5 +43,5 @@ pub fn final_state(table: &[u32]) -> usize
 pub fn set_size(table: &[u32]) -> usize
     ensures { λ r. ⌜ r ≡ sizeOf (now (table .entry)) ⌝ }
 {
-    (state_count(table) + 31) / WORD_BITS
+    size_for(state_count(table))
 }

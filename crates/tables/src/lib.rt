@@ -1,4 +1,3 @@
-// The table layer: whether words are a table, what its head says, and state sets.
+// The table layer: whether words are a table, and what its head says.
 pub mod check;
 pub mod head;
-pub mod set;

@@ -4,7 +4,7 @@ use Prim.Native.Nat.{_-_}
 use mathlib.Core.Path.{_∙_}
 use lib.ListN.{length}
 use borrow.Author.Needs.{needs}
-use Rattle.lines.proofs.WritingLaws.{written-more}
+use Rattle.encoding.proofs.WritingLaws.{written-more}
 use Rattle.lines.proofs.LineLaws.{Hit, hit-none, hit-more, hit-end}
 use Rattle.lines.proofs.write_lines.Statement.{statement}
 use Rattle.lines.proofs.write_lines.Tie as tie

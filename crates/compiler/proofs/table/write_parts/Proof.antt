@@ -6,7 +6,7 @@ use lib.ListN.{length}
 use lib.Seq.{length-take-le}
 use borrow.Author.Needs.{needs}
 use Rattle.words.proofs.AcceptedAlphabet.{alphabet-accepted}
-use Rattle.ports.proofs.WritingLaws.{wrote-next}
+use Rattle.emitter.proofs.WritingLaws.{wrote-next}
 use Rattle.compiler.proofs.KnownConstants.{constants-symbols}
 use Rattle.compiler.proofs.AcceptedLaws.{expression-accepted, constants-counted, length-take-most, states-few}
 use Rattle.compiler.proofs.TableLaws.{word-last, wrote-table}

@@ -4,7 +4,7 @@ use Prim.Native.Nat.{_+_, _-_}
 use native.Mathlib.Omega.{arith}
 use lib.ListN.{length, getD}
 use borrow.Author.Needs.{needs}
-use Rattle.ports.proofs.WritingLaws.{wrote-next}
+use Rattle.emitter.proofs.WritingLaws.{wrote-next}
 use Rattle.emitter.proofs.EntryLaws.{ToChildren, children-none, children-more, children-end}
 use Rattle.emitter.proofs.entries.push_to_children.Statement.{statement}
 use Rattle.emitter.proofs.entries.push_to_children.Tie as tie

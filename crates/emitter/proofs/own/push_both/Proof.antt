@@ -1,6 +1,6 @@
 -- `emitter::own::push_both` meets its contract: one transition stands behind the other. Assumes nothing.
 use borrow.Author.Needs.{needs}
-use Rattle.ports.proofs.WritingLaws.{wrote-more}
+use Rattle.emitter.proofs.WritingLaws.{wrote-more}
 use Rattle.emitter.proofs.own.push_both.Statement.{statement}
 use Rattle.emitter.proofs.own.push_both.Tie as tie
 

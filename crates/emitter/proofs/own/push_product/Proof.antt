@@ -2,7 +2,7 @@
 use native.Mathlib.Omega.{arith}
 use lib.ListN.{getD}
 use borrow.Author.Needs.{needs}
-use Rattle.ports.proofs.WritingLaws.{wrote-next}
+use Rattle.emitter.proofs.WritingLaws.{wrote-next}
 use Rattle.emitter.proofs.EntryLaws.{to-entry}
 use Rattle.emitter.proofs.OwnLaws.{emits-later, product-own}
 use Rattle.emitter.proofs.own.push_product.Statement.{statement}

@@ -3,7 +3,7 @@ use Prim.Native.Nat.{_-_}
 use native.Mathlib.Omega.{arith}
 use lib.ListN.{length}
 use borrow.Author.Needs.{needs}
-use Rattle.ports.proofs.WritingLaws.{wrote-next}
+use Rattle.emitter.proofs.WritingLaws.{wrote-next}
 use Rattle.emitter.proofs.SourceLaws.{Sourced, sourced-none, sourced-more, sourced-end}
 use Rattle.emitter.proofs.own.push_sources.Statement.{statement}
 use Rattle.emitter.proofs.own.push_sources.Tie as tie

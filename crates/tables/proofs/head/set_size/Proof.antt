@@ -1,4 +1,5 @@
--- `tables::head::set_size` meets its contract: the state count is below 2,048, so that the sum fits. Assumes nothing.
+-- `tables::head::set_size` meets its contract: a head's state count is below 2,048, as `size_for` asks. Assumes nothing.
+use mathlib.Core.Path.{ap, _∙_}
 use native.Mathlib.Omega.{arith}
 use borrow.Author.Needs.{needs}
 use Rattle.automaton.specs.Transition.{automatonOf}
@@ -10,13 +11,13 @@ use Rattle.tables.proofs.head.set_size.Tie as tie
 state-count-requires : tie.Need-state-count-requires
 state-count-requires c κs = search needs
 
-add-result : tie.Need-add-result
+size-for-requires : tie.Need-size-for-requires
 unfolding automatonOf
-add-result c = omega (arith, c .state-count .ensures)
+size-for-requires c κs = omega (arith, c .state-count .ensures)
 
 returns : tie.Need-returns
-unfolding sizeOf sizeFor
-returns c = rw (c .state-count .ensures)
+unfolding sizeOf
+returns c = c .size-for .ensures ∙ ap sizeFor (c .before .state-count .ensures)
 
 pub set-size-spec : {M : Type 1} → statement M
-set-size-spec = tie.close (tie.spec state-count-requires add-result returns)
+set-size-spec = tie.close (tie.spec state-count-requires size-for-requires returns)

@@ -1,0 +1,80 @@
+-- Laws of bytes written one after the other. Assumes nothing.
+use mathlib.Core.Path.{_≡_, refl, ap, _∙_, sym}
+use mathlib.Core.List.{List, [], _∷_, _++_}
+use Prim.Native.Nat.{ℕ, _+_, _<_, _≤_}
+use native.Mathlib.Omega.{arith}
+use native.Mathlib.Nat.{add-zero, add-assoc}
+use native.Mathlib.Numerals.{add-one}
+use lib.ListN.{length, getD, take, drop, set, length-append}
+use lib.Seq.{sets, length-sets, take-suc, take-all}
+use Rattle.words.proofs.ListLaws.{sets-append, sets-whole}
+use Rattle.encoding.specs.Writing.{Written}
+
+pub written-none : (at : ℕ) (out : List ℕ) → Written at [] out out at
+written-none at out = record { bytes = λ room. refl; next = λ room. sym (add-zero at) }
+
+-- one byte, where it was stored if there was room
+pub written-one : (at b : ℕ) (out : List ℕ) → Written at (b ∷ []) out (set out at b) (at + 1)
+written-one at b out = record { bytes = λ room. refl; next = λ room. refl }
+
+-- no room: nothing is said
+pub written-full : (at b : ℕ) (out out′ : List ℕ) (r : ℕ) → length out ≤ at → Written at (b ∷ []) out out′ r
+written-full at b out out′ r h = record { bytes = λ room. absurd (omega arith); next = λ room. absurd (omega arith) }
+
+-- bytes after bytes
+pub written-more : {at next r : ℕ} {bs cs out out′ out″ : List ℕ}
+    → Written at bs out out′ next → Written next cs out′ out″ r → Written at (bs ++ cs) out out″ r
+written-more {at} {next} {r} {bs} {cs} {out} {out′} {out″} p q =
+    record { bytes = λ room. bytes (room-first room) (room-then room) room; next = λ room. end (room-first room) (room-then room) }
+  where
+    room-first : at + length (bs ++ cs) ≤ length out → at + length bs ≤ length out
+    room-first room = let e = length-append bs cs in omega arith
+
+    room-then : at + length (bs ++ cs) ≤ length out → next + length cs ≤ length out′
+    room-then room =
+        let e = length-append bs cs in
+        let n = p .next (room-first room) in
+        let l : length out′ ≡ length out = ap length (p .bytes (room-first room)) ∙ length-sets out at bs in
+        omega arith
+
+    bytes : at + length bs ≤ length out → next + length cs ≤ length out′ → at + length (bs ++ cs) ≤ length out → out″ ≡ sets out at (bs ++ cs)
+    bytes f t room = q .bytes t ∙ rw (p .next f, p .bytes f) (sym (sets-append bs cs out at))
+
+    end : at + length bs ≤ length out → next + length cs ≤ length out′ → r ≡ at + length (bs ++ cs)
+    end f t = q .next t ∙ rw (p .next f, length-append) (add-assoc at (length bs) (length cs))
+
+-- the same bytes, said otherwise
+pub written-same : {at r : ℕ} {bs cs out out′ : List ℕ} → Written at bs out out′ r → bs ≡ cs → Written at cs out out′ r
+written-same p e = rw (← e) p
+
+-- all bytes from the first place on
+pub written-whole : (bs out out′ : List ℕ) (r : ℕ) → Written 0 bs out out′ r → length bs ≤ length out
+    → (r ≡ length bs) × (out′ ≡ bs ++ drop (length bs) out)
+written-whole bs out out′ r p h =
+    let z : 0 + length bs ≡ length bs = omega arith in
+    (p .next (omega arith) ∙ z, p .bytes (omega arith) ∙ sets-whole bs out h)
+
+-- ---- the loop over a text, after i of its bytes
+
+pub record Texted (text : List ℕ) (at : ℕ) (out₀ out : List ℕ) (next i : ℕ) : Type 0 where
+  pub few : i ≤ length text
+  pub long : length out ≡ length out₀
+  pub written : Written at (take i text) out₀ out next
+
+module _ (text : List ℕ) (at : ℕ) (out₀ : List ℕ) where
+  pub texted-none : Texted text at out₀ out₀ at 0
+  texted-none = record { few = omega arith; long = refl; written = written-none at out₀ }
+
+  pub texted-more : (out : List ℕ) (next i : ℕ) → Texted text at out₀ out next i → i < length text
+      → (out′ : List ℕ) (r : ℕ) → length out′ ≡ length out → Written next (getD text i 0 ∷ []) out out′ r → Texted text at out₀ out′ r (i + 1)
+  texted-more out next i t h out′ r l w =
+      record {
+        few = omega arith;
+        long = l ∙ t .long;
+        written =
+            written-same (written-more (t .written) w)
+            (sym (ap (λ (k : ℕ). take k text) (add-one i) ∙ take-suc text i 0 h));
+      }
+
+  pub texted-end : (out : List ℕ) (next i : ℕ) → Texted text at out₀ out next i → length text ≤ i → Written at text out₀ out next
+  texted-end out next i t h = written-same (t .written) (take-all i text h)

@@ -1,0 +1,3 @@
+// Bytes: texts and decimal numbers are written, words are read, low byte first.
+pub mod word;
+pub mod writer;

@@ -1,0 +1,75 @@
+-- Every value of an accepted call fits 32 bits. Assumes nothing.
+use mathlib.Core.Path.{_≡_, refl, sym}
+use mathlib.Core.List.{List, [], _∷_, flatten, head-eq-of-cons-eq}
+use Prim.Native.Nat.{ℕ, _*_, _^_, _<_, _≤_}
+use native.Mathlib.Omega.{arith}
+use native.Mathlib.Nat.{le-trans, mul-le-mul-left, mul-le-mul-right}
+use lib.ListN.{length, take}
+use Rattle.words.specs.Postfix.{splice}
+use Rattle.automaton.specs.Transition.{automatonOf}
+use Rattle.automaton.specs.StateSet.{sizeFor}
+use Rattle.operations.specs.Answer.{accepted}
+use Rattle.operations.specs.Compile.{compileAnswer}
+use Rattle.operations.specs.Marks.{sizeOf, nodeSets}
+use Rattle.operations.specs.Run.{runFault, cellsIn, runAnswer}
+use Rattle.operations.specs.Listing.{matchesOf, listRefusals, listFault, listAnswer}
+use Rattle.operations.specs.Exchange.{Outcome, kept, recomputed, recomputedIn, fault, newTree, outcomes, exchangeAnswer}
+use Rattle.operations.proofs.AcceptedLaws.{accepted-values, none-applies, count-right, run-accepted, exchange-accepted}
+use Rattle.operations.proofs.CompileLaws.{compile-accepted}
+use Rattle.operations.proofs.CellLaws.{cells-nodeSets}
+use Rattle.operations.proofs.MatchLaws.{matchesOf-few}
+use Rattle.operations.proofs.Recomputed.{exchanged}
+
+-- Compile: at most 1,147 words
+pub compile-value : (a e slice : List ℕ) {k : ℕ} → accepted (k ∷ []) ≡ compileAnswer a e slice → k < 2 ^ 32
+compile-value a e slice {k} h =
+    let g = compile-accepted a e slice k (sym h) in
+    omega (arith, g .count, g .most)
+
+-- the words of all state sets, whatever the head says of the states
+words-most : (table : List ℕ) (n : ℕ) → n ≤ 4096 → n * sizeOf table ≤ 262144
+unfolding sizeOf sizeFor automatonOf
+words-most table n h =
+    let few : sizeOf table ≤ 64 = omega arith in
+    le-trans (mul-le-mul-right (sizeOf table) h) (mul-le-mul-left 4096 few)
+
+-- Run: at most 4,096 elements, and at most 32 ones in a word
+pub run-values : (a table ch marks : List ℕ) {n cells : ℕ} → accepted (n ∷ cells ∷ []) ≡ runAnswer a table ch marks → (n < 2 ^ 32) × (cells < 2 ^ 32)
+unfolding runAnswer
+run-values a table ch marks {n} {cells} h =
+    let v = accepted-values (runFault a table ch (length marks)) _ (n ∷ cells ∷ []) (sym h) in
+    let few = run-accepted a table ch (length marks) (v .0) .counted .few in
+    let e : length ch ≡ n = cc in
+    let q : cellsIn (flatten (nodeSets a table ch)) ≡ cells = cc in
+    let fit = words-most table (length ch) few in
+    let most = cells-nodeSets a table ch in
+    (omega arith, omega arith)
+
+-- List: at most as many hits as elements
+pub list-value : (a table : List ℕ) (n : ℕ) (marks list : List ℕ) {k : ℕ} → accepted (k ∷ []) ≡ listAnswer a table n marks list → k < 2 ^ 32
+unfolding listAnswer
+list-value a table n marks list {k} h =
+    let v = accepted-values (listFault a table n (length marks) (length list)) (length (matchesOf table n marks) ∷ []) (k ∷ []) (sym h) in
+    let few = count-right n (none-applies (listRefusals a table n (length marks) (length list)) refl (v .0) 9) .few in
+    let q : length (matchesOf table n marks) ≡ k = head-eq-of-cons-eq (v .1) in
+    let most = matchesOf-few table marks n in
+    omega arith
+
+recomputed-few : (os : List Outcome) → recomputedIn os ≤ length os
+unfolding recomputedIn
+recomputed-few [] = omega arith
+recomputed-few (kept r ∷ os) = let i = recomputed-few os in omega arith
+recomputed-few (recomputed r ∷ os) = let i = recomputed-few os in omega arith
+
+-- Exchange: at most 4,096 elements, and at most as many recomputed
+pub exchange-values : (a table chapter marks : List ℕ) (n e : ℕ) (xs : List ℕ) {count worked : ℕ}
+    → accepted (count ∷ worked ∷ []) ≡ exchangeAnswer a table chapter marks n e xs → (count < 2 ^ 32) × (worked < 2 ^ 32)
+unfolding exchangeAnswer fault newTree
+exchange-values a table chapter marks n e xs {count} {worked} h =
+    let v = accepted-values (fault a table chapter marks n e xs) _ (count ∷ worked ∷ []) (sym h) in
+    let few = exchange-accepted a table n (take n chapter) (length chapter) (length marks) e xs (v .0) .fits .few in
+    let q : length (splice a (take n chapter) e xs) ≡ count = cc in
+    let w : recomputedIn (outcomes a table chapter marks n e xs) ≡ worked = cc in
+    let nodes = exchanged a table chapter marks n e xs (v .0) .nodes in
+    let most = recomputed-few (outcomes a table chapter marks n e xs) in
+    (omega arith, omega arith)

@@ -1,0 +1,8 @@
+pub mod Constants
+pub mod MaskLaws
+pub mod JoinLaws
+pub mod CompareLaws
+pub mod CountLaws
+pub mod RowLaws
+pub mod SetLaws
+pub mod StoredLaws

@@ -1,0 +1,10 @@
+-- Which set of a slice may be copied: a condition that callers show. It serves inner functions. Assumes nothing.
+use Prim.Native.Nat.{ℕ, _+_, _≤_}
+use mathlib.Core.List.{List}
+use lib.ListN.{length}
+
+-- one set of at most 32 words from index `from` on, and its places from index `to` on, lie inside the slice
+pub record Copyable (words : List ℕ) (from to size : ℕ) : Type 0 where
+  pub small : size ≤ 32
+  pub source : from + size ≤ length words
+  pub target : to + size ≤ length words

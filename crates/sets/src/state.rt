@@ -1,0 +1,81 @@
+// One state of a set: state s is bit s mod 32 of word s / 32.
+ghost use mathlib.Core.Path.{_≡_};
+ghost use Prim.Native.Nat.{_^_, _<_};
+ghost use Rattle.automaton.specs.StateSet.{sizeFor, contains as StateSet·contains, insert as StateSet·insert};
+
+// The states of one word of a set.
+const WORD_BITS: usize = 32;
+
+// The word with bit b alone, for each b.
+const MASKS: [u32; 32] = [
+    1,
+    2,
+    4,
+    8,
+    16,
+    32,
+    64,
+    128,
+    256,
+    512,
+    1024,
+    2048,
+    4096,
+    8192,
+    16384,
+    32768,
+    65536,
+    131072,
+    262144,
+    524288,
+    1048576,
+    2097152,
+    4194304,
+    8388608,
+    16777216,
+    33554432,
+    67108864,
+    134217728,
+    268435456,
+    536870912,
+    1073741824,
+    2147483648,
+];
+
+fn mask(b: usize) -> u32
+    requires { ⌜ b < 32 ⌝ }
+    ensures { λ r. ⌜ r ≡ 2 ^ b ⌝ }
+{
+    MASKS[b]
+}
+
+// Document 01's S: the words of a set of this many states.
+pub fn size_for(states: usize) -> usize
+    requires { ⌜ states < 2048 ⌝ }
+    ensures { λ r. ⌜ r ≡ sizeFor states ⌝ }
+{
+    (states + 31) / WORD_BITS
+}
+
+// Whether the set has state s; a state beyond the set's words is not in it. The bit is shifted to the lowest place and not
+// masked, since a constant table is copied at each use.
+pub fn contains(set: &[u32], s: usize) -> bool
+    ensures { λ r. ⌜ r ≡ StateSet·contains (now (set .entry)) s ⌝ }
+{
+    let at = s / WORD_BITS;
+    if at < set.len() {
+        return (set[at] >> (s % WORD_BITS) as u32) % 2 == 1;
+    }
+    false
+}
+
+// Puts state s into the set; a state beyond the set's words changes nothing.
+pub fn insert(set: &mut [u32], s: usize)
+    ensures { λ _. ⌜ now (set .exit) ≡ StateSet·insert (now (set .entry)) s ⌝ }
+{
+    let at = s / WORD_BITS;
+    if at < set.len() {
+        let one = mask(s % WORD_BITS);
+        set[at] = set[at] | one;
+    }
+}
