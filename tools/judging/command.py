@@ -5,6 +5,7 @@ from pathlib import Path
 
 from . import certificate, checker, matcher
 from .book import Unfit, first_difference, read_claim, read_input
+from .notation import NoCertificate
 
 USAGE = '''\
 usage: ./judge [--certificate FILE] INPUT [CLAIM..]
@@ -73,7 +74,7 @@ def check(file):
     try:
         text = content_of(file).decode('utf-8')
         book, answer = certificate.read(text)
-    except (UnicodeDecodeError, certificate.NoCertificate) as error:
+    except (UnicodeDecodeError, NoCertificate) as error:
         print(f'{file}: refused: {error}')
         return DIFFERS
     verdict, reason = checker.ask(text)

@@ -177,13 +177,16 @@ class Steps:
     def step(self, word, children):
         key = word, tuple(children)
         if key not in self.known:
-            self.known[key] = self.work_out(low_byte(word), children)
+            self.known[key] = self.work_out(word, children)
         return self.known[key]
 
-    def work_out(self, symbol, children):
-        todo = [target for sources, target in self.on_symbol.get(symbol, [])
+    def targets(self, word, children):
+        """The targets of the symbol moves that the node takes."""
+        return [target for sources, target in self.on_symbol.get(low_byte(word), [])
                 if len(sources) == len(children) and all(map(self.contains, children, sources))]
-        reached = set()
+
+    def work_out(self, word, children):
+        todo, reached = self.targets(word, children), set()
         while todo:
             state = todo.pop()
             if state not in reached:
@@ -210,6 +213,10 @@ def starts_of(alphabet, chapter):
         stack.append(children[0] if children else index)
         starts.append(stack[-1])
     return starts
+
+
+def is_refused(book):
+    return isinstance(book, Truncated) or refusal(book) != 0
 
 
 def answer(book):

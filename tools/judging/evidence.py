@@ -1,0 +1,173 @@
+"""Why a book's lines are what they are: facts that the checker computes one by one, each within its limit of steps, and of which
+the law `reported` makes the whole output."""
+
+from collections import Counter
+from itertools import groupby
+
+from . import matcher
+from .notation import chain, fact, hexadecimal, inline, joined, list_of, listed, part_of
+
+# The checker's limit is 50,000,000 steps a fact; a visit of a transition takes some hundred.
+VISITS_IN_FACT = 40_000
+
+READING = ['kindAt', 'rankOf', 'arity']
+SETS = ['sizeFor', 'contains', 'insert']
+DECIMALS = ['digitsWithin', 'decimal']
+
+
+def transition(move):
+    name, *fields = move
+    if name == 'empty':
+        return f'epsilon {fields[0]} {fields[1]}'
+    return f'onSymbol {fields[0]} ({inline(map(str, fields[1]))}) {fields[2]}'
+
+
+def passes(transitions, symbol_targets):
+    """How many passes over the empty moves close a set."""
+    reached, count = set(symbol_targets), 1
+    moves = [move[1:] for move in transitions if move[0] == 'empty']
+    while any(start in reached and end not in reached for start, end in moves):
+        count += 1
+        for start, end in moves:
+            if start in reached:
+                reached.add(end)
+    return count
+
+
+class Walk:
+    """The walk over a chapter: each element's state set, the steps that occur, the most frequent first, and the stacks between
+    the parts of the chapter."""
+
+    def __init__(self, book, words_in_part):
+        self.automaton = matcher.Automaton(book.alphabet, book.rule)
+        self.table = self.automaton.table()
+        self.steps = matcher.Steps(self.table)
+        uses, stack, self.stacks, self.sets = Counter(), [], [], []
+        for index, word in enumerate(book.chapter):
+            if index % words_in_part == 0:
+                self.stacks.append(stack[::-1])
+            children = matcher.pop(stack, matcher.arity(book.alphabet, word))
+            uses[word, tuple(children)] += 1
+            stack.append(self.steps.step(word, children))
+            self.sets.append(stack[-1])
+        self.stacks.append(stack[::-1])
+        self.used = [step for step, _ in uses.most_common()]
+        self.names = {words: f'set{i}' for i, words in enumerate(dict.fromkeys(self.sets))}
+        self.hits = [i for i, words in enumerate(self.sets) if self.steps.contains(words, self.steps.final)]
+
+    def step_text(self, step):
+        word, children = step
+        of = inline(self.names[child] for child in children)
+        return f'record {{ word = {hexadecimal(word)}; children = {of}; set = {self.names[self.steps.known[step]]} }}'
+
+    def visits(self, step):
+        """How many transitions are visited to work the step out."""
+        return len(self.automaton.transitions) * (1 + passes(self.automaton.transitions, self.steps.targets(*step)))
+
+    def groups(self):
+        """The steps in groups that are worked out in one fact each."""
+        groups, total = [], 0
+        for step in self.used:
+            visits = self.visits(step)
+            if not groups or total + visits > VISITS_IN_FACT:
+                groups.append([])
+                total = 0
+            groups[-1].append(step)
+            total += visits
+        return groups
+
+
+def table_facts(walk, unfolding):
+    moves = list_of('moves', walk.automaton.transitions, transition, 4, 'Transition')
+    states, final = walk.steps.states, walk.steps.final
+    return [list_of('table', walk.table, hexadecimal), moves,
+            'abbrev pub automaton : Automaton\n'
+            f'automaton = record {{ states = {states}; final = {final}; transitions = moves }}\n',
+            fact('compiles', 'compiledTable alphabet rule ≡ table', unfolding=unfolding),
+            fact('decodes', 'automatonOf table ≡ automaton', unfolding=unfolding),
+            fact('state-count', f'compiled alphabet rule .states ≡ {states}', unfolding=unfolding),
+            fact('final-state', f'compiled alphabet rule .final ≡ {final}', unfolding=unfolding)]
+
+
+def step_facts(walk):
+    """The steps, worked out; and `value`, which looks a step up."""
+    groups = walk.groups()
+    texts = [list_of(name, words, of='ℕ') for words, name in walk.names.items()]
+    for i, group in enumerate(groups):
+        proof = '(refl, ' * len(group) + 'tt' + ')' * len(group)
+        texts += [list_of(f'steps{i}', group, walk.step_text, 1, 'Step'),
+                  fact(f'known{i}', f'Known (quickSet automaton) steps{i}', proof, SETS)]
+    proof = f'known{len(groups) - 1}'
+    for i in reversed(range(len(groups) - 1)):
+        behind = ' ++ ('.join(f'steps{k}' for k in range(i + 1, len(groups))) + ')' * (len(groups) - i - 2)
+        proof = f'known-append (quickSet automaton) steps{i} ({behind}) known{i}\n    ({proof})'
+    return texts + [list_of('steps', walk.used, walk.step_text, 1, 'Step'),
+                    fact('known', 'Known (quickSet automaton) steps', proof),
+                    'unfoldable pub value : Value\nvalue w rs = found (quickSet automaton) steps w rs\n',
+                    fact('same-value', '(w : ℕ) (rs : List StateSet) → value w rs ≡ quickSet automaton w rs',
+                         'found-same (quickSet automaton) steps known w rs', ['value'])]
+
+
+def hit_facts(walk, nodes, words_in_part):
+    """The hits, part by part of the chapter."""
+    parts = len(walk.stacks) - 1
+    hits = {part: list(group) for part, group in groupby(walk.hits, lambda hit: hit // words_in_part)}
+    texts = [list_of(f'stack{i}', [walk.names[words] for words in stack], of='StateSet') for i, stack in enumerate(walk.stacks)]
+    texts += [part_of(f'hits{i}', hits.get(i, [])) for i in range(parts)] + [listed('hits', parts)]
+    scan = f'quickHits alphabet value {walk.steps.final}'
+    for i in range(parts):
+        end = min((i + 1) * words_in_part, nodes)
+        texts.append(fact(f'scanned{i}', f'(rest : List ℕ) → {scan} {i * words_in_part} (chapter{i} rest) stack{i} ≡ '
+                          f'hits{i} ({scan} {end} rest stack{i + 1})', unfolding=READING + ['contains', 'value']))
+    proof = chain('scanned', 'hits', parts, lambda i: joined('chapter', parts, i))
+    return texts + [fact('all-hits', f'{scan} 0 chapter [] ≡ hits', proof),
+                    fact('inside', f'below {nodes} hits ≡ true')]
+
+
+def line_facts(walk, nodes, starts, lines_in_part):
+    """The lines, part by part of the answer; the first begins with the head line."""
+    head = f'headLine {nodes} {walk.steps.states} {len(walk.hits)}'
+    ends = [0] + list(range(lines_in_part - 1, len(walk.hits), lines_in_part)) + [len(walk.hits)]
+    groups = [walk.hits[start:end] for start, end in zip(ends, ends[1:])]
+    groups = groups[:-1] if len(groups) > 1 and not groups[-1] else groups
+    lines = 'quickLines alphabet chapter starts'
+    texts = [list_of('starts', starts), fact('begin', 'quickStarts alphabet chapter 0 chapter [] ≡ starts', unfolding=READING)]
+    for i, group in enumerate(groups):
+        before = f'{head} ++ ' if i == 0 else ''
+        texts += [part_of(f'at{i}', group),
+                  fact(f'printed{i}', f'(rest : List ℕ) → {before}{lines} (at{i} rest) ≡ answer{i} ({lines} rest)',
+                       unfolding=DECIMALS + ['headLine'])]
+    proof = chain('printed', 'answer', len(groups), lambda i: joined('at', len(groups), i))
+    return texts + [fact('all-lines', f'{head} ++ {lines} hits ≡ answer', proof)]
+
+
+def evidence(book, words_in_part, lines_in_part, unfolding):
+    walk, nodes = Walk(book, words_in_part), len(book.chapter)
+    report = f'''\
+report : Report alphabet rule chapter value answer
+report = record {{
+  table = table;
+  compiles = compiles;
+  automaton = automaton;
+  decodes = decodes;
+  states = {walk.steps.states};
+  stateCount = state-count;
+  final = {walk.steps.final};
+  finalState = final-state;
+  value = same-value;
+  hits = hits;
+  found = all-hits;
+  nodes = {nodes};
+  elements = refl;
+  count = {len(walk.hits)};
+  counted = refl;
+  inside = inside;
+  tree = one-tree;
+  starts = starts;
+  begins = begin;
+  lines = all-lines;
+}}
+'''
+    return [*table_facts(walk, unfolding), *step_facts(walk), *hit_facts(walk, nodes, words_in_part),
+            fact('one-tree', 'trees alphabet 0 chapter 1 ≡ true', unfolding=READING + ['trees']),
+            *line_facts(walk, nodes, matcher.starts_of(book.alphabet, book.chapter), lines_in_part), report]
