@@ -3,12 +3,13 @@
 import sys
 from pathlib import Path
 
-from . import certificate, checker, matcher
+from . import certificate, checker, exchange, exchange_certificate, matcher
 from .book import Unfit, first_difference, read_claim, read_input
 from .notation import NoCertificate
 
 USAGE = '''\
 usage: ./judge [--certificate FILE] INPUT [CLAIM..]
+       ./judge [--certificate FILE] --exchange CALL [CLAIM..]
        ./judge --check CERTIFICATE'''
 
 AGREES, DIFFERS, BAD_USAGE, COULD_NOT_TELL = 0, 1, 2, 3
@@ -70,17 +71,45 @@ def judge(place, input_file, claim_files):
     return compare(claims, answer)
 
 
+def judge_exchange(place, call_file, claim_files):
+    call = exchange.read_call(content_of(call_file), call_file)
+    claims = [(file, exchange.read_left(content_of(file), file)) for file in claim_files]
+    right = exchange.left_by(call)
+    if not certify(exchange_certificate.text_of(call, right), place or Path(call_file).name + '.certificate'):
+        return COULD_NOT_TELL
+    if not claims:
+        print(exchange.left_text(right), end='')
+    status = AGREES
+    for file, claim in claims:
+        difference = exchange.first_difference(claim, right)
+        if difference is None:
+            print(f'{file}: agrees')
+        else:
+            print('{}: differs in {}: it has {}, the definition gives {}'.format(file, *difference))
+            status = DIFFERS
+    return status
+
+
+def read_certificate(text):
+    """What a certificate says: of which book or call, and the answer."""
+    if exchange_certificate.is_exchange(text):
+        call, left = exchange_certificate.read(text)
+        return f'the call whose numbers have SHA-256 {exchange_certificate.digest(call)}', exchange.left_text(left)
+    book, answer = certificate.read(text)
+    return f'the book with SHA-256 {certificate.digest(book)}', answer.decode('utf-8', 'backslashreplace')
+
+
 def check(file):
     try:
         text = content_of(file).decode('utf-8')
-        book, answer = certificate.read(text)
+        what, answer = read_certificate(text)
     except (UnicodeDecodeError, NoCertificate) as error:
         print(f'{file}: refused: {error}')
         return DIFFERS
     verdict, reason = checker.ask(text)
     if verdict == checker.ACCEPTED:
-        print(f'{file}: accepted, for the book with SHA-256 {certificate.digest(book)}:')
-        print(answer.decode(), end='')
+        print(f'{file}: accepted, for {what}:')
+        print(answer, end='')
         return AGREES
     print(f'{file}: {verdict}: {reason}')
     return DIFFERS if verdict == checker.REFUSED else COULD_NOT_TELL
@@ -93,9 +122,12 @@ def main(words):
         place = None
         if len(words) >= 2 and words[0] == '--certificate':
             place, words = words[1], words[2:]
+        how = judge
+        if words and words[0] == '--exchange':
+            how, words = judge_exchange, words[1:]
         if not words or any(word.startswith('--') for word in words):
             raise BadUsage(USAGE)
-        return judge(place, words[0], words[1:])
+        return how(place, words[0], words[1:])
     except BadUsage as error:
         print(error, file=sys.stderr)
         return BAD_USAGE
