@@ -11,7 +11,11 @@ MOST_WORDS = 8192
 
 
 class Unfit(Exception):
-    """A file that cannot be judged; the text says why."""
+    """A book or a call that is too large to be judged."""
+
+
+class BadForm(Exception):
+    """A file that is not in its form; the text says where."""
 
 
 class Book(NamedTuple):
@@ -53,10 +57,10 @@ def read_claim(content):
 
 
 def first_difference(claim, answer):
-    """The number of the first line that differs, and both lines; None where there is none."""
+    """Where a claim first differs, what it has there and what is right; None where nothing differs."""
     claimed, right = claim.split(b'\n'), answer.split(b'\n')
     for number in range(max(len(claimed), len(right))):
         pair = [lines[number] if number < len(lines) - 1 else None for lines in (claimed, right)]
         if pair[0] != pair[1]:
-            return number + 1, *('no line' if line is None else f'`{line.decode("utf-8", "backslashreplace")}`' for line in pair)
+            return f'line {number + 1}', *('no line' if line is None else f'`{line.decode("utf-8", "backslashreplace")}`' for line in pair)
     return None

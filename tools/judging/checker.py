@@ -3,6 +3,7 @@
 import os
 import re
 import shutil
+import signal
 import subprocess
 import sys
 import tempfile
@@ -58,7 +59,8 @@ def run(scratch):
     log = scratch / 'log'
     with open(log, 'wb') as out:
         process = subprocess.Popen(['rt', 'check', 'certificate'], cwd=scratch, stdin=subprocess.DEVNULL, stdout=out,
-                                   stderr=subprocess.STDOUT, env={**os.environ, 'RT_JOBS': '1', 'RT_CUT': '400'})
+                                   stderr=subprocess.STDOUT, env={**os.environ, 'RT_JOBS': '1', 'RT_CUT': '400'},
+                                   start_new_session=True)
         began = time.monotonic()
         while True:
             try:
@@ -67,7 +69,7 @@ def run(scratch):
             except subprocess.TimeoutExpired:
                 print(f'judge: the checker computes the definition, {time.monotonic() - began:.0f} s', file=sys.stderr, flush=True)
             except BaseException:
-                process.terminate()
+                os.killpg(process.pid, signal.SIGTERM)
                 process.wait()
                 raise
     return status, log.read_text(encoding='utf-8', errors='replace')
@@ -77,6 +79,7 @@ def ask(text):
     """What the checker says of a certificate's text, and its reason where it does not accept it."""
     if shutil.which('rt') is None:
         raise NoKit
+    signal.signal(signal.SIGTERM, lambda *_: sys.exit(128 + signal.SIGTERM))
     scratch = Path(tempfile.mkdtemp(prefix='judge-'))
     try:
         lay_out(scratch, text)

@@ -1,10 +1,10 @@
 """The command `./judge`."""
 
+import os
 import sys
 from pathlib import Path
 
-from . import certificate, checker, exchange, exchange_certificate, matcher
-from .book import Unfit, first_difference, read_claim, read_input
+from . import book, certificate, checker, exchange, exchange_certificate, matcher
 from .notation import NoCertificate
 
 USAGE = '''\
@@ -26,49 +26,50 @@ def content_of(file):
         raise BadUsage(f'{file}: {error.strerror}') from error
 
 
-def write(file, text):
-    try:
-        Path(file).write_text(text, encoding='utf-8')
-    except OSError as error:
-        raise BadUsage(f'{file}: {error.strerror}') from error
-
-
 def certify(text, file):
     """Writes the certificate where the checker accepts it; says so, or why not."""
+    if not os.access(Path(file).parent, os.W_OK) or Path(file).is_dir():
+        raise BadUsage(f'{file}: a certificate cannot be written there')
     verdict, reason = checker.ask(text)
     if verdict != checker.ACCEPTED:
         print(f'judge: the checker did not accept an answer, so there is none to compare with: {reason}')
         return False
-    write(file, text)
+    Path(file).write_text(text, encoding='utf-8')
     print(f'certificate {file}')
     return True
 
 
-def compare(claims, answer):
-    """A line for each claim; whether all agree."""
+def compare(claims, right, first_difference):
+    """A line for each claim; the status."""
     status = AGREES
-    for file, content in claims:
-        claim, notes = read_claim(content)
-        for note in notes:
-            print(f'{file}: {note}')
-        difference = first_difference(claim, answer)
+    for file, claim in claims:
+        difference = first_difference(claim, right)
         if difference is None:
             print(f'{file}: agrees')
         else:
-            print('{}: differs in line {}: it has {}, the definition gives {}'.format(file, *difference))
+            print('{}: differs in {}: it has {}, the definition gives {}'.format(file, *difference))
             status = DIFFERS
     return status
 
 
+def read_lines(file):
+    claim, notes = book.read_claim(content_of(file))
+    for note in notes:
+        print(f'{file}: {note}')
+    return claim
+
+
 def judge(place, input_file, claim_files):
-    claims = [(file, content_of(file)) for file in claim_files]
-    book = read_input(content_of(input_file))
-    answer = matcher.answer(book)
-    if not certify(certificate.text_of(book, answer), place or Path(input_file).name + '.certificate'):
+    claims = [(file, read_lines(file)) for file in claim_files]
+    given = book.read_input(content_of(input_file))
+    answer = matcher.answer(given)
+    if isinstance(given, book.Book) and len(given.chapter) > book.MARKLIST_MOST:
+        print(f'over {book.MARKLIST_MOST} elements, for which marklist says 9: judged with the limit of {book.MOST_ELEMENTS} that Run has')
+    if not certify(certificate.text_of(given, answer), place or Path(input_file).name + '.certificate'):
         return COULD_NOT_TELL
     if not claims:
         print(answer.decode(), end='')
-    return compare(claims, answer)
+    return compare(claims, answer, book.first_difference)
 
 
 def judge_exchange(place, call_file, claim_files):
@@ -79,15 +80,7 @@ def judge_exchange(place, call_file, claim_files):
         return COULD_NOT_TELL
     if not claims:
         print(exchange.left_text(right), end='')
-    status = AGREES
-    for file, claim in claims:
-        difference = exchange.first_difference(claim, right)
-        if difference is None:
-            print(f'{file}: agrees')
-        else:
-            print('{}: differs in {}: it has {}, the definition gives {}'.format(file, *difference))
-            status = DIFFERS
-    return status
+    return compare(claims, right, exchange.first_difference)
 
 
 def read_certificate(text):
@@ -95,8 +88,8 @@ def read_certificate(text):
     if exchange_certificate.is_exchange(text):
         call, left = exchange_certificate.read(text)
         return f'the call whose numbers have SHA-256 {exchange_certificate.digest(call)}', exchange.left_text(left)
-    book, answer = certificate.read(text)
-    return f'the book with SHA-256 {certificate.digest(book)}', answer.decode('utf-8', 'backslashreplace')
+    given, answer = certificate.read(text)
+    return f'the book with SHA-256 {certificate.digest(given)}', answer.decode('utf-8', 'backslashreplace')
 
 
 def check(file):
@@ -128,12 +121,14 @@ def main(words):
         if not words or any(word.startswith('--') for word in words):
             raise BadUsage(USAGE)
         return how(place, words[0], words[1:])
-    except BadUsage as error:
+    except (BadUsage, book.BadForm) as error:
         print(error, file=sys.stderr)
         return BAD_USAGE
     except checker.NoKit:
         print('judge: the kit is missing: there is no command rt', file=sys.stderr)
         return BAD_USAGE
-    except Unfit as error:
-        print(f'judge: not judged: {error}')
+    except book.Unfit as error:
+        print(f'judge: not judged: {error}', file=sys.stderr)
         return COULD_NOT_TELL
+    except KeyboardInterrupt:
+        return 130

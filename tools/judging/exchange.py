@@ -4,7 +4,7 @@ certificate then has to prove. Nothing worked out here is trusted."""
 import re
 from typing import NamedTuple
 
-from .book import MOST_ELEMENTS, Unfit
+from .book import MOST_ELEMENTS, BadForm, Unfit
 from .matcher import (Steps, arity, constants, is_element, is_entry, kind, low_byte, one_tree, pop, starts_of, state_sets)
 
 # More numbers than this in one list are written into no certificate.
@@ -36,12 +36,12 @@ def numbers_in(content, file, names):
         if not name:
             continue
         if name not in names:
-            raise Unfit(f'{file}, line {number}: `{name}` is none of {", ".join(names)}')
+            raise BadForm(f'{file}, line {number}: `{name}` is none of {", ".join(names)}')
         if not all(re.fullmatch('0x[0-9a-fA-F]+|[0-9]+', word) for word in words):
-            raise Unfit(f'{file}, line {number}: not a number')
+            raise BadForm(f'{file}, line {number}: not a number')
         values = [int(word, 16 if word.startswith('0x') else 10) for word in words]
         if any(value >> 32 for value in values):
-            raise Unfit(f'{file}, line {number}: a number of more than 32 bits')
+            raise BadForm(f'{file}, line {number}: a number of more than 32 bits')
         found.setdefault(name, []).extend(values)
         if len(found[name]) > MOST_NUMBERS:
             raise Unfit(f'{file}: more than {MOST_NUMBERS} numbers of `{name}`')
@@ -52,10 +52,10 @@ def read_call(content, file):
     found = numbers_in(content, file, Call._fields)
     missing = [name for name in Call._fields if name not in found]
     if missing:
-        raise Unfit(f'{file}: no line `{missing[0]}`')
+        raise BadForm(f'{file}: no line `{missing[0]}`')
     call = Call(**found)
     if len(call.count) != 1 or len(call.element) != 1:
-        raise Unfit(f'{file}: `count` and `element` take one number each')
+        raise BadForm(f'{file}: `count` and `element` take one number each')
     return call
 
 
@@ -64,9 +64,9 @@ def read_left(content, file):
     found = numbers_in(content, file, ('accepted', 'refused', 'chapter', 'marks'))
     answers = [[name, *found[name]] for name in ('accepted', 'refused') if name in found]
     if len(answers) != 1 or len(answers[0]) != {'accepted': 3, 'refused': 2}[answers[0][0]]:
-        raise Unfit(f'{file}: it takes one line `accepted`, with two numbers, or `refused`, with one')
+        raise BadForm(f'{file}: it takes one line `accepted`, with two numbers, or `refused`, with one')
     if 'chapter' not in found or 'marks' not in found:
-        raise Unfit(f'{file}: no line `chapter` or no line `marks`')
+        raise BadForm(f'{file}: no line `chapter` or no line `marks`')
     return Left(answers[0], found['chapter'], found['marks'])
 
 
