@@ -24,7 +24,7 @@ def transition(move):
 
 def passes(transitions, symbol_targets):
     """How many passes over the empty moves close a set."""
-    reached, count = set(symbol_targets), 1
+    reached, count = set(symbol_targets), 0
     moves = [move[1:] for move in transitions if move[0] == 'empty']
     while any(start in reached and end not in reached for start, end in moves):
         count += 1
@@ -52,17 +52,19 @@ class Walk:
             self.sets.append(stack[-1])
         self.stacks.append(stack[::-1])
         self.used = [step for step, _ in uses.most_common()]
+        self.passes = {step: passes(self.automaton.transitions, self.steps.targets(*step)) for step in self.used}
         self.names = {words: f'set{i}' for i, words in enumerate(dict.fromkeys(self.sets))}
         self.hits = [i for i, words in enumerate(self.sets) if self.steps.contains(words, self.steps.final)]
 
     def step_text(self, step):
         word, children = step
         of = inline(self.names[child] for child in children)
-        return f'record {{ word = {hexadecimal(word)}; children = {of}; set = {self.names[self.steps.known[step]]} }}'
+        name = self.names[self.steps.known[step]]
+        return f'record {{ word = {hexadecimal(word)}; children = {of}; set = {name}; passes = {self.passes[step]} }}'
 
     def visits(self, step):
-        """How many transitions are visited to work the step out."""
-        return len(self.automaton.transitions) * (1 + passes(self.automaton.transitions, self.steps.targets(*step)))
+        """How many transitions are visited to work the step out and to see that its set is closed."""
+        return len(self.automaton.transitions) * (2 + self.passes[step])
 
     def groups(self):
         """The steps in groups that are worked out in one fact each."""
@@ -94,18 +96,18 @@ def step_facts(walk):
     groups = walk.groups()
     texts = [list_of(name, words, of='ℕ') for words, name in walk.names.items()]
     for i, group in enumerate(groups):
-        proof = '(refl, ' * len(group) + 'tt' + ')' * len(group)
         texts += [list_of(f'steps{i}', group, walk.step_text, 1, 'Step'),
-                  fact(f'known{i}', f'Known (quickSet automaton) steps{i}', proof, SETS)]
-    proof = f'known{len(groups) - 1}'
+                  fact(f'right{i}', f'areRight automaton steps{i} ≡ true', unfolding=SETS)]
+    last = len(groups) - 1
+    proof = f'right-steps automaton steps{last} right{last}'
     for i in reversed(range(len(groups) - 1)):
         behind = ' ++ ('.join(f'steps{k}' for k in range(i + 1, len(groups))) + ')' * (len(groups) - i - 2)
-        proof = f'known-append (quickSet automaton) steps{i} ({behind}) known{i}\n    ({proof})'
+        proof = f'known-append (setBy automaton) steps{i} ({behind}) (right-steps automaton steps{i} right{i})\n    ({proof})'
     return texts + [list_of('steps', walk.used, walk.step_text, 1, 'Step'),
-                    fact('known', 'Known (quickSet automaton) steps', proof),
-                    'unfoldable pub value : Value\nvalue w rs = found (quickSet automaton) steps w rs\n',
-                    fact('same-value', '(w : ℕ) (rs : List StateSet) → value w rs ≡ quickSet automaton w rs',
-                         'found-same (quickSet automaton) steps known w rs', ['value'])]
+                    fact('known', 'Known (setBy automaton) steps', proof),
+                    'unfoldable pub value : Value\nvalue w rs = found (setBy automaton) steps w rs\n',
+                    fact('same-value', '(w : ℕ) (rs : List StateSet) → value w rs ≡ setBy automaton w rs',
+                         'found-same (setBy automaton) steps known w rs', ['value'])]
 
 
 def hit_facts(walk, nodes, words_in_part):
