@@ -7,8 +7,8 @@ from itertools import groupby
 from . import matcher
 from .notation import chain, fact, hexadecimal, inline, joined, list_of, listed, part_of
 
-# The checker's limit is 50,000,000 steps a fact; a visit of a transition takes some hundred.
-VISITS_IN_FACT = 40_000
+# The steps that are worked out in one fact: the checker's limit is 50,000,000 steps of its own a fact.
+STEPS_IN_FACT = 64
 
 READING = ['kindAt', 'rankOf', 'arity']
 SETS = ['sizeFor', 'contains', 'insert']
@@ -52,31 +52,20 @@ class Walk:
             self.sets.append(stack[-1])
         self.stacks.append(stack[::-1])
         self.used = [step for step, _ in uses.most_common()]
-        self.passes = {step: passes(self.automaton.transitions, self.steps.targets(*step)) for step in self.used}
         self.names = {words: f'set{i}' for i, words in enumerate(dict.fromkeys(self.sets))}
         self.hits = [i for i, words in enumerate(self.sets) if self.steps.contains(words, self.steps.final)]
 
     def step_text(self, step):
         word, children = step
         of = inline(self.names[child] for child in children)
-        name = self.names[self.steps.known[step]]
-        return f'record {{ word = {hexadecimal(word)}; children = {of}; set = {name}; passes = {self.passes[step]} }}'
-
-    def visits(self, step):
-        """How many transitions are visited to work the step out and to see that its set is closed."""
-        return len(self.automaton.transitions) * (2 + self.passes[step])
+        return f'record {{ word = {hexadecimal(word)}; children = {of}; set = {self.names[self.steps.known[step]]} }}'
 
     def groups(self):
-        """The steps in groups that are worked out in one fact each."""
-        groups, total = [], 0
+        """The steps in groups that reach the same states by their symbol moves: these states, and the steps."""
+        groups = {}
         for step in self.used:
-            visits = self.visits(step)
-            if not groups or total + visits > VISITS_IN_FACT:
-                groups.append([])
-                total = 0
-            groups[-1].append(step)
-            total += visits
-        return groups
+            groups.setdefault(frozenset(self.steps.targets(*step)), []).append(step)
+        return [(states, steps[i:i + STEPS_IN_FACT]) for states, steps in groups.items() for i in range(0, len(steps), STEPS_IN_FACT)]
 
 
 def table_facts(walk, unfolding):
@@ -94,16 +83,19 @@ def table_facts(walk, unfolding):
 def step_facts(walk):
     """The steps, worked out; and `value`, which looks a step up."""
     groups = walk.groups()
-    texts = [list_of(name, words, of='ℕ') for words, name in walk.names.items()]
-    for i, group in enumerate(groups):
-        texts += [list_of(f'steps{i}', group, walk.step_text, 1, 'Step'),
-                  fact(f'right{i}', f'areRight automaton steps{i} ≡ true', unfolding=SETS)]
-    last = len(groups) - 1
-    proof = f'right-steps automaton steps{last} right{last}'
+    texts = [list_of(name, words) for words, name in walk.names.items()]
+    proofs = []
+    for i, (states, steps) in enumerate(groups):
+        count, after = passes(walk.automaton.transitions, states), walk.names[walk.steps.known[steps[0]]]
+        texts += [list_of(f'steps{i}', steps, walk.step_text, 1, 'Step'), list_of(f'start{i}', walk.steps.words_of(states)),
+                  fact(f'closes{i}', f'closes automaton {count} start{i} {after} ≡ true', unfolding=SETS),
+                  fact(f'reach{i}', f'reach automaton start{i} {after} steps{i} ≡ true', unfolding=SETS)]
+        proofs.append(f'(right-steps automaton {count} start{i} {after} steps{i} closes{i} reach{i})')
+    behind, proof = f'steps{len(groups) - 1}', proofs[-1]
     for i in reversed(range(len(groups) - 1)):
-        behind = ' ++ ('.join(f'steps{k}' for k in range(i + 1, len(groups))) + ')' * (len(groups) - i - 2)
-        proof = f'known-append (setBy automaton) steps{i} ({behind}) (right-steps automaton steps{i} right{i})\n    ({proof})'
-    return texts + [list_of('steps', walk.used, walk.step_text, 1, 'Step'),
+        proof = f'known-append (setBy automaton) steps{i} ({behind}) {proofs[i]}\n    ({proof})'
+        behind = f'steps{i} ++ ({behind})'
+    return texts + [list_of('steps', [step for _, steps in groups for step in steps], walk.step_text, 1, 'Step'),
                     fact('known', 'Known (setBy automaton) steps', proof),
                     'unfoldable pub value : Value\nvalue w rs = found (setBy automaton) steps w rs\n',
                     fact('same-value', '(w : ℕ) (rs : List StateSet) → value w rs ≡ setBy automaton w rs',

@@ -192,7 +192,10 @@ class Steps:
             if state not in reached:
                 reached.add(state)
                 todo += self.onward.get(state, [])
-        return tuple(sum(1 << state % 32 for state in reached if state // 32 == i) for i in range(self.size))
+        return self.words_of(reached)
+
+    def words_of(self, states):
+        return tuple(sum(1 << state % 32 for state in states if state // 32 == i) for i in range(self.size))
 
 
 def state_sets(alphabet, steps, chapter):
