@@ -1,0 +1,190 @@
+"""One Exchange call for `./judge --exchange`: the plain text forms of the call and of what it leaves, and the answer that a
+certificate then has to prove. Nothing worked out here is trusted."""
+
+import re
+from typing import NamedTuple
+
+from .book import MOST_ELEMENTS, BadForm, Unfit
+from .matcher import (Steps, arity, constants, is_element, is_entry, kind, low_byte, one_tree, pop, starts_of, state_sets)
+
+# More numbers than this in one list are written into no certificate.
+MOST_NUMBERS = 131_072
+
+
+class Call(NamedTuple):
+    alphabet: list
+    table: list
+    chapter: list
+    marks: list
+    count: list
+    element: list
+    replacement: list
+
+
+class Left(NamedTuple):
+    """What a call answers, and the slices that it leaves."""
+    answer: list
+    chapter: list
+    marks: list
+
+
+def numbers_in(content, file, names):
+    """The lines of a file, each a name and its numbers; a name that stands several times goes on."""
+    found = {}
+    for number, line in enumerate(content.decode('utf-8', 'replace').splitlines(), 1):
+        name, *words = line.split('#')[0].split() or ['']
+        if not name:
+            continue
+        if name not in names:
+            raise BadForm(f'{file}, line {number}: `{name}` is none of {", ".join(names)}')
+        if not all(re.fullmatch('0x[0-9a-fA-F]+|[0-9]+', word) for word in words):
+            raise BadForm(f'{file}, line {number}: not a number')
+        values = [int(word, 16 if word.startswith('0x') else 10) for word in words]
+        if any(value >> 32 for value in values):
+            raise BadForm(f'{file}, line {number}: a number of more than 32 bits')
+        found.setdefault(name, []).extend(values)
+        if len(found[name]) > MOST_NUMBERS:
+            raise Unfit(f'{file}: more than {MOST_NUMBERS} numbers of `{name}`')
+    return found
+
+
+def read_call(content, file):
+    found = numbers_in(content, file, Call._fields)
+    missing = [name for name in Call._fields if name not in found]
+    if missing:
+        raise BadForm(f'{file}: no line `{missing[0]}`')
+    call = Call(**found)
+    if len(call.count) != 1 or len(call.element) != 1:
+        raise BadForm(f'{file}: `count` and `element` take one number each')
+    return call
+
+
+def read_left(content, file):
+    """A claim: `accepted` and two numbers or `refused` and one, and the two slices."""
+    found = numbers_in(content, file, ('accepted', 'refused', 'chapter', 'marks'))
+    answers = [[name, *found[name]] for name in ('accepted', 'refused') if name in found]
+    if len(answers) != 1 or len(answers[0]) != {'accepted': 3, 'refused': 2}[answers[0][0]]:
+        raise BadForm(f'{file}: it takes one line `accepted`, with two numbers, or `refused`, with one')
+    if 'chapter' not in found or 'marks' not in found:
+        raise BadForm(f'{file}: no line `chapter` or no line `marks`')
+    return Left(answers[0], found['chapter'], found['marks'])
+
+
+def left_text(left):
+    words = ' '.join(f'0x{word:x}' for word in left.chapter)
+    return f'{" ".join(map(str, left.answer))}\nchapter {words}\nmarks {" ".join(map(str, left.marks))}\n'
+
+
+def first_difference(claim, right):
+    """Where a claim first differs, what it has there and what is right; None where nothing differs."""
+    if claim.answer != right.answer:
+        return 'the answer', ' '.join(map(str, claim.answer)), ' '.join(map(str, right.answer))
+    for name, claimed, given in (('chapter', claim.chapter, right.chapter), ('marks', claim.marks, right.marks)):
+        for index in range(max(len(claimed), len(given))):
+            pair = [hex(words[index]) if index < len(words) else 'no word' for words in (claimed, given)]
+            if pair[0] != pair[1]:
+                return f'{name}, word {index}', *pair
+    return None
+
+
+# ---- the answer
+
+
+def is_table(alphabet, table):
+    if not 1 <= len(table) <= 2048:
+        return False
+    head, states = table[0], table[0] >> 10 & 2047
+    if kind(head) != 8 or head & 0xFFFFFFF >= 1 << 21 or not 1 <= states <= 1024 or head & 1023 >= states:
+        return False
+    sources = 0
+    for word in table[1:]:
+        body, symbol = word & 0xFFFFFFF, word >> 10 & 255
+        if word & 1023 >= states:
+            return False
+        if sources:
+            fits = kind(word) == 11 and body < 1 << 10
+            sources -= 1
+        elif kind(word) == 9:
+            fits = body < 1 << 18 and symbol < len(alphabet)
+            sources = low_byte(alphabet[symbol]) if fits else 0
+        else:
+            fits = kind(word) == 10 and body < 1 << 20 and word >> 10 & 1023 < states
+        if not fits:
+            return False
+    return sources == 0
+
+
+def is_tree(alphabet, words):
+    return all(is_element(alphabet, word) for word in words) and one_tree(alphabet, words)
+
+
+def spliced(call):
+    """The new elements, and where the replacement begins."""
+    used, element = call.chapter[:call.count[0]], call.element[0]
+    start = starts_of(call.alphabet, used)[element]
+    return used[:start] + call.replacement + used[element + 1:], start
+
+
+def refusal(call):
+    """The first refusal of Exchange that applies, or 0."""
+    alphabet, table, count = call.alphabet, call.table, call.count[0]
+    used = call.chapter[:count]
+    if not 1 <= len(alphabet) <= 64 or not all(map(is_entry, alphabet)):
+        return 1
+    if not 1 <= len(constants(alphabet)) <= 16:
+        return 2
+    if not is_table(alphabet, table):
+        return 8
+    if not 1 <= count <= min(MOST_ELEMENTS, len(call.chapter)):
+        return 9
+    if not all(is_element(alphabet, word) for word in used):
+        return 10
+    if not one_tree(alphabet, used):
+        return 11
+    size = Steps(table).size
+    if len(call.marks) < count * size:
+        return 12
+    if call.element[0] >= count:
+        return 14
+    if not 1 <= len(call.replacement) <= MOST_ELEMENTS or not is_tree(alphabet, call.replacement):
+        return 15
+    result = len(spliced(call)[0])
+    if result > min(MOST_ELEMENTS, len(call.chapter)) or result * size > len(call.marks):
+        return 16
+    return 0
+
+
+def recompute(call, steps, start):
+    """The state sets of the new elements, and how many of them were worked out."""
+    count, element = call.count[0], call.element[0]
+    stored = [tuple(call.marks[i * steps.size:(i + 1) * steps.size]) for i in range(count)]
+    fresh = state_sets(call.alphabet, steps, call.replacement)
+    behind, worked_out, going = [], len(fresh), fresh[-1] != stored[element]
+    starts = starts_of(call.alphabet, call.chapter[:count])
+    stack = []
+    for index, word in enumerate(call.chapter[:count]):
+        children = pop(stack, arity(call.alphabet, word))
+        words = fresh[-1] if index == element else stored[index]
+        if index > element:
+            if going and starts[index] <= element:
+                words, worked_out = steps.step(word, children), worked_out + 1
+                going = words != stored[index]
+            behind.append(words)
+        stack.append(words)
+    return stored[:start] + fresh + behind, worked_out
+
+
+def refit(old, words, lent):
+    return words + [0] * (old - len(words)) + lent[max(old, len(words)):]
+
+
+def left_by(call):
+    number = refusal(call)
+    if number:
+        return Left(['refused', number], call.chapter, call.marks)
+    steps = Steps(call.table)
+    tree, start = spliced(call)
+    sets, worked_out = recompute(call, steps, start)
+    count = call.count[0]
+    return Left(['accepted', len(tree), worked_out], refit(count, tree, call.chapter),
+                refit(count * steps.size, [word for words in sets for word in words], call.marks))
