@@ -17,8 +17,9 @@ PUBLISHED = {
     'language': 'words',
     'automaton': 'words language',
     'operations': 'words language automaton',
-    'lines': 'words',
-    'report': 'words language automaton operations lines',
+    'encoding': 'words',
+    'lines': 'words encoding',
+    'report': 'words language automaton operations encoding lines',
 }
 
 ACCEPTED, REFUSED, COULD_NOT_TELL = 'accepted', 'refused', 'could not tell'
