@@ -1,11 +1,11 @@
 -- Laws of refusals: a call is accepted exactly if no condition holds, and otherwise the first condition that holds gives the
 -- number. Assumes nothing.
 use mathlib.Core.Path.{_≡_, refl, _∙_, sym}
-use mathlib.Core.Bool.{Bool, true, false, _&&_}
+use mathlib.Core.Bool.{Bool, true, false, cond, _&&_}
 use mathlib.Core.List.{[], _∷_, _++_}
 use Prim.Native.Nat.{ℕ, _<_}
 use native.Mathlib.Omega.{arith}
-use lib.Dec.{ltb}
+use lib.Dec.{ltb, eqb}
 use borrow.Author.Tests.{ltb-true}
 use Rattle.words.specs.Refusal.{Refusals, refusal}
 use Rattle.words.proofs.TestLaws.{and-true}
@@ -57,3 +57,64 @@ part-refuses rs ks f e h = e ∙ sym (refusal-before rs ks (omega (arith, e, h))
 -- where the first list does not refuse, the second decides
 pub refusal-rest : (rs ks : Refusals) → positive rs ≡ true → refusal rs ≡ 0 → refusal (rs ++ ks) ≡ refusal ks
 refusal-rest rs ks p h = refusal-behind rs ks (refusal-none rs p h)
+
+-- ---- a number and how it is found
+
+-- the conditions before that of number f fail, and that one holds; or all fail, and f is 0
+pub data Found : Refusals → ℕ → Type 0 where
+  none : Found [] 0
+  here : {n : ℕ} {b : Bool} {rs : Refusals} → b ≡ true → Found ((n, b) ∷ rs) n
+  next : {n : ℕ} {b : Bool} {rs : Refusals} {f : ℕ} → b ≡ false → Found rs f → Found ((n, b) ∷ rs) f
+
+-- the law, both ways
+pub number : (rs : Refusals) {f : ℕ} → Found rs f → f ≡ refusal rs
+number [] none = refl
+number ((n, b) ∷ rs) (here e) = sym (rw e)
+number ((n, b) ∷ rs) (next e r) = number rs r ∙ sym (rw e)
+
+pub found : (rs : Refusals) {f : ℕ} → f ≡ refusal rs → Found rs f
+found rs e = rw e (go rs)
+  where
+    go : (rs : Refusals) → Found rs (refusal rs)
+    go [] = none
+    go ((n, true) ∷ rs) = here refl
+    go ((n, false) ∷ rs) = next refl (go rs)
+
+-- a part of the list that is judged as a whole, with number f: it refuses, or the rest decides
+refuses-in : {rs : Refusals} {f : ℕ} (ks : Refusals) → Found rs f → (f ≡ 0 → ⊥) → Found (rs ++ ks) f
+refuses-in ks none h = absurd (h refl)
+refuses-in ks (here e) h = here e
+refuses-in ks (next e r) h = next e (refuses-in ks r h)
+
+pub refuses : (rs ks : Refusals) {f : ℕ} → f ≡ refusal rs → (f ≡ 0 → ⊥) → Found (rs ++ ks) f
+refuses rs ks e h = refuses-in ks (found rs e) h
+
+passes-none : (rs : Refusals) {ks : Refusals} {g : ℕ} → NoneHolds rs → Found ks g → Found (rs ++ ks) g
+passes-none [] h r = r
+passes-none (q ∷ rs) h r = next (h .0) (passes-none rs (h .1) r)
+
+pub passes : (rs : Refusals) {ks : Refusals} {f g : ℕ} → positive rs ≡ true → f ≡ refusal rs → f ≡ 0 → Found ks g → Found (rs ++ ks) g
+passes rs p e h r = passes-none rs (refusal-none rs p (sym e ∙ h)) r
+
+-- where the whole list does not refuse, no part does
+pub parts-pass : (rs ks : Refusals) → positive rs ≡ true → refusal (rs ++ ks) ≡ 0 → (refusal rs ≡ 0) × (refusal ks ≡ 0)
+parts-pass [] ks p h = (refl, h)
+parts-pass ((n, true) ∷ rs) ks p h = let q = ltb-true 0 n (and-true (ltb 0 n) (positive rs) p .0) in absurd (omega arith)
+parts-pass ((n, false) ∷ rs) ks p h = parts-pass rs ks (and-true (ltb 0 n) (positive rs) p .1) h
+
+-- ---- the conditions by their numbers: none holds in a call that is not refused
+
+abbrev pub conditionOf : ℕ → Refusals → Bool
+conditionOf n [] = false
+conditionOf n (r ∷ rs) = let rest = conditionOf n rs in cond (eqb (r .0) n) (r .1) rest
+
+none-of : (rs : Refusals) → NoneHolds rs → (n : ℕ) → conditionOf n rs ≡ false
+none-of [] h n = refl
+none-of (r ∷ rs) h n = go (eqb (r .0) n) (none-of rs (h .1) n)
+  where
+    go : (b : Bool) → conditionOf n rs ≡ false → cond b (r .1) (conditionOf n rs) ≡ false
+    go true i = h .0
+    go false i = i
+
+pub none-applies : (rs : Refusals) → positive rs ≡ true → refusal rs ≡ 0 → (n : ℕ) → conditionOf n rs ≡ false
+none-applies rs p h = none-of rs (refusal-none rs p h)
