@@ -1,5 +1,3 @@
 pub mod AnswerLaws
 pub mod SharedLaws
-pub mod RunLaws
-pub mod ListLaws
 pub mod ExchangeLaws
