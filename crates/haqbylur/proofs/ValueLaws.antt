@@ -6,24 +6,19 @@ use native.Mathlib.Omega.{arith}
 use native.Mathlib.Nat.{suc-mul}
 use lib.ListN.{length, drop, take}
 use lib.Count.{ones-le}
-use borrow.Author.Tests.{ltb-false}
-use Rattle.words.specs.Alphabet.{alphabetRefusals}
-use Rattle.words.specs.Expression.{expressionRefusals}
 use Rattle.words.specs.Postfix.{arity, valueOn, values, splice}
-use Rattle.words.proofs.RefusalLaws.{refusal-none, none-refusal}
 use Rattle.automaton.specs.StateSet.{StateSet}
 use Rattle.automaton.specs.Transition.{automatonOf}
-use Rattle.automaton.specs.Numbering.{compiled}
 use Rattle.automaton.proofs.BitLaws.{Words}
 use Rattle.automaton.proofs.ClosureLaws.{words-stateSet}
-use Rattle.automaton.proofs.CompiledTable.{table-most}
 use Rattle.operations.specs.Answer.{accepted}
-use Rattle.operations.specs.Compile.{compiledTable, tooManyStates, compileRefusals, compileFault, compileAnswer}
+use Rattle.operations.specs.Compile.{compileAnswer}
 use Rattle.operations.specs.Marks.{sizeOf, nodeSet, nodeSets}
 use Rattle.operations.specs.Run.{runFault, cellsIn, runAnswer}
 use Rattle.operations.specs.Listing.{matchesOf, listFault, listAnswer}
 use Rattle.operations.specs.Exchange.{Outcome, kept, recomputed, recomputedIn, fault, newTree, outcomes, exchangeAnswer}
-use Rattle.operations.proofs.AcceptedLaws.{accepted-values, run-accepted, exchange-accepted}
+use Rattle.operations.proofs.AcceptedLaws.{accepted-values, run-accepted, list-accepted, exchange-accepted}
+use Rattle.operations.proofs.CompileLaws.{compile-accepted}
 use Rattle.operations.proofs.MarksLaws.{length-nodeSet}
 use Rattle.operations.proofs.Recomputed.{exchanged}
 use Rattle.compiler.specs.declared.Compiled.{Compiled}
@@ -39,22 +34,15 @@ use Rattle.exchanger.specs.declared.Exchanged.the-variants.{Replaced}
 use Rattle.exchanger.specs.Answers.{answerIn as answerInExchanged}
 use Rattle.slices.proofs.CellLaws.{cells-append}
 use Rattle.refusals.proofs.SharedLaws.{words-fit}
-use Rattle.matcher.proofs.CallLaws.{list-accepted}
 use Rattle.matcher.proofs.ListingLaws.{matchesOf-few}
 
 -- ---- Compile: at most 1,147 words
 
 pub compile-small : (a e slice : List ℕ) {k : ℕ} (r : Compiled) → r ≡ Table k → answerInCompiled r ≡ compileAnswer a e slice → k < 2 ^ 32
-unfolding compileAnswer tooManyStates
 compile-small a e slice {k} r told answer =
     let h : accepted (k ∷ []) ≡ compileAnswer a e slice = rw told at answer in
-    let v = accepted-values (compileFault a e (length slice)) (length (compiledTable a e) ∷ []) (k ∷ []) (sym h) in
-    let p = refusal-none (compileRefusals a e (length slice)) refl (v .0) in
-    let few = table-most a e (none-refusal (alphabetRefusals a) (p .0, (p .1 .0, tt)))
-    (none-refusal (expressionRefusals a e) (p .1 .1 .0, (p .1 .1 .1 .0, (p .1 .1 .1 .1 .0, tt))))
-    (ltb-false 1024 (compiled a e .states) (p .1 .1 .1 .1 .1 .0)) in
-    let q : length (compiledTable a e) ≡ k = head-eq-of-cons-eq (v .1) in
-    omega arith
+    let g = compile-accepted a e slice k (sym h) in
+    omega (arith, g .count, g .most)
 
 -- ---- Run: at most 4,096 elements, and at most 32 ones in a word
 
