@@ -14,7 +14,7 @@ use Rattle.words.specs.Alphabet.{constantsOf, alphabetFault}
 use Rattle.words.specs.Postfix.{arity, trees, oneTree, notOneTree}
 use Rattle.words.specs.Expression.{expressionRefusals, expressionFault}
 use Rattle.words.proofs.TestLaws.{picked}
-use Rattle.words.proofs.RefusalLaws.{refusal-none}
+use Rattle.words.proofs.RefusalLaws.{none-applies}
 use Rattle.words.proofs.AcceptedAlphabet.{AcceptedAlphabet, alphabet-accepted, arity-most}
 use Rattle.automaton.specs.Transition.{tableWords}
 use Rattle.automaton.specs.Numbering.{hasEntries, compiled}
@@ -80,7 +80,7 @@ pub table-most : (a e : List ℕ) → alphabetFault a ≡ 0 → expressionFault 
 unfolding notOneTree
 table-most a e g f m =
     let h = alphabet-accepted a g in
-    let o = not-false (oneTree a e) (refusal-none (expressionRefusals a e) refl f .1 .1 .0) in
+    let o = not-false (oneTree a e) (none-applies (expressionRefusals a e) refl f 5) in
     few-words (length (tableWords (compiled a e))) (branchingWords a e) (compiled a e .states) (length e) (innerWords a e) (leafWords a e) (length (constantsOf a))
     (table-length a e f) (states-counted a e) (inner-leaf a e) (expression-length a e f .1)
     (omega (arith, leaves-some a e 0 1 o)) (omega (arith, leaves-branching a h e 0 1 o)) (h .fewConstants) m

@@ -14,7 +14,7 @@ use Rattle.words.specs.Lists.{all}
 use Rattle.words.specs.Postfix.{arity, trees, oneTree, notOneTree}
 use Rattle.words.specs.Expression.{isExpressionWord, wrongLength, noExpressionWords, expressionRefusals, expressionFault}
 use Rattle.words.proofs.TestLaws.{and-true, or-false, picked}
-use Rattle.words.proofs.RefusalLaws.{refusal-none}
+use Rattle.words.proofs.RefusalLaws.{none-applies}
 use Rattle.automaton.specs.Numbering.{Port, statesOf, portOf, ownTransitions}
 use Rattle.automaton.proofs.Ports.{PortIn, portOf-in, portIn-from, Stack, bottom, push, Children, children-le, taken}
 use Rattle.automaton.proofs.OwnTransitions.{Own, own}
@@ -68,13 +68,13 @@ module _ (a : List ℕ) where
   pub expression-reading : (e : List ℕ) → expressionFault a e ≡ 0 → Reading a 0 e []
   unfolding noExpressionWords notOneTree
   expression-reading e h =
-      let f = refusal-none (expressionRefusals a e) refl h in
-      reading e 0 1 [] (not-false (all (isExpressionWord a) e) (f .1 .0)) (not-false (oneTree a e) (f .1 .1 .0)) bottom
+      let words = not-false (all (isExpressionWord a) e) (none-applies (expressionRefusals a e) refl h 4) in
+      let tree = not-false (oneTree a e) (none-applies (expressionRefusals a e) refl h 5) in
+      reading e 0 1 [] words tree bottom
 
   pub expression-length : (e : List ℕ) → expressionFault a e ≡ 0 → (0 < length e) × (length e ≤ 64)
   unfolding wrongLength
   expression-length e h =
-      let f = refusal-none (expressionRefusals a e) refl h in
-      let p = or-false (eqb (length e) 0) (ltb 64 (length e)) (f .0) in
+      let p = or-false (eqb (length e) 0) (ltb 64 (length e)) (none-applies (expressionRefusals a e) refl h 3) in
       let z = eqb-false (length e) 0 (p .0) in
       (omega arith, ltb-false 64 (length e) (p .1))

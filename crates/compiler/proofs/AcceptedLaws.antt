@@ -1,6 +1,6 @@
 -- What holds of an alphabet and a rule that refusals 1 to 5 let pass. Assumes nothing.
 use mathlib.Core.Path.{_≡_, refl, ap, _∙_, sym}
-use mathlib.Core.Bool.{true}
+use mathlib.Core.Bool.{true, false}
 use mathlib.Core.List.{List, [], _∷_, _++_}
 use Prim.Native.Nat.{ℕ, zero, suc, _*_, _<_, _≤_}
 use native.Mathlib.Omega.{arith}
@@ -11,7 +11,7 @@ use Rattle.words.specs.Lists.{all}
 use Rattle.words.specs.Alphabet.{constantsOf, alphabetFault}
 use Rattle.words.specs.Postfix.{oneTree, notOneTree}
 use Rattle.words.specs.Expression.{isExpressionWord, noExpressionWords, expressionRefusals, expressionFault}
-use Rattle.words.proofs.RefusalLaws.{refusal-none}
+use Rattle.words.proofs.RefusalLaws.{conditionOf, none-applies}
 use Rattle.words.proofs.ListLaws.{sets-whole}
 use Rattle.words.proofs.AcceptedAlphabet.{alphabet-accepted}
 use Rattle.automaton.proofs.Reading.{expression-length}
@@ -26,13 +26,13 @@ pub record AcceptedExpression (a e : List ℕ) : Type 0 where
 pub expression-accepted : (a e : List ℕ) → expressionFault a e ≡ 0 → AcceptedExpression a e
 unfolding noExpressionWords notOneTree
 expression-accepted a e h =
-    let f = refusal-none (expressionRefusals a e) refl h in
+    let not-so : (n : ℕ) → conditionOf n (expressionRefusals a e) ≡ false = none-applies (expressionRefusals a e) refl h in
     let l = expression-length a e h in
     record {
       some = l .0;
       few = l .1;
-      words = not-false (all (isExpressionWord a) e) (f .1 .0);
-      shape = not-false (oneTree a e) (f .1 .1 .0);
+      words = not-false (all (isExpressionWord a) e) (not-so 4);
+      shape = not-false (oneTree a e) (not-so 5);
     }
 
 -- the number of the constants

@@ -19,11 +19,10 @@ use Rattle.automaton.specs.Table.{isTable}
 use Rattle.automaton.proofs.TableLaws.{isTable-sizes}
 use Rattle.operations.specs.Marks.{sizeOf}
 use Rattle.operations.specs.Exchange.{fault}
-use Rattle.operations.proofs.AcceptedLaws.{ExchangeAccepted, exchange-accepted}
+use Rattle.operations.proofs.AcceptedLaws.{table-right, ExchangeAccepted, exchange-accepted}
 use Rattle.sets.proofs.StoredLaws.{words-few}
 use Rattle.refusals.proofs.ExchangeLaws.{result-length}
 use Rattle.nodes.specs.Nodes.{Workable}
-use Rattle.refusals.proofs.SharedLaws.{table-right}
 use Rattle.exchanger.specs.Tail.{TailFits}
 
 split-words : (i k size : ℕ) → (i + 1 + k) * size ≡ i * size + size + k * size

@@ -12,7 +12,7 @@ use Rattle.words.specs.Alphabet.{noAlphabet}
 use Rattle.words.specs.Postfix.{oneTree, notOneTree}
 use Rattle.words.specs.Chapter.{isNode, noNodes, treeRefusals, treeFault}
 use Rattle.words.specs.Expression.{isExpressionWord, noExpressionWords}
-use Rattle.words.proofs.RefusalLaws.{refusal-none, none-refusal}
+use Rattle.words.proofs.RefusalLaws.{none-refusal, none-applies}
 use Rattle.words.proofs.AlphabetLaws.{alphabet-most}
 use Rattle.words.proofs.ExactlyOne.{ExactlyOne}
 use Rattle.language.proofs.SubjectLaws.{SubjectOf, subject-nodes, subject-oneTree, exactly-one-subject}
@@ -29,8 +29,9 @@ module _ (a : List ℕ) (h : noAlphabet a ≡ false) where
     where
       to : treeFault a ch ≡ 0 → ExactlyOne (SubjectOf a ch)
       to z =
-          let p = refusal-none (treeRefusals a ch) refl z in
-          exactly-one-subject a most ch (not-false (all (isNode a) ch) (p .0)) (not-false (oneTree a ch) (p .1 .0))
+          let nodes = not-false (all (isNode a) ch) (none-applies (treeRefusals a ch) refl z 10) in
+          let tree = not-false (oneTree a ch) (none-applies (treeRefusals a ch) refl z 11) in
+          exactly-one-subject a most ch nodes tree
 
       from : ExactlyOne (SubjectOf a ch) → treeFault a ch ≡ 0
       from e =

@@ -1,23 +1,28 @@
--- What is known of a call that is not refused: the conditions of Run and Exchange by name, and back. Assumes nothing.
-use mathlib.Core.Path.{_≡_, refl, ap}
-use mathlib.Core.Bool.{Bool, true, false, not, cond, _&&_, _||_}
+-- What is known of a call that is not refused: for each operation one record, a field for each number, and for Run and List
+-- back. Assumes nothing.
+use mathlib.Core.Path.{_≡_, refl}
+use mathlib.Core.Bool.{true, false, not, _&&_, _||_}
 use mathlib.Core.List.{List, [], _∷_}
 use Prim.Native.Nat.{ℕ, _*_, _≤_, _<_}
 use native.Mathlib.Omega.{arith}
 use lib.ListN.{length}
 use lib.Dec.{ltb, eqb}
-use borrow.Author.Tests.{eqb-true, eqb-false, ne-eqb, ltb-true, ltb-false, lt-ltb, le-ltb, not-false}
+use borrow.Author.Tests.{eqb-true, eqb-false, ne-eqb, ltb-true, ltb-false, le-ltb, not-false}
 use Rattle.words.specs.Lists.{all}
-use Rattle.words.specs.Alphabet.{noAlphabet, wrongConstants}
+use Rattle.words.specs.Refusal.{refusal}
+use Rattle.words.specs.Alphabet.{noAlphabet, wrongConstants, alphabetRefusals, alphabetFault}
+use Rattle.words.specs.Expression.{wrongLength, noExpressionWords, expressionRefusals, expressionFault}
 use Rattle.words.specs.Chapter.{isNode, noNodes}
 use Rattle.words.specs.Postfix.{oneTree, notOneTree, splice}
 use Rattle.words.proofs.TestLaws.{Tested, holds, fails, tested, and-true, or-false, false-or}
-use Rattle.words.specs.Refusal.{Refusals, refusal}
-use Rattle.words.proofs.RefusalLaws.{NoneHolds, positive, refusal-none}
-use Rattle.automaton.specs.Table.{noTable}
+use Rattle.words.proofs.RefusalLaws.{none-refusal, conditionOf, none-applies, parts-pass}
+use Rattle.automaton.specs.Table.{isTable, noTable}
+use Rattle.automaton.specs.Numbering.{compiled}
 use Rattle.operations.specs.Answer.{refused, accepted, answerOf}
+use Rattle.operations.specs.Compile.{compiledTable, tooManyStates, tableTooLong, ruleRefusals, compileFault}
 use Rattle.operations.specs.Marks.{sizeOf}
 use Rattle.operations.specs.Run.{wrongCount, fewMarks, runRefusals, runFault}
+use Rattle.operations.specs.Listing.{listTooShort, listRefusals, listFault}
 use Rattle.operations.specs.Exchange.{wrongUse, noElement, noReplacement, resultTooLong, exchangeRefusals, exchangeFault}
 
 -- an accepted answer is that of a call without a refusal, and has its values
@@ -28,25 +33,12 @@ accepted-values f vs us h = go (tested (eqb f 0))
     go (holds b) = let e : accepted vs ≡ accepted us = rw b at h in (eqb-true f 0 b, cc)
     go (fails b) = absurd (let e : refused f ≡ accepted us = rw b at h in let z : _≡_ {A = ℕ} 0 1 = cc in omega arith)
 
--- ---- a call's conditions by their numbers
-
-abbrev pub conditionOf : ℕ → Refusals → Bool
-conditionOf n [] = false
-conditionOf n (r ∷ rs) = let rest = conditionOf n rs in cond (eqb (r .0) n) (r .1) rest
-
-pub none-of : (rs : Refusals) → NoneHolds rs → (n : ℕ) → conditionOf n rs ≡ false
-none-of [] h n = refl
-none-of (r ∷ rs) h n = go (eqb (r .0) n) (none-of rs (h .1) n)
-  where
-    go : (b : Bool) → conditionOf n rs ≡ false → cond b (r .1) (conditionOf n rs) ≡ false
-    go true i = h .0
-    go false i = i
-
--- none of them holds in a call that is not refused
-pub none-applies : (rs : Refusals) → positive rs ≡ true → refusal rs ≡ 0 → (n : ℕ) → conditionOf n rs ≡ false
-none-applies rs p h = none-of rs (refusal-none rs p h)
-
 -- ---- each condition
+
+-- 8
+pub table-right : (a table : List ℕ) → noTable a table ≡ false → isTable a table ≡ true
+unfolding noTable
+table-right a table h = not-false (isTable a table) h
 
 -- 9
 pub record Counted (n : ℕ) : Type 0 where
@@ -63,6 +55,17 @@ count-right n h =
 pub right-count : (n : ℕ) → Counted n → wrongCount n ≡ false
 unfolding wrongCount
 right-count n c = let s = c .some in false-or (eqb n 0) (ltb 4096 n) (ne-eqb n 0 (omega arith)) (le-ltb 4096 n (c .few))
+
+-- 9 of Exchange
+pub record Used (n treeRoom : ℕ) : Type 0 where
+  pub counted : Counted n
+  pub within : n ≤ treeRoom
+
+pub use-right : (n treeRoom : ℕ) → wrongUse n treeRoom ≡ false → Used n treeRoom
+unfolding wrongUse
+use-right n treeRoom h =
+    let p = or-false (wrongCount n) (ltb treeRoom n) h in
+    record { counted = count-right n (p .0); within = ltb-false treeRoom n (p .1) }
 
 -- 10 and 11
 pub nodes-right : (a ch : List ℕ) → noNodes a ch ≡ false → all (isNode a) ch ≡ true
@@ -96,10 +99,6 @@ pub record Replacement (a xs : List ℕ) : Type 0 where
   pub nodes : all (isNode a) xs ≡ true
   pub tree : oneTree a xs ≡ true
 
-pub right-replacement : (a xs : List ℕ) → Replacement a xs → noReplacement a xs ≡ false
-unfolding noReplacement
-right-replacement a xs g = rw (right-count (length xs) (g .counted), g .nodes, g .tree)
-
 pub replacement-right : (a xs : List ℕ) → noReplacement a xs ≡ false → Replacement a xs
 unfolding noReplacement
 replacement-right a xs h =
@@ -113,14 +112,6 @@ pub record ResultFits (table : List ℕ) (n treeRoom marksRoom : ℕ) : Type 0 w
   pub elements : n ≤ treeRoom
   pub marks : n * sizeOf table ≤ marksRoom
 
-pub right-result : (table : List ℕ) (n treeRoom marksRoom : ℕ) → ResultFits table n treeRoom marksRoom
-    → resultTooLong table n treeRoom marksRoom ≡ false
-unfolding resultTooLong
-right-result table n treeRoom marksRoom g =
-    false-or (ltb 4096 n || ltb treeRoom n) (fewMarks table n marksRoom)
-    (false-or (ltb 4096 n) (ltb treeRoom n) (le-ltb 4096 n (g .few)) (le-ltb treeRoom n (g .elements)))
-    (fit-marks table n marksRoom (g .marks))
-
 pub result-right : (table : List ℕ) (n treeRoom marksRoom : ℕ) → resultTooLong table n treeRoom marksRoom ≡ false
     → ResultFits table n treeRoom marksRoom
 unfolding resultTooLong
@@ -133,88 +124,186 @@ result-right table n treeRoom marksRoom h =
       marks = marks-fit table n marksRoom (p .1);
     }
 
--- ---- Run
+-- ---- Compile
 
-pub record RunAccepted (a table p : List ℕ) (room : ℕ) : Type 0 where
+-- an alphabet and a rule
+pub record RuleAccepted (a e : List ℕ) : Type 0 where
+  -- 1
   pub alphabet : noAlphabet a ≡ false
+  -- 2
   pub constants : wrongConstants a ≡ false
-  pub automaton : noTable a table ≡ false
-  pub counted : Counted (length p)
-  pub nodes : all (isNode a) p ≡ true
-  pub tree : oneTree a p ≡ true
-  pub marks : length p * sizeOf table ≤ room
+  -- 3
+  pub few : wrongLength e ≡ false
+  -- 4
+  pub words : noExpressionWords a e ≡ false
+  -- 5
+  pub tree : notOneTree a e ≡ false
+  -- 6
+  pub states : compiled a e .states ≤ 1024
 
-pub run-accepted : (a table p : List ℕ) (room : ℕ) → runFault a table p room ≡ 0 → RunAccepted a table p room
-run-accepted a table p room h =
-    let rs = runRefusals a table p room in
-    let not-so : (n : ℕ) → conditionOf n rs ≡ false = none-applies rs refl h in
+pub rule-accepted : (a e : List ℕ) → refusal (ruleRefusals a e) ≡ 0 → RuleAccepted a e
+unfolding tooManyStates
+rule-accepted a e h =
+    let not-so : (n : ℕ) → conditionOf n (ruleRefusals a e) ≡ false = none-applies (ruleRefusals a e) refl h in
     record {
       alphabet = not-so 1;
       constants = not-so 2;
-      automaton = not-so 8;
-      counted = count-right (length p) (not-so 9);
-      nodes = nodes-right a p (not-so 10);
-      tree = tree-right a p (not-so 11);
-      marks = marks-fit table (length p) room (not-so 12);
+      few = not-so 3;
+      words = not-so 4;
+      tree = not-so 5;
+      states = ltb-false 1024 (compiled a e .states) (not-so 6);
     }
 
-pub accepted-run : (a table p : List ℕ) (room : ℕ) → RunAccepted a table p room → runFault a table p room ≡ 0
-accepted-run a table p room g =
-    rw (
-      g .alphabet,
-      g .constants,
-      g .automaton,
-      right-count (length p) (g .counted),
-      right-nodes a p (g .nodes),
-      right-tree a p (g .tree),
-      fit-marks table (length p) room (g .marks),
-    )
+-- what 1 and 2, and 3 to 5, say together
+module _ {a e : List ℕ} (g : RuleAccepted a e) where
+  pub rule-alphabet : alphabetFault a ≡ 0
+  rule-alphabet = none-refusal (alphabetRefusals a) (g .alphabet, (g .constants, tt))
 
--- ---- Exchange
+  pub rule-expression : expressionFault a e ≡ 0
+  rule-expression = none-refusal (expressionRefusals a e) (g .few, (g .words, (g .tree, tt)))
 
-pub record ExchangeAccepted (a table : List ℕ) (n : ℕ) (used : List ℕ) (treeRoom marksRoom e : ℕ) (xs : List ℕ) : Type 0 where
+-- `room` is the length of the table slice
+pub record CompilePassed (a e : List ℕ) (room : ℕ) : Type 0 where
+  -- 1 to 6
+  pub rule : RuleAccepted a e
+  -- 7
+  pub fits : length (compiledTable a e) ≤ room
+
+pub compile-passed : (a e : List ℕ) (room : ℕ) → compileFault a e room ≡ 0 → CompilePassed a e room
+unfolding tableTooLong
+compile-passed a e room h =
+    let p = parts-pass (ruleRefusals a e) ((7, tableTooLong a e room) ∷ []) refl h in
+    record {
+      rule = rule-accepted a e (p .0);
+      fits = ltb-false room (length (compiledTable a e)) (none-applies ((7, tableTooLong a e room) ∷ []) refl (p .1) 7);
+    }
+
+-- ---- Run
+
+pub record RunAccepted (a table p : List ℕ) (room : ℕ) : Type 0 where
+  -- 1
   pub alphabet : noAlphabet a ≡ false
+  -- 2
   pub constants : wrongConstants a ≡ false
+  -- 8
   pub automaton : noTable a table ≡ false
-  pub counted : Counted n
-  pub within : n ≤ treeRoom
-  pub nodes : all (isNode a) used ≡ true
-  pub tree : oneTree a used ≡ true
-  pub marks : n * sizeOf table ≤ marksRoom
-  pub element : e < n
-  pub replacement : Replacement a xs
-  pub fits : ResultFits table (length (splice a used e xs)) treeRoom marksRoom
+  -- 9
+  pub counted : Counted (length p)
+  -- 10
+  pub nodes : all (isNode a) p ≡ true
+  -- 11
+  pub tree : oneTree a p ≡ true
+  -- 12
+  pub marks : length p * sizeOf table ≤ room
 
-module _ (a table : List ℕ) (n : ℕ) (used : List ℕ) (treeRoom marksRoom e : ℕ) (xs : List ℕ) where
-  pub accepted-exchange : ExchangeAccepted a table n used treeRoom marksRoom e xs → exchangeFault a table n used treeRoom marksRoom e xs ≡ 0
-  unfolding wrongUse noElement
-  accepted-exchange g =
+module _ (a table p : List ℕ) (room : ℕ) where
+  pub run-accepted : runFault a table p room ≡ 0 → RunAccepted a table p room
+  run-accepted h =
+      let rs = runRefusals a table p room in
+      let not-so : (n : ℕ) → conditionOf n rs ≡ false = none-applies rs refl h in
+      record {
+        alphabet = not-so 1;
+        constants = not-so 2;
+        automaton = not-so 8;
+        counted = count-right (length p) (not-so 9);
+        nodes = nodes-right a p (not-so 10);
+        tree = tree-right a p (not-so 11);
+        marks = marks-fit table (length p) room (not-so 12);
+      }
+
+  pub accepted-run : RunAccepted a table p room → runFault a table p room ≡ 0
+  accepted-run g =
+      rw (
+        g .alphabet,
+        g .constants,
+        g .automaton,
+        right-count (length p) (g .counted),
+        right-nodes a p (g .nodes),
+        right-tree a p (g .tree),
+        fit-marks table (length p) room (g .marks),
+      )
+
+-- ---- List
+
+pub record ListAccepted (a table : List ℕ) (n room listRoom : ℕ) : Type 0 where
+  -- 1
+  pub alphabet : noAlphabet a ≡ false
+  -- 2
+  pub constants : wrongConstants a ≡ false
+  -- 8
+  pub automaton : noTable a table ≡ false
+  -- 9
+  pub counted : Counted n
+  -- 12
+  pub marks : n * sizeOf table ≤ room
+  -- 13
+  pub list : n ≤ listRoom
+
+module _ (a table : List ℕ) (n room listRoom : ℕ) where
+  pub list-accepted : listFault a table n room listRoom ≡ 0 → ListAccepted a table n room listRoom
+  unfolding listTooShort
+  list-accepted h =
+      let rs = listRefusals a table n room listRoom in
+      let not-so : (k : ℕ) → conditionOf k rs ≡ false = none-applies rs refl h in
+      record {
+        alphabet = not-so 1;
+        constants = not-so 2;
+        automaton = not-so 8;
+        counted = count-right n (not-so 9);
+        marks = marks-fit table n room (not-so 12);
+        list = ltb-false listRoom n (not-so 13);
+      }
+
+  pub accepted-list : ListAccepted a table n room listRoom → listFault a table n room listRoom ≡ 0
+  unfolding listTooShort
+  accepted-list g =
       rw (
         g .alphabet,
         g .constants,
         g .automaton,
         right-count n (g .counted),
-        le-ltb treeRoom n (g .within),
-        right-nodes a used (g .nodes),
-        right-tree a used (g .tree),
-        fit-marks table n marksRoom (g .marks),
-        lt-ltb e n (g .element),
-        right-replacement a xs (g .replacement),
+        fit-marks table n room (g .marks),
+        le-ltb listRoom n (g .list),
       )
-      (ap (λ (b : Bool). cond b 16 0) (right-result table (length (splice a used e xs)) treeRoom marksRoom (g .fits)))
 
+-- ---- Exchange
+
+pub record ExchangeAccepted (a table : List ℕ) (n : ℕ) (used : List ℕ) (treeRoom marksRoom e : ℕ) (xs : List ℕ) : Type 0 where
+  -- 1
+  pub alphabet : noAlphabet a ≡ false
+  -- 2
+  pub constants : wrongConstants a ≡ false
+  -- 8
+  pub automaton : noTable a table ≡ false
+  -- 9
+  pub counted : Counted n
+  pub within : n ≤ treeRoom
+  -- 10
+  pub nodes : all (isNode a) used ≡ true
+  -- 11
+  pub tree : oneTree a used ≡ true
+  -- 12
+  pub marks : n * sizeOf table ≤ marksRoom
+  -- 14
+  pub element : e < n
+  -- 15
+  pub replacement : Replacement a xs
+  -- 16
+  pub fits : ResultFits table (length (splice a used e xs)) treeRoom marksRoom
+
+module _ (a table : List ℕ) (n : ℕ) (used : List ℕ) (treeRoom marksRoom e : ℕ) (xs : List ℕ) where
   pub exchange-accepted : exchangeFault a table n used treeRoom marksRoom e xs ≡ 0 → ExchangeAccepted a table n used treeRoom marksRoom e xs
-  unfolding wrongUse noElement
+  unfolding noElement
   exchange-accepted h =
       let rs = exchangeRefusals a table n used treeRoom marksRoom e xs in
       let not-so : (k : ℕ) → conditionOf k rs ≡ false = none-applies rs refl h in
-      let u = or-false (wrongCount n) (ltb treeRoom n) (not-so 9) in
+      let count = use-right n treeRoom (not-so 9) in
       record {
         alphabet = not-so 1;
         constants = not-so 2;
         automaton = not-so 8;
-        counted = count-right n (u .0);
-        within = ltb-false treeRoom n (u .1);
+        counted = count .counted;
+        within = count .within;
         nodes = nodes-right a used (not-so 10);
         tree = tree-right a used (not-so 11);
         marks = marks-fit table n marksRoom (not-so 12);

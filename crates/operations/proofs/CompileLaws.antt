@@ -1,17 +1,13 @@
 -- What is known of an accepted Compile: the table slice begins with the table of the numbered automaton, which is one over
 -- the alphabet, and the decoder reads that automaton back. Assumes nothing.
 use Prim.Native.Nat.{ℕ, _≤_}
-use mathlib.Core.Path.{_≡_, refl, sym}
+use mathlib.Core.Path.{_≡_, sym}
 use mathlib.Core.Bool.{false}
 use mathlib.Core.List.{List, [], _∷_}
 use native.Mathlib.Omega.{arith}
 use lib.ListN.{length, take, drop}
 use lib.Seq.{take-at}
-use borrow.Author.Tests.{ltb-false}
-use Rattle.words.specs.Alphabet.{noAlphabet, alphabetRefusals, alphabetFault}
-use Rattle.words.specs.Expression.{noExpressionWords, expressionRefusals, expressionFault}
-use Rattle.words.specs.Postfix.{notOneTree}
-use Rattle.words.proofs.RefusalLaws.{none-refusal}
+use Rattle.words.specs.Alphabet.{noAlphabet}
 use Rattle.words.proofs.AlphabetLaws.{alphabet-most}
 use Rattle.words.proofs.ExactlyOne.{ExactlyOne}
 use Rattle.language.proofs.ExpressionLaws.{ExpressionOf}
@@ -23,8 +19,8 @@ use Rattle.automaton.proofs.DecodeLaws.{automatonOf-words}
 use Rattle.automaton.proofs.CompiledOver.{compiled-over}
 use Rattle.automaton.proofs.CompiledTable.{compiled-isTable, table-most}
 use Rattle.operations.specs.Answer.{accepted}
-use Rattle.operations.specs.Compile.{compiledTable, tooManyStates, compileRefusals, compileFault, compileAnswer, compileExit}
-use Rattle.operations.proofs.AcceptedLaws.{accepted-values, conditionOf, none-applies}
+use Rattle.operations.specs.Compile.{compiledTable, compileFault, compileAnswer, compileExit}
+use Rattle.operations.proofs.AcceptedLaws.{accepted-values, compile-passed, rule-alphabet, rule-expression}
 
 -- an accepted call that answers k
 pub record CompileAccepted (a e slice : List ℕ) (k : ℕ) : Type 0 where
@@ -41,36 +37,13 @@ pub record CompileAccepted (a e slice : List ℕ) (k : ℕ) : Type 0 where
   -- "No compiled table takes more than 1,147 words."
   pub most : length (compiledTable a e) ≤ 1147
 
--- the refusals that do not apply, and what they say together
-record Fine (a e : List ℕ) : Type 0 where
-  alphabet : noAlphabet a ≡ false
-  words : noExpressionWords a e ≡ false
-  tree : notOneTree a e ≡ false
-  states : compiled a e .states ≤ 1024
-  alphabetFine : alphabetFault a ≡ 0
-  expressionFine : expressionFault a e ≡ 0
-
-compile-fine : (a e : List ℕ) (room : ℕ) → compileFault a e room ≡ 0 → Fine a e
-unfolding tooManyStates
-compile-fine a e room h =
-    let rs = compileRefusals a e room in
-    let not-so : (n : ℕ) → conditionOf n rs ≡ false = none-applies rs refl h in
-    record {
-      alphabet = not-so 1;
-      words = not-so 4;
-      tree = not-so 5;
-      states = ltb-false 1024 (compiled a e .states) (not-so 6);
-      alphabetFine = none-refusal (alphabetRefusals a) (not-so 1, (not-so 2, tt));
-      expressionFine = none-refusal (expressionRefusals a e) (not-so 3, (not-so 4, (not-so 5, tt)));
-    }
-
 pub compile-accepted : (a e slice : List ℕ) (k : ℕ) → compileAnswer a e slice ≡ accepted (k ∷ []) → CompileAccepted a e slice k
 unfolding compileAnswer compileExit noTable
 compile-accepted a e slice k h =
     let v = accepted-values (compileFault a e (length slice)) (length (compiledTable a e) ∷ []) (k ∷ []) h in
-    let f = compile-fine a e (length slice) (v .0) in
+    let f = compile-passed a e (length slice) (v .0) .rule in
     let few = alphabet-most a (f .alphabet) in
-    let over = compiled-over a e (f .expressionFine) (f .states) in
+    let over = compiled-over a e (rule-expression f) (f .states) in
     let n : k ≡ length (compiledTable a e) = cc in
     record {
       alphabet = f .alphabet;
@@ -80,6 +53,6 @@ compile-accepted a e slice k h =
       count = n;
       table = rw (v .0) (take-at (compiledTable a e) (drop (length (compiledTable a e)) slice) k (sym n));
       automaton = automatonOf-words a (omega arith) over;
-      passes = rw (compiled-isTable a e (f .alphabetFine) (f .expressionFine) (f .states));
-      most = table-most a e (f .alphabetFine) (f .expressionFine) (f .states);
+      passes = rw (compiled-isTable a e (rule-alphabet f) (rule-expression f) (f .states));
+      most = table-most a e (rule-alphabet f) (rule-expression f) (f .states);
     }

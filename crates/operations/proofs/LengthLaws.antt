@@ -1,26 +1,26 @@
 -- Every call, accepted or refused, leaves each lent slice as long as it was. What an accepted call writes fits the slice: the
 -- table by 7, the state sets by 12 and 16, the matches by 13, since there are at most as many as elements. Assumes nothing.
 use Prim.Native.Nat.{ℕ, suc, _*_, _<_, _≤_}
-use mathlib.Core.Path.{_≡_, refl, ap, _∙_}
+use mathlib.Core.Path.{_≡_, ap, _∙_}
 use mathlib.Core.List.{List, [], _∷_, _++_, map, flatten}
 use native.Mathlib.Omega.{arith}
 use native.Mathlib.Nat.{mul-le-mul-right}
 use lib.ListN.{length, take, drop, length-append, length-drop, length-map}
 use lib.Seq.{length-take-le}
 use lib.Dec.{eqb}
-use borrow.Author.Tests.{eqb-true, ltb-false}
+use borrow.Author.Tests.{eqb-true}
 use Rattle.words.specs.Lists.{listFrom}
 use Rattle.words.specs.Postfix.{splice}
 use Rattle.words.proofs.TestLaws.{Tested, holds, fails, tested}
 use Rattle.words.proofs.ListLaws.{length-listFrom}
 use Rattle.automaton.specs.StateSet.{StateSet, contains}
 use Rattle.operations.specs.Answer.{exitOf}
-use Rattle.operations.specs.Compile.{compiledTable, tableTooLong, compileRefusals, compileFault, compileExit}
+use Rattle.operations.specs.Compile.{compiledTable, compileFault, compileExit}
 use Rattle.operations.specs.Marks.{sizeOf, finalOf, storedSet, refit}
 use Rattle.operations.specs.Run.{runFault, runMarks, runExit}
-use Rattle.operations.specs.Listing.{listTooShort, listRefusals, listFault, matchesIn, matchesOf, listExit}
+use Rattle.operations.specs.Listing.{listFault, matchesIn, matchesOf, listExit}
 use Rattle.operations.specs.Exchange.{setIn, outcomesAfter, fault, newTree, outcomes, exchangeChapter, exchangeMarks}
-use Rattle.operations.proofs.AcceptedLaws.{none-applies, run-accepted, ExchangeAccepted, exchange-accepted}
+use Rattle.operations.proofs.AcceptedLaws.{compile-passed, run-accepted, list-accepted, ExchangeAccepted, exchange-accepted}
 use Rattle.operations.proofs.MarksLaws.{Sized, length-storedSet, length-flatten, length-refit}
 use Rattle.operations.proofs.RunLaws.{run-length}
 use Rattle.operations.proofs.RuleLaws.{follows-length, follows-outcomes}
@@ -42,11 +42,10 @@ length-over ws slice h = simp (length-append, length-drop) (omega arith)
 -- ---- Compile, Run and List
 
 pub compile-length : (a e slice : List ℕ) → length (compileExit a e slice) ≡ length slice
-unfolding compileExit tableTooLong
+unfolding compileExit
 compile-length a e slice =
     length-exit (compileFault a e (length slice)) (compiledTable a e ++ drop (length (compiledTable a e)) slice) slice
-    (λ h. length-over (compiledTable a e) slice
-    (ltb-false (length slice) (length (compiledTable a e)) (none-applies (compileRefusals a e (length slice)) refl h 7)))
+    (λ h. length-over (compiledTable a e) slice (compile-passed a e (length slice) h .fits))
 
 pub run-exit-length : (a table ch marks : List ℕ) → length (runExit a table ch marks) ≡ length marks
 unfolding runExit
@@ -71,10 +70,10 @@ matchesOf-most table n marks =
     omega (arith, matches-most (finalOf table) rs 0, length-listFrom (storedSet (sizeOf table) marks) n 0)
 
 pub list-length : (a table : List ℕ) (n : ℕ) (marks slice : List ℕ) → length (listExit a table n marks slice) ≡ length slice
-unfolding listExit listTooShort
+unfolding listExit
 list-length a table n marks slice =
     length-exit (listFault a table n (length marks) (length slice)) (matchesOf table n marks ++ drop (length (matchesOf table n marks)) slice) slice
-    (λ h. let l = ltb-false (length slice) n (none-applies (listRefusals a table n (length marks) (length slice)) refl h 13) in
+    (λ h. let l = list-accepted a table n (length marks) (length slice) h .list in
     length-over (matchesOf table n marks) slice (omega (arith, matchesOf-most table n marks)))
 
 -- ---- Exchange

@@ -12,9 +12,9 @@ use Rattle.operations.specs.Answer.{accepted}
 use Rattle.operations.specs.Compile.{compileAnswer}
 use Rattle.operations.specs.Marks.{sizeOf, nodeSets}
 use Rattle.operations.specs.Run.{runFault, cellsIn, runAnswer}
-use Rattle.operations.specs.Listing.{matchesOf, listRefusals, listFault, listAnswer}
+use Rattle.operations.specs.Listing.{matchesOf, listFault, listAnswer}
 use Rattle.operations.specs.Exchange.{Outcome, kept, recomputed, recomputedIn, fault, newTree, outcomes, exchangeAnswer}
-use Rattle.operations.proofs.AcceptedLaws.{accepted-values, none-applies, count-right, run-accepted, exchange-accepted}
+use Rattle.operations.proofs.AcceptedLaws.{accepted-values, run-accepted, list-accepted, exchange-accepted}
 use Rattle.operations.proofs.CompileLaws.{compile-accepted}
 use Rattle.operations.proofs.CellLaws.{cells-nodeSets}
 use Rattle.operations.proofs.MatchLaws.{matchesOf-few}
@@ -27,7 +27,7 @@ compile-value a e slice {k} h =
     omega (arith, g .count, g .most)
 
 -- the words of all state sets, whatever the head says of the states
-words-most : (table : List ℕ) (n : ℕ) → n ≤ 4096 → n * sizeOf table ≤ 262144
+pub words-most : (table : List ℕ) (n : ℕ) → n ≤ 4096 → n * sizeOf table ≤ 262144
 unfolding sizeOf sizeFor automatonOf
 words-most table n h =
     let few : sizeOf table ≤ 64 = omega arith in
@@ -50,7 +50,7 @@ pub list-value : (a table : List ℕ) (n : ℕ) (marks list : List ℕ) {k : ℕ
 unfolding listAnswer
 list-value a table n marks list {k} h =
     let v = accepted-values (listFault a table n (length marks) (length list)) (length (matchesOf table n marks) ∷ []) (k ∷ []) (sym h) in
-    let few = count-right n (none-applies (listRefusals a table n (length marks) (length list)) refl (v .0) 9) .few in
+    let few = list-accepted a table n (length marks) (length list) (v .0) .counted .few in
     let q : length (matchesOf table n marks) ≡ k = head-eq-of-cons-eq (v .1) in
     let most = matchesOf-few table marks n in
     omega arith

@@ -23,9 +23,12 @@ tooManyStates a e = ltb 1024 (compiled a e .states)
 unfoldable pub tableTooLong : List ℕ → List ℕ → ℕ → Bool
 tableTooLong a e room = ltb room (length (compiledTable a e))
 
+-- 1 2 3 4 5 6, of an alphabet and a rule
+abbrev pub ruleRefusals : List ℕ → List ℕ → Refusals
+ruleRefusals a e = alphabetRefusals a ++ (expressionRefusals a e ++ ((6, tooManyStates a e) ∷ []))
+
 abbrev pub compileRefusals : List ℕ → List ℕ → ℕ → Refusals
-compileRefusals a e room =
-    alphabetRefusals a ++ (expressionRefusals a e ++ ((6, tooManyStates a e) ∷ (7, tableTooLong a e room) ∷ []))
+compileRefusals a e room = ruleRefusals a e ++ ((7, tableTooLong a e room) ∷ [])
 
 abbrev pub compileFault : List ℕ → List ℕ → ℕ → ℕ
 compileFault a e room = refusal (compileRefusals a e room)

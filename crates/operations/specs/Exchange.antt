@@ -7,14 +7,12 @@ use lib.ListN.{length, getD, take, drop}
 use lib.Dec.{ltb}
 use Rattle.words.specs.Lists.{all, listFrom}
 use Rattle.words.specs.Refusal.{Refusals, refusal}
-use Rattle.words.specs.Alphabet.{alphabetRefusals}
-use Rattle.words.specs.Chapter.{isNode, treeRefusals}
+use Rattle.words.specs.Chapter.{isNode}
 use Rattle.words.specs.Postfix.{arity, oneTree, startOf, isAncestor, splice, valueOn, stackAfter, stackGiven}
-use Rattle.automaton.specs.Table.{noTable}
 use Rattle.automaton.specs.StateSet.{StateSet}
 use Rattle.operations.specs.Answer.{Answer, answerOf, exitOf}
 use Rattle.operations.specs.Marks.{sizeOf, nodeSet, nodeSets, storedSet, sameWords, refit}
-use Rattle.operations.specs.Run.{wrongCount, fewMarks}
+use Rattle.operations.specs.Run.{wrongCount, fewMarks, tableRefusals, markedRefusals}
 
 -- 9: "also if the used count exceeds the chapter slice"
 unfoldable pub wrongUse : ℕ → ℕ → Bool
@@ -32,13 +30,17 @@ noReplacement a xs = wrongCount (length xs) || not (all (isNode a) xs && oneTree
 unfoldable pub resultTooLong : List ℕ → ℕ → ℕ → ℕ → Bool
 resultTooLong table n treeRoom marksRoom = ltb 4096 n || ltb treeRoom n || fewMarks table n marksRoom
 
+-- 14 15 16, of a change in n used elements
+abbrev pub changeRefusals : List ℕ → List ℕ → ℕ → List ℕ → ℕ → ℕ → ℕ → List ℕ → Refusals
+changeRefusals a table n used treeRoom marksRoom e xs =
+    (14, noElement n e) ∷ (15, noReplacement a xs)
+    ∷ (16, resultTooLong table (length (splice a used e xs)) treeRoom marksRoom) ∷ []
+
 -- of a call with this used count n and these used elements, slices of these lengths, an element and a replacement
 abbrev pub exchangeRefusals : List ℕ → List ℕ → ℕ → List ℕ → ℕ → ℕ → ℕ → List ℕ → Refusals
 exchangeRefusals a table n used treeRoom marksRoom e xs =
-    alphabetRefusals a ++ ((8, noTable a table) ∷ (9, wrongUse n treeRoom)
-    ∷ (treeRefusals a used
-    ++ ((12, fewMarks table n marksRoom) ∷ (14, noElement n e) ∷ (15, noReplacement a xs)
-    ∷ (16, resultTooLong table (length (splice a used e xs)) treeRoom marksRoom) ∷ [])))
+    tableRefusals a table
+    ++ ((9, wrongUse n treeRoom) ∷ (markedRefusals a table n used marksRoom ++ changeRefusals a table n used treeRoom marksRoom e xs))
 
 abbrev pub exchangeFault : List ℕ → List ℕ → ℕ → List ℕ → ℕ → ℕ → ℕ → List ℕ → ℕ
 exchangeFault a table n used treeRoom marksRoom e xs = refusal (exchangeRefusals a table n used treeRoom marksRoom e xs)

@@ -6,12 +6,10 @@ use lib.ListN.{length, drop}
 use lib.Dec.{ltb}
 use Rattle.words.specs.Lists.{listFrom}
 use Rattle.words.specs.Refusal.{Refusals, refusal}
-use Rattle.words.specs.Alphabet.{alphabetRefusals}
-use Rattle.automaton.specs.Table.{noTable}
 use Rattle.automaton.specs.StateSet.{StateSet, contains}
 use Rattle.operations.specs.Answer.{Answer, answerOf, exitOf}
 use Rattle.operations.specs.Marks.{sizeOf, finalOf, storedSet}
-use Rattle.operations.specs.Run.{wrongCount, fewMarks}
+use Rattle.operations.specs.Run.{wrongCount, fewMarks, tableRefusals}
 
 -- 13: "list slice shorter than the element count"
 unfoldable pub listTooShort : ℕ → ℕ → Bool
@@ -20,7 +18,7 @@ listTooShort n listRoom = ltb listRoom n
 -- `room` and `listRoom` are the lengths of the marks and of the list slice
 abbrev pub listRefusals : List ℕ → List ℕ → ℕ → ℕ → ℕ → Refusals
 listRefusals a table n room listRoom =
-    alphabetRefusals a ++ ((8, noTable a table) ∷ (9, wrongCount n) ∷ (12, fewMarks table n room) ∷ (13, listTooShort n listRoom) ∷ [])
+    tableRefusals a table ++ ((9, wrongCount n) ∷ (12, fewMarks table n room) ∷ (13, listTooShort n listRoom) ∷ [])
 
 abbrev pub listFault : List ℕ → List ℕ → ℕ → ℕ → ℕ → ℕ
 listFault a table n room listRoom = refusal (listRefusals a table n room listRoom)

@@ -20,10 +20,17 @@ wrongCount n = eqb n 0 || ltb 4096 n
 unfoldable pub fewMarks : List ℕ → ℕ → ℕ → Bool
 fewMarks table n room = ltb room (n * sizeOf table)
 
+-- 1 2 8, of an alphabet and a table: Run, List and Exchange begin with them
+abbrev pub tableRefusals : List ℕ → List ℕ → Refusals
+tableRefusals a table = alphabetRefusals a ++ ((8, noTable a table) ∷ [])
+
+-- 10 11 12, of n elements and a marks slice of that length: Run and Exchange have them
+abbrev pub markedRefusals : List ℕ → List ℕ → ℕ → List ℕ → ℕ → Refusals
+markedRefusals a table n ch room = treeRefusals a ch ++ ((12, fewMarks table n room) ∷ [])
+
 abbrev pub runRefusals : List ℕ → List ℕ → List ℕ → ℕ → Refusals
 runRefusals a table ch room =
-    alphabetRefusals a ++ ((8, noTable a table) ∷ (9, wrongCount (length ch))
-    ∷ (treeRefusals a ch ++ ((12, fewMarks table (length ch) room) ∷ [])))
+    tableRefusals a table ++ ((9, wrongCount (length ch)) ∷ markedRefusals a table (length ch) ch room)
 
 abbrev pub runFault : List ℕ → List ℕ → List ℕ → ℕ → ℕ
 runFault a table ch room = refusal (runRefusals a table ch room)

@@ -3,41 +3,23 @@ ghost use mathlib.Core.Path.{_≡_};
 ghost use Prim.Native.Nat.{_≤_};
 ghost use lib.ListN.{length, take};
 ghost use Rattle.words.specs.Refusal.{refusal};
-ghost use Rattle.operations.specs.Exchange.{noReplacement, resultTooLong, exchangeFault};
-ghost use Rattle.refusals.specs.Exchange.{markedRefusals, changeRefusals};
+ghost use Rattle.operations.specs.Exchange.{wrongUse, noReplacement, resultTooLong, changeRefusals, exchangeFault};
 use super::shared::ELEMENTS_MOST;
 use super::shared::few_marks;
+use super::shared::marked_fault;
 use super::shared::table_fault;
 use super::shared::wrong_count;
 use words::chapter::tree_fault;
 use words::postfix::subtree_start;
 
-// Of the alphabet, the table and the marked chapter: 1, 2, 8, 9, 10, 11 or 12, the first that applies, or 0.
-fn marked_fault(alphabet: &[u32], table: &[u32], chapter: &[u32], count: usize, room: usize) -> u32
-    ensures { λ r. ⌜
-        r
-        ≡ refusal
-        (markedRefusals (now (alphabet .entry)) (now (table .entry)) count (take count (now (chapter .entry))) (length (now (chapter .entry))) room)
-        ⌝ }
+// Whether so many elements are too few or too many, or do not fit a chapter slice of `places` words.
+fn wrong_use(count: usize, places: usize) -> bool
+    ensures { λ r. ⌜ r ≡ wrongUse count places ⌝ }
 {
-    let fault = table_fault(alphabet, table);
-    if fault != 0 {
-        return fault;
-    }
     if wrong_count(count) {
-        return 9;
+        return true;
     }
-    if count > chapter.len() {
-        return 9;
-    }
-    let shape = tree_fault(alphabet, &chapter[..count]);
-    if shape != 0 {
-        return shape;
-    }
-    if few_marks(table, count, room) {
-        return 12;
-    }
-    0
+    places < count
 }
 
 // Whether the words are no replacement: none, too many, or no tree over the alphabet.
@@ -78,7 +60,7 @@ fn change_fault(
     ensures { λ r. ⌜
         r
         ≡ refusal
-        (changeRefusals (now (alphabet .entry)) (now (table .entry)) (now (used .entry)) places room element (now (replacement .entry)))
+        (changeRefusals (now (alphabet .entry)) (now (table .entry)) (length (now (used .entry))) (now (used .entry)) places room element (now (replacement .entry)))
         ⌝ }
 {
     if element >= used.len() {
@@ -111,7 +93,14 @@ pub fn exchange_fault(
         ≡ exchangeFault (now (alphabet .entry)) (now (table .entry)) count (take count (now (chapter .entry))) (length (now (chapter .entry))) room element (now (replacement .entry))
         ⌝ }
 {
-    let marked = marked_fault(alphabet, table, chapter, count, room);
+    let first = table_fault(alphabet, table);
+    if first != 0 {
+        return first;
+    }
+    if wrong_use(count, chapter.len()) {
+        return 9;
+    }
+    let marked = marked_fault(alphabet, table, &chapter[..count], room);
     if marked != 0 {
         return marked;
     }

@@ -1,10 +1,9 @@
 // Run's refusals, each with its number, in document 01's order.
 ghost use mathlib.Core.Path.{_≡_};
 ghost use Rattle.operations.specs.Run.{runFault};
-use super::shared::few_marks;
+use super::shared::marked_fault;
 use super::shared::table_fault;
 use super::shared::wrong_count;
-use words::chapter::tree_fault;
 
 // Document 01's number of the refusal, the first that applies, or 0; `room` is the length of the marks slice.
 pub fn run_fault(alphabet: &[u32], table: &[u32], chapter: &[u32], room: usize) -> u32
@@ -17,12 +16,5 @@ pub fn run_fault(alphabet: &[u32], table: &[u32], chapter: &[u32], room: usize) 
     if wrong_count(chapter.len()) {
         return 9;
     }
-    let second = tree_fault(alphabet, chapter);
-    if second != 0 {
-        return second;
-    }
-    if few_marks(table, chapter.len(), room) {
-        return 12;
-    }
-    0
+    marked_fault(alphabet, table, chapter, room)
 }

@@ -1,18 +1,20 @@
 // The refusals that Run, List and Exchange share.
 ghost use mathlib.Core.Path.{_≡_};
 ghost use Prim.Native.Nat.{_≤_};
-ghost use Rattle.operations.specs.Run.{wrongCount, fewMarks};
-ghost use Rattle.refusals.specs.Shared.{tableFault};
+ghost use lib.ListN.{length};
+ghost use Rattle.words.specs.Refusal.{refusal};
+ghost use Rattle.operations.specs.Run.{wrongCount, fewMarks, tableRefusals, markedRefusals};
 use tables::check::is_table;
 use tables::head::set_size;
 use words::alphabet::alphabet_fault;
+use words::chapter::tree_fault;
 
 // The most elements of a chapter.
 pub(crate) const ELEMENTS_MOST: usize = 4096;
 
 // Document 01's number 1, 2 or 8, the first that applies, or 0.
 pub(crate) fn table_fault(alphabet: &[u32], table: &[u32]) -> u32
-    ensures { λ r. ⌜ r ≡ tableFault (now (alphabet .entry)) (now (table .entry)) ⌝ }
+    ensures { λ r. ⌜ r ≡ refusal (tableRefusals (now (alphabet .entry)) (now (table .entry))) ⌝ }
 {
     let fault = alphabet_fault(alphabet);
     if fault != 0 {
@@ -40,4 +42,23 @@ pub(crate) fn few_marks(table: &[u32], count: usize, room: usize) -> bool
     ensures { λ r. ⌜ r ≡ fewMarks (now (table .entry)) count room ⌝ }
 {
     room < count * set_size(table)
+}
+
+// Of a chapter's elements and a marks slice of `room` words: 10, 11 or 12, the first that applies, or 0.
+pub(crate) fn marked_fault(alphabet: &[u32], table: &[u32], nodes: &[u32], room: usize) -> u32
+    requires { ⌜ length (now nodes) ≤ 4096 ⌝ }
+    ensures { λ r. ⌜
+        r
+        ≡ refusal
+        (markedRefusals (now (alphabet .entry)) (now (table .entry)) (length (now (nodes .entry))) (now (nodes .entry)) room)
+        ⌝ }
+{
+    let shape = tree_fault(alphabet, nodes);
+    if shape != 0 {
+        return shape;
+    }
+    if few_marks(table, nodes.len(), room) {
+        return 12;
+    }
+    0
 }

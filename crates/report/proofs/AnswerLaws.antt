@@ -8,93 +8,73 @@ use native.Mathlib.Omega.{arith}
 use native.Mathlib.Nat.{mul-le-mul}
 use lib.ListN.{length, take, drop}
 use lib.Seq.{take-at}
-use borrow.Author.Tests.{lt-ltb, le-ltb, ltb-false, ne-eqb}
-use Rattle.words.specs.Refusal.{Refusals, refusal}
-use Rattle.words.specs.Alphabet.{alphabetRefusals, alphabetFault}
-use Rattle.words.specs.Expression.{expressionRefusals, expressionFault}
+use borrow.Author.Tests.{lt-ltb, le-ltb, ne-eqb}
+use Rattle.words.specs.Refusal.{refusal}
 use Rattle.words.specs.Chapter.{treeRefusals}
-use Rattle.words.proofs.RefusalLaws.{refusal-none, none-refusal, refusal-before, refusal-rest}
+use Rattle.words.proofs.RefusalLaws.{none, next, number, found, refuses, passes}
 use Rattle.automaton.specs.Transition.{Automaton, automatonOf}
 use Rattle.automaton.specs.StateSet.{sizeFor}
 use Rattle.automaton.specs.Numbering.{compiled}
-use Rattle.automaton.specs.Table.{noTable}
-use Rattle.automaton.proofs.CompiledTable.{table-most, compiled-isTable}
+use Rattle.automaton.proofs.CompiledTable.{table-most}
 use Rattle.operations.specs.Answer.{refused, accepted}
-use Rattle.operations.specs.Compile.{compiledTable, tooManyStates, tableTooLong, compileFault, compileAnswer}
+use Rattle.operations.specs.Compile.{compiledTable, tableTooLong, ruleRefusals, compileRefusals, compileFault, compileAnswer}
 use Rattle.operations.specs.Marks.{sizeOf, finalOf, nodeSets}
 use Rattle.operations.specs.Run.{wrongCount, fewMarks, runFault, runMarks, runAnswer, runExit}
-use Rattle.operations.specs.Listing.{listTooShort, listFault, matchesIn, matchesOf, listAnswer, listExit}
-use Rattle.operations.proofs.AcceptedLaws.{accepted-values, right-count, run-accepted}
+use Rattle.operations.specs.Listing.{listFault, matchesIn, matchesOf, listAnswer, listExit}
+use Rattle.operations.proofs.AcceptedLaws.{accepted-values, RuleAccepted, rule-accepted, rule-alphabet, rule-expression, run-accepted, accepted-list}
 use Rattle.operations.proofs.RunLaws.{run-exit, run-writes, run-length, matches-nodeSets}
 use Rattle.operations.proofs.CompileLaws.{CompileAccepted, compile-accepted}
 use Rattle.operations.proofs.Demand1.{refused-by}
 use Rattle.lines.specs.Line.{refusedLine, headLine, hitLines}
-use Rattle.report.specs.Output.{wrongChapter, marklistFault, hitsOf, marklistOutput}
+use Rattle.report.specs.Output.{wrongChapter, marklistRefusals, marklistFault, hitsOf, marklistOutput}
 use Rattle.report.proofs.KeptLaws.{refused-output, accepted-output}
 
 -- ---- Compile, with a table slice of 2,048 words
 
 module _ (a e : List ℕ) where
-  -- the refusals of Compile but 7
-  abbrev six : Refusals
-  six = alphabetRefusals a ++ (expressionRefusals a e ++ ((6, tooManyStates a e) ∷ []))
-
-  -- an alphabet and a rule that they let pass
-  record Fine : Type 0 where
-    alphabet : alphabetFault a ≡ 0
-    rule : expressionFault a e ≡ 0
-    states : compiled a e .states ≤ 1024
-
-  fine : refusal six ≡ 0 → Fine
-  unfolding tooManyStates
-  fine h =
-      let p = refusal-none six refl h in
-      record {
-        alphabet = none-refusal (alphabetRefusals a) (p .0, (p .1 .0, tt));
-        rule = none-refusal (expressionRefusals a e) (p .1 .1 .0, (p .1 .1 .1 .0, (p .1 .1 .1 .1 .0, tt)));
-        states = ltb-false 1024 (compiled a e .states) (p .1 .1 .1 .1 .1 .0);
-      }
-
   -- 7 cannot arise
-  compile-six : compileFault a e 2048 ≡ refusal six
+  table-enough : refusal (ruleRefusals a e) ≡ 0 → tableTooLong a e 2048 ≡ false
   unfolding tableTooLong
-  compile-six = go (refusal six) refl
-    where
-      last : Refusals
-      last = (7, tableTooLong a e 2048) ∷ []
+  table-enough h =
+      let f = rule-accepted a e h in
+      let l = table-most a e (rule-alphabet f) (rule-expression f) (f .states) in
+      le-ltb 2048 (length (compiledTable a e)) (omega arith)
 
-      go : (n : ℕ) → refusal six ≡ n → refusal (six ++ last) ≡ refusal six
-      go (suc n) h = refusal-before six last (omega arith)
-      go zero h =
-          let f = fine h in
-          let l = table-most a e (f .alphabet) (f .rule) (f .states) in
-          refusal-rest six last refl h ∙ rw (le-ltb 2048 (length (compiledTable a e)) (omega arith)) (sym h)
+  compile-rule : compileFault a e 2048 ≡ refusal (ruleRefusals a e)
+  compile-rule = go (refusal (ruleRefusals a e)) refl
+    where
+      go : (n : ℕ) → refusal (ruleRefusals a e) ≡ n → compileFault a e 2048 ≡ refusal (ruleRefusals a e)
+      go (suc n) h =
+          sym (number (compileRefusals a e 2048) (refuses (ruleRefusals a e) _ refl (λ z. omega arith)))
+      go zero h = sym (number (compileRefusals a e 2048) (passes (ruleRefusals a e) refl refl h (next (table-enough h) none))) ∙ sym h
 
   -- a refused Compile: its number is printed
   pub compile-refused : (ch slice : List ℕ) (n : ℕ) → length slice ≡ 2048 → refused n ≡ compileAnswer a e slice → marklistOutput a e ch ≡ refusedLine n
   unfolding compileAnswer
   compile-refused ch slice n l h =
       let q = refused-by (length (compiledTable a e) ∷ []) (compileFault a e (length slice)) n (sym h) in
-      let f : refusal six ≡ n = sym compile-six ∙ ap (compileFault a e) (sym l) ∙ q .1 in
-      let z : 0 < refusal six = let p = q .0 in omega arith in
-      refused-output a e ch n (refusal-before six ((9, wrongChapter ch) ∷ treeRefusals a ch) z ∙ f) (q .0)
+      let f : n ≡ refusal (ruleRefusals a e) = sym (q .1) ∙ ap (compileFault a e) l ∙ compile-rule in
+      let some = q .0 in
+      refused-output a e ch n (sym (number (marklistRefusals a e ch) (refuses (ruleRefusals a e) _ f (λ z. omega arith)))) (q .0)
 
   -- ---- an accepted Compile, and Run with marks of 8,192 words
 
   module _ (ch slice : List ℕ) (k : ℕ) (l : length slice ≡ 2048) (h : accepted (k ∷ []) ≡ compileAnswer a e slice) where
-    fits : compileFault a e (length slice) ≡ 0
+    rule-none : refusal (ruleRefusals a e) ≡ 0
     unfolding compileAnswer
-    fits = accepted-values (compileFault a e (length slice)) (length (compiledTable a e) ∷ []) (k ∷ []) (sym h) .0
+    rule-none =
+        sym compile-rule ∙ ap (compileFault a e) (sym l)
+        ∙ accepted-values (compileFault a e (length slice)) (length (compiledTable a e) ∷ []) (k ∷ []) (sym h) .0
 
-    six-none : refusal six ≡ 0
-    six-none = sym compile-six ∙ ap (compileFault a e) (sym l) ∙ fits
+    rule : RuleAccepted a e
+    rule = rule-accepted a e rule-none
 
     known : CompileAccepted a e slice k
     known = compile-accepted a e slice k (sym h)
 
     -- the refusals that are left
     pub left-fault : marklistFault a e ch ≡ refusal ((9, wrongChapter ch) ∷ treeRefusals a ch)
-    left-fault = refusal-rest six ((9, wrongChapter ch) ∷ treeRefusals a ch) refl six-none
+    left-fault = sym (number (marklistRefusals a e ch) (passes (ruleRefusals a e) refl refl rule-none (found ((9, wrongChapter ch) ∷ treeRefusals a ch) refl)))
 
     -- "Over 256 elements it says 9"
     pub chapter-over : 256 < length ch → marklistOutput a e ch ≡ refusedLine 9
@@ -108,11 +88,7 @@ module _ (a e : List ℕ) where
 
     size-few : sizeOf (compiledTable a e) ≤ 32
     unfolding sizeOf sizeFor
-    size-few = let s = fine six-none .states in rw compiled-states (omega arith)
-
-    table-right : noTable a (compiledTable a e) ≡ false
-    unfolding noTable
-    table-right = let f = fine six-none in rw (compiled-isTable a e (f .alphabet) (f .rule) (f .states))
+    size-few = let s = rule .states in rw compiled-states (omega arith)
 
     module _ (few : length ch ≤ 256) where
       marks-enough : fewMarks (compiledTable a e) (length ch) 8192 ≡ false
@@ -129,9 +105,8 @@ module _ (a e : List ℕ) where
       -- 8 and 12 cannot arise
       run-fault : runFault a (compiledTable a e) ch 8192 ≡ marklistFault a e ch
       run-fault =
-          let p = refusal-none six refl six-none in
           let q : runFault a (compiledTable a e) ch 8192 ≡ refusal ((9, wrongChapter ch) ∷ treeRefusals a ch) =
-          rw (p .0, p .1 .0, table-right, same-count, marks-enough) in
+          rw (rule .alphabet, rule .constants, known .passes, same-count, marks-enough) in
           q ∙ sym left-fault
 
       -- a refused Run: its number is printed
@@ -163,11 +138,17 @@ module _ (a e : List ℕ) where
 
         -- 13 cannot arise either
         list-none : listFault a (compiledTable a e) (length ch) (length left) (length list) ≡ 0
-        unfolding listTooShort
         list-none =
-            let p = refusal-none six refl six-none in
-            let c = right-count (length ch) (run-accepted a (compiledTable a e) ch (length marks) run-none .counted) in
-            rw (left-long, r, p .0, p .1 .0, table-right, c, marks-enough) (rw (le-ltb 256 (length ch) few))
+            let g = run-accepted a (compiledTable a e) ch (length marks) run-none in
+            accepted-list a (compiledTable a e) (length ch) (length left) (length list)
+            (record {
+              alphabet = g .alphabet;
+              constants = g .constants;
+              automaton = g .automaton;
+              counted = g .counted;
+              marks = rw (left-long, ← m) (g .marks);
+              list = rw r few;
+            })
 
         pub list-accepted : (f : ℕ) → refused f ≡ listAnswer a (compiledTable a e) (length ch) left list → ⊥
         unfolding listAnswer

@@ -1,20 +1,23 @@
 -- The output depends on the first 65 words of the alphabet, the first 65 of the rule and the first 257 of the chapter: one
 -- word more than the most that is accepted. Assumes nothing.
-use mathlib.Core.Path.{_≡_, ap, _∙_, sym}
-use mathlib.Core.Bool.{Bool, true, false, cond}
-use mathlib.Core.List.{List}
+use mathlib.Core.Path.{_≡_, refl, ap, _∙_, sym}
+use mathlib.Core.Bool.{Bool, true, false}
+use mathlib.Core.List.{List, [], _∷_, _++_}
 use Prim.Native.Nat.{ℕ, _+_, _<_, _≤_}
 use native.Mathlib.Omega.{arith}
 use native.Mathlib.Decide.{decLe}
 use lib.ListN.{length, take}
 use lib.Seq.{take-all, length-take-le}
-use borrow.Author.Tests.{lt-ltb, ne-eqb}
-use Rattle.words.specs.Alphabet.{noAlphabet, wrongConstants}
-use Rattle.words.specs.Expression.{wrongLength, noExpressionWords}
-use Rattle.words.specs.Postfix.{notOneTree}
-use Rattle.operations.specs.Compile.{tooManyStates}
+use lib.Dec.{ltb}
+use borrow.Author.Tests.{ltb-true, lt-ltb, ne-eqb}
+use Rattle.words.specs.Refusal.{Refusals, refusal}
+use Rattle.words.specs.Alphabet.{noAlphabet, alphabetRefusals}
+use Rattle.words.specs.Expression.{wrongLength}
+use Rattle.words.proofs.TestLaws.{and-true}
+use Rattle.words.proofs.RefusalLaws.{positive, Found, here, next, number}
+use Rattle.operations.specs.Compile.{ruleRefusals}
 use Rattle.lines.specs.Line.{refusedLine}
-use Rattle.report.specs.Output.{wrongChapter, marklistFault, reportLines, marklistOutput, outputOf}
+use Rattle.report.specs.Output.{wrongChapter, marklistRefusals, marklistFault, reportLines, marklistOutput, outputOf}
 
 -- ---- a refused call prints its number, any other the lines
 
@@ -34,38 +37,45 @@ pub early-output : (complete : Bool) (a e ch : List ℕ) → complete ≡ false 
 unfolding outputOf
 early-output complete a e ch t = rw t
 
-some-number : (b : Bool) (n m : ℕ) → 0 < n → 0 < m → 0 < cond b n m
-some-number true n m h k = h
-some-number false n m h k = k
-
 -- ---- a list that is too long is refused whatever its words are
 
 alphabet-long : (a e ch : List ℕ) → 64 < length a → marklistFault a e ch ≡ 1
 unfolding noAlphabet
 alphabet-long a e ch h = rw (ne-eqb (length a) 0 (λ z. omega arith), lt-ltb 64 (length a) h)
 
-rule-long : (a e ch : List ℕ) → 64 < length e → marklistFault a e ch ≡ cond (noAlphabet a) 1 (cond (wrongConstants a) 2 3)
+-- where a condition holds, those behind it make no difference
+abbrev upTo : Refusals → ℕ → ℕ
+upTo rs n = refusal (rs ++ ((n, true) ∷ []))
+
+cut : (rs ks : Refusals) (n : ℕ) {b : Bool} → b ≡ true → Found (rs ++ ((n, b) ∷ ks)) (upTo rs n)
+cut [] ks n h = here h
+cut ((m, true) ∷ rs) ks n h = here refl
+cut ((m, false) ∷ rs) ks n h = next refl (cut rs ks n h)
+
+cut-some : (rs : Refusals) (n : ℕ) → 0 < n → positive rs ≡ true → 0 < upTo rs n
+cut-some [] n h p = h
+cut-some ((m, true) ∷ rs) n h p = ltb-true 0 m (and-true (ltb 0 m) (positive rs) p .0)
+cut-some ((m, false) ∷ rs) n h p = cut-some rs n h (and-true (ltb 0 m) (positive rs) p .1)
+
+rule-long : (a e ch : List ℕ) → 64 < length e → marklistFault a e ch ≡ upTo (alphabetRefusals a) 3
 unfolding wrongLength
-rule-long a e ch h = rw (ne-eqb (length e) 0 (λ z. omega arith), lt-ltb 64 (length e) h)
+rule-long a e ch h = sym (number (marklistRefusals a e ch) (cut (alphabetRefusals a) _ 3 long))
+  where
+    long : wrongLength e ≡ true
+    long = rw (ne-eqb (length e) 0 (λ z. omega arith), lt-ltb 64 (length e) h)
 
--- the number of a chapter that is too long
-abbrev longNumber : List ℕ → List ℕ → ℕ
-longNumber a e =
-    cond (noAlphabet a) 1 (cond (wrongConstants a) 2 (cond (wrongLength e) 3
-    (cond (noExpressionWords a e) 4 (cond (notOneTree a e) 5 (cond (tooManyStates a e) 6 9)))))
-
-chapter-long : (a e ch : List ℕ) → 256 < length ch → marklistFault a e ch ≡ longNumber a e
+chapter-long : (a e ch : List ℕ) → 256 < length ch → marklistFault a e ch ≡ upTo (ruleRefusals a e) 9
 unfolding wrongChapter
-chapter-long a e ch h = rw (ne-eqb (length ch) 0 (λ z. omega arith), lt-ltb 256 (length ch) h)
+chapter-long a e ch h = sym (number (marklistRefusals a e ch) (cut (ruleRefusals a e) _ 9 long))
+  where
+    long : wrongChapter ch ≡ true
+    long = rw (ne-eqb (length ch) 0 (λ z. omega arith), lt-ltb 256 (length ch) h)
 
-rule-number : (a : List ℕ) → 0 < cond (noAlphabet a) 1 (cond (wrongConstants a) 2 3)
-rule-number a = some-number (noAlphabet a) 1 _ (omega arith) (some-number (wrongConstants a) 2 3 (omega arith) (omega arith))
+rule-number : (a : List ℕ) → 0 < upTo (alphabetRefusals a) 3
+rule-number a = cut-some (alphabetRefusals a) 3 (omega arith) refl
 
-chapter-number : (a e : List ℕ) → 0 < longNumber a e
-chapter-number a e =
-    some-number (noAlphabet a) 1 _ (omega arith) (some-number (wrongConstants a) 2 _ (omega arith)
-    (some-number (wrongLength e) 3 _ (omega arith) (some-number (noExpressionWords a e) 4 _ (omega arith)
-    (some-number (notOneTree a e) 5 _ (omega arith) (some-number (tooManyStates a e) 6 9 (omega arith) (omega arith))))))
+chapter-number : (a e : List ℕ) → 0 < upTo (ruleRefusals a e) 9
+chapter-number a e = cut-some (ruleRefusals a e) 9 (omega arith) refl
 
 -- ---- the words that are kept
 

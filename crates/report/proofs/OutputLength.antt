@@ -12,7 +12,7 @@ use borrow.Author.Tests.{ltb-false, leb-true, eqb-true}
 use Rattle.words.specs.Refusal.{Refusals, refusal}
 use Rattle.words.specs.Chapter.{symbolOf}
 use Rattle.words.specs.Postfix.{startOf}
-use Rattle.words.proofs.RefusalLaws.{refusal-none}
+use Rattle.words.proofs.RefusalLaws.{none-applies}
 use Rattle.words.proofs.TestLaws.{and-true, or-false}
 use Rattle.automaton.specs.StateSet.{StateSet, contains}
 use Rattle.automaton.specs.Table.{AllBelow}
@@ -109,12 +109,12 @@ hits-below a e ch h =
 pub accepted-few : (a e ch : List ℕ) → marklistFault a e ch ≡ 0 → length ch ≤ 256
 unfolding wrongChapter
 accepted-few a e ch f =
-    let p = refusal-none (marklistRefusals a e ch) refl f in
-    ltb-false 256 (length ch) (or-false (eqb (length ch) 0) (ltb 256 (length ch)) (p .1 .1 .1 .1 .1 .1 .0) .1)
+    let c : wrongChapter ch ≡ false = none-applies (marklistRefusals a e ch) refl f 9 in
+    ltb-false 256 (length ch) (or-false (eqb (length ch) 0) (ltb 256 (length ch)) c .1)
 
 accepted-states : (a e ch : List ℕ) → marklistFault a e ch ≡ 0 → compiled a e .states ≤ 1024
 unfolding tooManyStates
-accepted-states a e ch f = ltb-false 1024 (compiled a e .states) (refusal-none (marklistRefusals a e ch) refl f .1 .1 .1 .1 .1 .0)
+accepted-states a e ch f = ltb-false 1024 (compiled a e .states) (none-applies (marklistRefusals a e ch) refl f 6)
 
 marklist-short : (a e ch : List ℕ) → length (marklistOutput a e ch) ≤ 4096
 unfolding marklistOutput

@@ -10,7 +10,7 @@ use Rattle.operations.specs.Answer.{refused, accepted}
 use Rattle.operations.specs.Compile.{compiledTable, compileAnswer, compileExit}
 use Rattle.operations.specs.Run.{runAnswer, runExit}
 use Rattle.operations.specs.Listing.{matchesOf, listFault, listAnswer, listExit}
-use Rattle.operations.proofs.AcceptedLaws.{accepted-values}
+use Rattle.operations.proofs.AcceptedLaws.{accepted-values, list-accepted as list-fine}
 use Rattle.operations.proofs.CompileLaws.{CompileAccepted, compile-accepted}
 use Rattle.compiler.specs.declared.Compiled.{Compiled}
 use Rattle.compiler.specs.declared.Compiled.the-variants.{Table, Refused as Compiled·Refused}
@@ -20,7 +20,6 @@ use Rattle.matcher.specs.declared.Ran.the-variants.{Marked, Refused as Ran·Ref
 use Rattle.matcher.specs.declared.Listed.{Listed}
 use Rattle.matcher.specs.declared.Listed.the-variants.{Matches, Refused as Listed·Refused}
 use Rattle.matcher.specs.Answers.{answerInRan, answerInListed}
-use Rattle.matcher.proofs.CallLaws.{list-accepted as list-fine}
 use Rattle.operations.proofs.MatchLaws.{matchesOf-few}
 use Rattle.lines.specs.Line.{refusedLine, headLine, hitLines}
 use Rattle.report.specs.Output.{marklistOutput, outputOf}

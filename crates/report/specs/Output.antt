@@ -6,11 +6,9 @@ use mathlib.Core.Bool.{Bool, cond, _||_}
 use lib.ListN.{length}
 use lib.Dec.{eqb, ltb}
 use Rattle.words.specs.Refusal.{Refusals, refusal}
-use Rattle.words.specs.Alphabet.{alphabetRefusals}
-use Rattle.words.specs.Expression.{expressionRefusals}
 use Rattle.words.specs.Chapter.{treeRefusals}
 use Rattle.automaton.specs.Numbering.{compiled}
-use Rattle.operations.specs.Compile.{compiledTable, tooManyStates}
+use Rattle.operations.specs.Compile.{compiledTable, ruleRefusals}
 use Rattle.operations.specs.Marks.{nodeSets}
 use Rattle.operations.specs.Listing.{matchesIn}
 use Rattle.lines.specs.Line.{refusedLine, headLine, hitLines}
@@ -23,8 +21,7 @@ wrongChapter ch = eqb (length ch) 0 || ltb 256 (length ch)
 
 -- "the faults of Compile before those of Run"; its memory is so large that 7, 8, 12 and 13 cannot arise
 abbrev pub marklistRefusals : List ℕ → List ℕ → List ℕ → Refusals
-marklistRefusals a e ch =
-    alphabetRefusals a ++ (expressionRefusals a e ++ ((6, tooManyStates a e) ∷ (9, wrongChapter ch) ∷ treeRefusals a ch))
+marklistRefusals a e ch = ruleRefusals a e ++ ((9, wrongChapter ch) ∷ treeRefusals a ch)
 
 abbrev pub marklistFault : List ℕ → List ℕ → List ℕ → ℕ
 marklistFault a e ch = refusal (marklistRefusals a e ch)

@@ -1,16 +1,39 @@
--- Laws of refusals: a call is accepted exactly if no condition holds, and otherwise the first condition that holds gives the
--- number. Assumes nothing.
+-- Laws of refusals: the number is that of the first condition that holds, and a call that is not refused has none that does.
+-- Assumes nothing.
 use mathlib.Core.Path.{_≡_, refl, _∙_, sym}
-use mathlib.Core.Bool.{Bool, true, false, _&&_}
+use mathlib.Core.Bool.{Bool, true, false, cond, _&&_}
 use mathlib.Core.List.{[], _∷_, _++_}
-use Prim.Native.Nat.{ℕ, _<_}
+use Prim.Native.Nat.{ℕ}
 use native.Mathlib.Omega.{arith}
-use lib.Dec.{ltb}
+use lib.Dec.{ltb, eqb}
 use borrow.Author.Tests.{ltb-true}
 use Rattle.words.specs.Refusal.{Refusals, refusal}
 use Rattle.words.proofs.TestLaws.{and-true}
 
--- no condition of the list holds
+-- ---- a number and how it is found
+
+-- the conditions before that of number f fail, and that one holds; or all fail, and f is 0
+pub data Found : Refusals → ℕ → Type 0 where
+  none : Found [] 0
+  here : {n : ℕ} {b : Bool} {rs : Refusals} → b ≡ true → Found ((n, b) ∷ rs) n
+  next : {n : ℕ} {b : Bool} {rs : Refusals} {f : ℕ} → b ≡ false → Found rs f → Found ((n, b) ∷ rs) f
+
+-- the law, and back
+pub number : (rs : Refusals) {f : ℕ} → Found rs f → f ≡ refusal rs
+number [] none = refl
+number ((n, b) ∷ rs) (here e) = sym (rw e)
+number ((n, b) ∷ rs) (next e r) = number rs r ∙ sym (rw e)
+
+pub found : (rs : Refusals) {f : ℕ} → f ≡ refusal rs → Found rs f
+found rs e = rw e (go rs)
+  where
+    go : (rs : Refusals) → Found rs (refusal rs)
+    go [] = none
+    go ((n, true) ∷ rs) = here refl
+    go ((n, false) ∷ rs) = next refl (go rs)
+
+-- ---- a call that is not refused: no condition holds
+
 abbrev pub NoneHolds : Refusals → Type 0
 NoneHolds [] = Unit {0}
 NoneHolds (r ∷ rs) = (r .1 ≡ false) × NoneHolds rs
@@ -19,8 +42,6 @@ NoneHolds (r ∷ rs) = (r .1 ≡ false) × NoneHolds rs
 abbrev pub positive : Refusals → Bool
 positive [] = true
 positive (r ∷ rs) = ltb 0 (r .0) && positive rs
-
--- ---- no refusal: both ways
 
 pub none-refusal : (rs : Refusals) → NoneHolds rs → refusal rs ≡ 0
 none-refusal [] h = refl
@@ -31,29 +52,43 @@ refusal-none [] p h = tt
 refusal-none ((n, true) ∷ rs) p h = let q = ltb-true 0 n (and-true (ltb 0 n) (positive rs) p .0) in absurd (omega arith)
 refusal-none ((n, false) ∷ rs) p h = (refl, refusal-none rs (and-true (ltb 0 n) (positive rs) p .1) h)
 
--- ---- one condition after the other
+-- the condition of a number
+abbrev pub conditionOf : ℕ → Refusals → Bool
+conditionOf n [] = false
+conditionOf n (r ∷ rs) = let rest = conditionOf n rs in cond (eqb (r .0) n) (r .1) rest
 
-pub refusal-here : (n : ℕ) (b : Bool) (rs : Refusals) → b ≡ true → refusal ((n, b) ∷ rs) ≡ n
-refusal-here n b rs e = rw e
+pub none-applies : (rs : Refusals) → positive rs ≡ true → refusal rs ≡ 0 → (n : ℕ) → conditionOf n rs ≡ false
+none-applies rs p h = none-of rs (refusal-none rs p h)
+  where
+    none-of : (rs : Refusals) → NoneHolds rs → (n : ℕ) → conditionOf n rs ≡ false
+    none-of [] h n = refl
+    none-of (r ∷ rs) h n = go (eqb (r .0) n) (none-of rs (h .1) n)
+      where
+        go : (b : Bool) → conditionOf n rs ≡ false → cond b (r .1) (conditionOf n rs) ≡ false
+        go true i = h .0
+        go false i = i
 
-pub refusal-next : (n : ℕ) (b : Bool) (rs : Refusals) → b ≡ false → refusal ((n, b) ∷ rs) ≡ refusal rs
-refusal-next n b rs e = rw e
+-- ---- a part of the list that is judged as a whole, with number f
 
--- where no condition of the first list holds, the second decides
-pub refusal-behind : (rs ks : Refusals) → NoneHolds rs → refusal (rs ++ ks) ≡ refusal ks
-refusal-behind [] ks h = refl
-refusal-behind (r ∷ rs) ks h = rw (h .0) (refusal-behind rs ks (h .1))
+-- it refuses
+pub refuses : (rs ks : Refusals) {f : ℕ} → f ≡ refusal rs → (f ≡ 0 → ⊥) → Found (rs ++ ks) f
+refuses rs ks e h = go (found rs e) h
+  where
+    go : {rs : Refusals} {f : ℕ} → Found rs f → (f ≡ 0 → ⊥) → Found (rs ++ ks) f
+    go none h = absurd (h refl)
+    go (here e) h = here e
+    go (next e r) h = next e (go r h)
 
--- where the first list refuses, so does the whole, with the same number
-pub refusal-before : (rs ks : Refusals) → 0 < refusal rs → refusal (rs ++ ks) ≡ refusal rs
-refusal-before [] ks h = absurd (omega arith)
-refusal-before ((n, true) ∷ rs) ks h = refl
-refusal-before ((n, false) ∷ rs) ks h = refusal-before rs ks h
+-- it does not, and the rest decides
+pub passes : (rs : Refusals) {ks : Refusals} {f g : ℕ} → positive rs ≡ true → f ≡ refusal rs → f ≡ 0 → Found ks g → Found (rs ++ ks) g
+passes rs {ks} {g = g} p e h r = go rs (refusal-none rs p (sym e ∙ h))
+  where
+    go : (rs : Refusals) → NoneHolds rs → Found (rs ++ ks) g
+    go [] n = r
+    go (q ∷ rs) n = next (n .0) (go rs (n .1))
 
--- the same, where f is the first list's number
-pub part-refuses : (rs ks : Refusals) (f : ℕ) → f ≡ refusal rs → (f ≡ 0 → ⊥) → f ≡ refusal (rs ++ ks)
-part-refuses rs ks f e h = e ∙ sym (refusal-before rs ks (omega (arith, e, h)))
-
--- where the first list does not refuse, the second decides
-pub refusal-rest : (rs ks : Refusals) → positive rs ≡ true → refusal rs ≡ 0 → refusal (rs ++ ks) ≡ refusal ks
-refusal-rest rs ks p h = refusal-behind rs ks (refusal-none rs p h)
+-- where the whole list does not refuse, neither part does
+pub parts-pass : (rs ks : Refusals) → positive rs ≡ true → refusal (rs ++ ks) ≡ 0 → (refusal rs ≡ 0) × (refusal ks ≡ 0)
+parts-pass [] ks p h = (refl, h)
+parts-pass ((n, true) ∷ rs) ks p h = let q = ltb-true 0 n (and-true (ltb 0 n) (positive rs) p .0) in absurd (omega arith)
+parts-pass ((n, false) ∷ rs) ks p h = parts-pass rs ks (and-true (ltb 0 n) (positive rs) p .1) h

@@ -3,8 +3,9 @@
 use Prim.Native.Nat.{_+_, _-_, _*_, _≤_}
 use native.Mathlib.Omega.{arith}
 use lib.ListN.{length}
-use Rattle.matcher.proofs.CallLaws.{list-accepted, list-row}
+use Rattle.operations.proofs.AcceptedLaws.{list-accepted}
 use Rattle.operations.proofs.MatchLaws.{matchesOf-few}
+use Rattle.matcher.proofs.CallLaws.{list-row}
 use Rattle.matcher.proofs.ListingLaws.{Found, found-none, found-more, found-end, part-set}
 use borrow.Author.Needs.{needs}
 use Rattle.matcher.proofs.listing.list_accepted.Statement.{statement}

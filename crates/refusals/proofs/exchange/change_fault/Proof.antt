@@ -1,27 +1,39 @@
 -- `exchange::change_fault` meets its contract: it asks the conditions of 14, 15 and 16 in their order, and 16 of the length that
 -- the result has. Assumes nothing.
-use mathlib.Core.Path.{sym, _∙_}
+use mathlib.Core.Path.{sym, ap, _∙_}
+use mathlib.Core.Bool.{not}
+use lib.ListN.{length}
 use native.Mathlib.Omega.{arith}
 use borrow.Author.Needs.{needs}
+use borrow.Author.Tests.{lt-ltb, le-ltb}
+use Rattle.words.specs.Refusal.{Refusals}
+use Rattle.words.proofs.RefusalLaws.{none, here, next, number}
 use Rattle.words.proofs.PostfixLaws.{start-le}
-use Rattle.refusals.proofs.ExchangeLaws.{refused-14, up-to-15, refused-15, up-to-16, refused-16, past-16, result-length, replacement-few}
+use Rattle.operations.specs.Exchange.{noElement, changeRefusals}
+use Rattle.operations.proofs.AcceptedLaws.{replacement-right}
+use Rattle.refusals.proofs.ExchangeLaws.{result-length, judged-length}
 use Rattle.refusals.proofs.exchange.change_fault.Statement.{statement}
 use Rattle.refusals.proofs.exchange.change_fault.Tie as tie
 
+-- the refusals of this call
+abbrev asked : tie.Start → Refusals
+asked s =
+    let q = s .args in
+    changeRefusals (q .alphabet .now) (q .table .now) (length (q .used .now)) (q .used .now) (q .places) (q .room) (q .element) (q .replacement .now)
+
 returns : tie.Need-returns
-returns c =
-    let q = c .before .before .before .before .before .args in
-    sym (refused-14 (q .alphabet .now) (q .table .now) (q .used .now) (q .places) (q .room) (q .element) (q .replacement .now) (c .if1 .taken))
+unfolding noElement
+returns c = number (asked (c .before .before .before .before .before)) (here (ap not (le-ltb _ _ (c .if1 .taken))))
 
 no-replacement-requires : tie.Need-no-replacement-requires
 no-replacement-requires c κs = search needs
 
 returns-2 : tie.Need-returns-2
+unfolding noElement
 returns-2 c =
-    let q = c .before .before .before .before .before .before .before .args in
-    sym
-    (up-to-15 (q .alphabet .now) (q .table .now) (q .used .now) (q .places) (q .room) (q .element) (q .replacement .now) (c .before .before .if1 .left)
-    ∙ refused-15 (q .alphabet .now) (q .table .now) (q .used .now) (q .places) (q .room) (q .element) (q .replacement .now) _ (c .before .no-replacement .ensures) (c .if2 .taken))
+    number (asked (c .before .before .before .before .before .before .before))
+    (next (ap not (lt-ltb _ _ (c .before .before .if1 .left)))
+    (here (sym (c .before .no-replacement .ensures) ∙ c .if2 .taken)))
 
 subtree-start-requires : tie.Need-subtree-start-requires
 subtree-start-requires c κs = search needs
@@ -36,38 +48,40 @@ add-count : tie.Need-add-count
 add-count c =
     let c₂ = c .before in
     let q = c₂ .before .before .before .before .before .before .before .args in
-    let few = replacement-few (q .alphabet .now) (q .table .now) (q .used .now) (q .places) (q .room) (q .element) (q .replacement .now) _ (c₂ .before .no-replacement .ensures) (c₂ .if2 .left) in
+    let few = replacement-right _ _ (sym (c₂ .before .no-replacement .ensures) ∙ c₂ .if2 .left) .counted .few in
     omega (arith, few, c .subtree-start .ensures, start-le (q .alphabet .now) (q .used .now) (q .element))
 
 add-count-2 : tie.Need-add-count-2
 add-count-2 c =
     let c₂ = c .before in
     let q = c₂ .before .before .before .before .before .before .before .args in
-    let few = replacement-few (q .alphabet .now) (q .table .now) (q .used .now) (q .places) (q .room) (q .element) (q .replacement .now) _ (c₂ .before .no-replacement .ensures) (c₂ .if2 .left) in
+    let few = replacement-right _ _ (sym (c₂ .before .no-replacement .ensures) ∙ c₂ .if2 .left) .counted .few in
     omega (arith, few, c .subtree-start .ensures, start-le (q .alphabet .now) (q .used .now) (q .element))
 
 result-too-long-requires : tie.Need-result-too-long-requires
 result-too-long-requires c κs = search needs
 
 returns-3 : tie.Need-returns-3
+unfolding noElement
 returns-3 c =
     let c₂ = c .before .before .before in
     let c₁ = c₂ .before .before in
-    let q = c₁ .before .before .before .before .before .args in
-    sym
-    (up-to-15 (q .alphabet .now) (q .table .now) (q .used .now) (q .places) (q .room) (q .element) (q .replacement .now) (c₁ .if1 .left) ∙ up-to-16 (q .alphabet .now) (q .table .now) (q .used .now) (q .places) (q .room) (q .element) (q .replacement .now) _ (c₂ .before .no-replacement .ensures) (c₂ .if2 .left)
-    ∙ refused-16 (q .alphabet .now) (q .table .now) (q .used .now) (q .places) (q .room) (q .element) (q .replacement .now) _ _ (result-length _ _ _ _ _ (c₁ .if1 .left) (c .before .before .subtree-start .ensures))
-    (c .before .result-too-long .ensures) (c .if3 .taken))
+    let length-is = result-length _ _ _ _ _ (c₁ .if1 .left) (c .before .before .subtree-start .ensures) in
+    number (asked (c₁ .before .before .before .before .before))
+    (next (ap not (lt-ltb _ _ (c₁ .if1 .left)))
+    (next (sym (c₂ .before .no-replacement .ensures) ∙ c₂ .if2 .left)
+    (here (judged-length _ _ _ length-is (c .before .result-too-long .ensures) ∙ c .if3 .taken))))
 
 returns-4 : tie.Need-returns-4
+unfolding noElement
 returns-4 c =
     let c₂ = c .before .before .before in
     let c₁ = c₂ .before .before in
-    let q = c₁ .before .before .before .before .before .args in
-    sym
-    (up-to-15 (q .alphabet .now) (q .table .now) (q .used .now) (q .places) (q .room) (q .element) (q .replacement .now) (c₁ .if1 .left) ∙ up-to-16 (q .alphabet .now) (q .table .now) (q .used .now) (q .places) (q .room) (q .element) (q .replacement .now) _ (c₂ .before .no-replacement .ensures) (c₂ .if2 .left)
-    ∙ past-16 (q .alphabet .now) (q .table .now) (q .used .now) (q .places) (q .room) (q .element) (q .replacement .now) _ _ (result-length _ _ _ _ _ (c₁ .if1 .left) (c .before .before .subtree-start .ensures))
-    (c .before .result-too-long .ensures) (c .if3 .left))
+    let length-is = result-length _ _ _ _ _ (c₁ .if1 .left) (c .before .before .subtree-start .ensures) in
+    number (asked (c₁ .before .before .before .before .before))
+    (next (ap not (lt-ltb _ _ (c₁ .if1 .left)))
+    (next (sym (c₂ .before .no-replacement .ensures) ∙ c₂ .if2 .left)
+    (next (judged-length _ _ _ length-is (c .before .result-too-long .ensures) ∙ c .if3 .left) none)))
 
 pub change-fault-spec : {M : Type 1} → statement M
 change-fault-spec =

@@ -1,21 +1,24 @@
 -- `run::run_fault` meets its contract: it asks the conditions in their order. Assumes nothing.
-use mathlib.Core.Path.{sym, _∙_}
-use Rattle.operations.proofs.AcceptedLaws.{count-right}
-use Rattle.refusals.proofs.RunLaws.{run-table, run-count, run-tree, run-marks, run-none}
+use mathlib.Core.Path.{refl, sym, _∙_}
 use borrow.Author.Needs.{needs}
+use Rattle.words.specs.Refusal.{Refusals}
+use Rattle.words.proofs.RefusalLaws.{here, next, number, found, refuses, passes}
+use Rattle.operations.specs.Run.{tableRefusals, markedRefusals, runRefusals}
+use Rattle.operations.proofs.AcceptedLaws.{count-right}
 use Rattle.refusals.proofs.run.run_fault.Statement.{statement}
 use Rattle.refusals.proofs.run.run_fault.Tie as tie
 
-abbrev start : tie.After-table-fault → tie.Start
-start c = c .before .before .before .before
+-- the refusals of this call
+abbrev asked : tie.After-table-fault → Refusals
+asked c =
+    let q = c .before .before .before .before .args in
+    runRefusals (q .alphabet .now) (q .table .now) (q .chapter .now) (q .room)
 
 table-fault-requires : tie.Need-table-fault-requires
 table-fault-requires c κs = search needs
 
 returns : tie.Need-returns
-returns c =
-    let a = start (c .before) .args in
-    run-table _ _ (a .chapter .now) (a .room) _ (c .before .table-fault .ensures) (c .if1 .taken)
+returns c = number (asked (c .before)) (refuses (tableRefusals _ _) _ (c .before .table-fault .ensures) (c .if1 .taken))
 
 wrong-count-requires : tie.Need-wrong-count-requires
 wrong-count-requires c κs = search needs
@@ -23,42 +26,21 @@ wrong-count-requires c κs = search needs
 returns-2 : tie.Need-returns-2
 returns-2 c =
     let first = c .before .before in
-    let a = start (first .before) .args in
-    run-count _ _ (a .chapter .now) (a .room) (sym (first .before .table-fault .ensures) ∙ first .if1 .left) (sym (c .before .wrong-count .ensures) ∙ c .if2 .taken)
+    number (asked (first .before))
+    (passes (tableRefusals _ _) refl (first .before .table-fault .ensures) (first .if1 .left)
+    (here (sym (c .before .wrong-count .ensures) ∙ c .if2 .taken)))
 
-tree-fault-requires : tie.Need-tree-fault-requires
-tree-fault-requires c κs = search needs
+marked-fault-requires : tie.Need-marked-fault-requires
+marked-fault-requires c κs = count-right _ (sym (c .before .wrong-count .ensures) ∙ c .if2 .left) .few
 
 returns-3 : tie.Need-returns-3
 returns-3 c =
-    let count = c .before .before in
+    let count = c .before in
     let first = count .before .before in
-    let a = start (first .before) .args in
-    run-tree _ _ (a .chapter .now) (a .room) (sym (first .before .table-fault .ensures) ∙ first .if1 .left) (sym (count .before .wrong-count .ensures) ∙ count .if2 .left)
-    _ (c .before .tree-fault .ensures) (c .if3 .taken)
-
-few-marks-requires : tie.Need-few-marks-requires
-few-marks-requires c κs =
-    let count = c .before .before in
-    count-right _ (sym (count .before .wrong-count .ensures) ∙ count .if2 .left) .few
-
-returns-4 : tie.Need-returns-4
-returns-4 c =
-    let tree = c .before .before in
-    let count = tree .before .before in
-    let first = count .before .before in
-    let a = start (first .before) .args in
-    run-marks _ _ (a .chapter .now) (a .room) (sym (first .before .table-fault .ensures) ∙ first .if1 .left) (sym (count .before .wrong-count .ensures) ∙ count .if2 .left)
-    (sym (tree .before .tree-fault .ensures) ∙ tree .if3 .left) (sym (c .before .few-marks .ensures) ∙ c .if4 .taken)
-
-returns-5 : tie.Need-returns-5
-returns-5 c =
-    let tree = c .before .before in
-    let count = tree .before .before in
-    let first = count .before .before in
-    let a = start (first .before) .args in
-    run-none _ _ (a .chapter .now) (a .room) (sym (first .before .table-fault .ensures) ∙ first .if1 .left) (sym (count .before .wrong-count .ensures) ∙ count .if2 .left)
-    (sym (tree .before .tree-fault .ensures) ∙ tree .if3 .left) (sym (c .before .few-marks .ensures) ∙ c .if4 .left)
+    number (asked (first .before))
+    (passes (tableRefusals _ _) refl (first .before .table-fault .ensures) (first .if1 .left)
+    (next (sym (count .before .wrong-count .ensures) ∙ count .if2 .left)
+    (found (markedRefusals _ _ _ _ _) (c .marked-fault .ensures))))
 
 pub run-fault-spec : {M : Type 1} → statement M
 run-fault-spec =
@@ -68,8 +50,5 @@ run-fault-spec =
     returns
     wrong-count-requires
     returns-2
-    tree-fault-requires
-    returns-3
-    few-marks-requires
-    returns-4
-    returns-5)
+    marked-fault-requires
+    returns-3)

@@ -1,7 +1,7 @@
 -- `shared::few_marks` meets its contract: a state set has at most 64 words, so that the product fits. Assumes nothing.
 use native.Mathlib.Omega.{arith}
 use Rattle.operations.specs.Run.{fewMarks}
-use Rattle.refusals.proofs.SharedLaws.{words-fit}
+use Rattle.operations.proofs.ValueLaws.{words-most}
 use borrow.Author.Needs.{needs}
 use Rattle.refusals.proofs.shared.few_marks.Statement.{statement}
 use Rattle.refusals.proofs.shared.few_marks.Tie as tie
@@ -10,7 +10,7 @@ set-size-requires : tie.Need-set-size-requires
 set-size-requires c κs = search needs
 
 mul-result : tie.Need-mul-result
-mul-result c = let h = words-fit _ _ _ (c .before .before .pre) (c .set-size .ensures) in omega arith
+mul-result c = rw (c .set-size .ensures) (omega (arith, words-most _ _ (c .before .before .pre)))
 
 returns : tie.Need-returns
 unfolding fewMarks

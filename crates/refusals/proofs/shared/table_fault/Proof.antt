@@ -1,8 +1,11 @@
 -- `shared::table_fault` meets its contract: it asks the conditions of 1, 2 and 8 in their order. Assumes nothing.
-use mathlib.Core.Path.{sym, _∙_}
-use Rattle.refusals.proofs.SharedLaws.{table-alphabet, table-refused, table-none}
-use borrow.Author.Tests.{not-true, not-false}
+use mathlib.Core.Path.{refl, sym, ap, _∙_}
+use mathlib.Core.Bool.{not}
 use borrow.Author.Needs.{needs}
+use Rattle.words.specs.Alphabet.{alphabetRefusals}
+use Rattle.words.proofs.RefusalLaws.{none, here, next, number, refuses, passes}
+use Rattle.automaton.specs.Table.{noTable}
+use Rattle.operations.specs.Run.{tableRefusals}
 use Rattle.refusals.proofs.shared.table_fault.Statement.{statement}
 use Rattle.refusals.proofs.shared.table_fault.Tie as tie
 
@@ -10,20 +13,27 @@ alphabet-fault-requires : tie.Need-alphabet-fault-requires
 alphabet-fault-requires c κs = search needs
 
 returns : tie.Need-returns
-returns c = table-alphabet _ _ _ (c .before .alphabet-fault .ensures) (c .if1 .taken)
+returns c = number (tableRefusals _ _)
+    (refuses (alphabetRefusals _) _ (c .before .alphabet-fault .ensures) (c .if1 .taken))
 
 is-table-requires : tie.Need-is-table-requires
 is-table-requires c κs = search needs
 
 returns-2 : tie.Need-returns-2
+unfolding noTable
 returns-2 c =
     let d = c .before .before in
-    table-refused _ _ (sym (d .before .alphabet-fault .ensures) ∙ d .if1 .left) (sym (c .before .is-table .ensures) ∙ not-true _ (c .if2 .taken))
+    number (tableRefusals _ _)
+    (passes (alphabetRefusals _) refl (d .before .alphabet-fault .ensures) (d .if1 .left)
+    (here (ap not (sym (c .before .is-table .ensures)) ∙ c .if2 .taken)))
 
 returns-3 : tie.Need-returns-3
+unfolding noTable
 returns-3 c =
     let d = c .before .before in
-    table-none _ _ (sym (d .before .alphabet-fault .ensures) ∙ d .if1 .left) (sym (c .before .is-table .ensures) ∙ not-false _ (c .if2 .left))
+    number (tableRefusals _ _)
+    (passes (alphabetRefusals _) refl (d .before .alphabet-fault .ensures) (d .if1 .left)
+    (next (ap not (sym (c .before .is-table .ensures)) ∙ c .if2 .left) none))
 
 pub table-fault-spec : {M : Type 1} → statement M
 table-fault-spec =

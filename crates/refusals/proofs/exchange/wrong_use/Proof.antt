@@ -1,0 +1,20 @@
+-- `exchange::wrong_use` meets its contract: it asks both conditions in their order. Assumes nothing.
+use mathlib.Core.Path.{sym, _∙_}
+use borrow.Author.Needs.{needs}
+use Rattle.operations.specs.Exchange.{wrongUse}
+use Rattle.refusals.proofs.exchange.wrong_use.Statement.{statement}
+use Rattle.refusals.proofs.exchange.wrong_use.Tie as tie
+
+wrong-count-requires : tie.Need-wrong-count-requires
+wrong-count-requires c κs = search needs
+
+returns : tie.Need-returns
+unfolding wrongUse
+returns c = simp (sym (c .before .wrong-count .ensures) ∙ c .if1 .taken)
+
+returns-2 : tie.Need-returns-2
+unfolding wrongUse
+returns-2 c = simp (sym (c .before .wrong-count .ensures) ∙ c .if1 .left)
+
+pub wrong-use-spec : {M : Type 1} → statement M
+wrong-use-spec = tie.close (tie.spec wrong-count-requires returns returns-2)

@@ -1,0 +1,35 @@
+-- `shared::marked_fault` meets its contract: it asks the conditions of 10, 11 and 12 in their order. Assumes nothing.
+use mathlib.Core.Path.{refl, sym, _∙_}
+use borrow.Author.Needs.{needs}
+use Rattle.words.specs.Chapter.{treeRefusals}
+use Rattle.words.proofs.RefusalLaws.{none, here, next, number, refuses, passes}
+use Rattle.operations.specs.Run.{markedRefusals}
+use Rattle.refusals.proofs.shared.marked_fault.Statement.{statement}
+use Rattle.refusals.proofs.shared.marked_fault.Tie as tie
+
+tree-fault-requires : tie.Need-tree-fault-requires
+tree-fault-requires c κs = search needs
+
+returns : tie.Need-returns
+returns c = number (markedRefusals _ _ _ _ _) (refuses (treeRefusals _ _) _ (c .before .tree-fault .ensures) (c .if1 .taken))
+
+few-marks-requires : tie.Need-few-marks-requires
+few-marks-requires c κs = search needs
+
+returns-2 : tie.Need-returns-2
+returns-2 c =
+    let shape = c .before .before in
+    number (markedRefusals _ _ _ _ _)
+    (passes (treeRefusals _ _) refl (shape .before .tree-fault .ensures) (shape .if1 .left)
+    (here (sym (c .before .few-marks .ensures) ∙ c .if2 .taken)))
+
+returns-3 : tie.Need-returns-3
+returns-3 c =
+    let shape = c .before .before in
+    number (markedRefusals _ _ _ _ _)
+    (passes (treeRefusals _ _) refl (shape .before .tree-fault .ensures) (shape .if1 .left)
+    (next (sym (c .before .few-marks .ensures) ∙ c .if2 .left) none))
+
+pub marked-fault-spec : {M : Type 1} → statement M
+marked-fault-spec =
+    tie.close (tie.spec tree-fault-requires returns few-marks-requires returns-2 returns-3)
