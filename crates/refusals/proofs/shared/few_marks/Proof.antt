@@ -10,7 +10,9 @@ set-size-requires : tie.Need-set-size-requires
 set-size-requires c κs = search needs
 
 mul-result : tie.Need-mul-result
-mul-result c = rw (c .set-size .ensures) (omega (arith, words-most _ _ (c .before .before .pre)))
+mul-result c =
+    let s = c .before .before in
+    rw (c .set-size .ensures) (omega (arith, words-most (s .args .table .now) (s .args .count) (s .pre)))
 
 returns : tie.Need-returns
 unfolding fewMarks
