@@ -10,7 +10,6 @@ use lib.ListN.{length, take, drop}
 use lib.Seq.{take-at}
 use borrow.Author.Tests.{lt-ltb, le-ltb, ne-eqb}
 use Rattle.words.specs.Refusal.{refusal}
-use Rattle.words.specs.Chapter.{treeRefusals}
 use Rattle.words.proofs.RefusalLaws.{none, next, number, found, refuses, passes}
 use Rattle.automaton.specs.Transition.{Automaton, automatonOf}
 use Rattle.automaton.specs.StateSet.{sizeFor}
@@ -26,7 +25,7 @@ use Rattle.operations.proofs.RunLaws.{run-exit, run-writes, run-length, matches
 use Rattle.operations.proofs.CompileLaws.{CompileAccepted, compile-accepted}
 use Rattle.operations.proofs.Demand1.{refused-by}
 use Rattle.lines.specs.Line.{refusedLine, headLine, hitLines}
-use Rattle.report.specs.Output.{wrongChapter, marklistRefusals, marklistFault, hitsOf, marklistOutput}
+use Rattle.report.specs.Output.{wrongChapter, chapterRefusals, marklistRefusals, marklistFault, hitsOf, marklistOutput}
 use Rattle.report.proofs.KeptLaws.{refused-output, accepted-output}
 
 -- ---- Compile, with a table slice of 2,048 words
@@ -73,8 +72,8 @@ module _ (a e : List ℕ) where
     known = compile-accepted a e slice k (sym h)
 
     -- the refusals that are left
-    pub left-fault : marklistFault a e ch ≡ refusal ((9, wrongChapter ch) ∷ treeRefusals a ch)
-    left-fault = sym (number (marklistRefusals a e ch) (passes (ruleRefusals a e) refl refl rule-none (found ((9, wrongChapter ch) ∷ treeRefusals a ch) refl)))
+    pub left-fault : marklistFault a e ch ≡ refusal (chapterRefusals a ch)
+    left-fault = sym (number (marklistRefusals a e ch) (passes (ruleRefusals a e) refl refl rule-none (found (chapterRefusals a ch) refl)))
 
     -- "Over 256 elements it says 9"
     pub chapter-over : 256 < length ch → marklistOutput a e ch ≡ refusedLine 9
@@ -105,7 +104,7 @@ module _ (a e : List ℕ) where
       -- 8 and 12 cannot arise
       run-fault : runFault a (compiledTable a e) ch 8192 ≡ marklistFault a e ch
       run-fault =
-          let q : runFault a (compiledTable a e) ch 8192 ≡ refusal ((9, wrongChapter ch) ∷ treeRefusals a ch) =
+          let q : runFault a (compiledTable a e) ch 8192 ≡ refusal (chapterRefusals a ch) =
           rw (rule .alphabet, rule .constants, known .passes, same-count, marks-enough) in
           q ∙ sym left-fault
 

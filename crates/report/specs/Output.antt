@@ -19,9 +19,13 @@ use Rattle.lines.specs.Line.{refusedLine, headLine, hitLines}
 unfoldable pub wrongChapter : List ℕ → Bool
 wrongChapter ch = eqb (length ch) 0 || ltb 256 (length ch)
 
+-- 9 10 11, of a chapter: Run's
+abbrev pub chapterRefusals : List ℕ → List ℕ → Refusals
+chapterRefusals a ch = (9, wrongChapter ch) ∷ treeRefusals a ch
+
 -- "the faults of Compile before those of Run"; its memory is so large that 7, 8, 12 and 13 cannot arise
 abbrev pub marklistRefusals : List ℕ → List ℕ → List ℕ → Refusals
-marklistRefusals a e ch = ruleRefusals a e ++ ((9, wrongChapter ch) ∷ treeRefusals a ch)
+marklistRefusals a e ch = ruleRefusals a e ++ chapterRefusals a ch
 
 abbrev pub marklistFault : List ℕ → List ℕ → List ℕ → ℕ
 marklistFault a e ch = refusal (marklistRefusals a e ch)
