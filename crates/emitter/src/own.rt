@@ -3,11 +3,11 @@ ghost use mathlib.Core.Path.{_≡_};
 ghost use mathlib.Core.List.{[], _∷_};
 ghost use Prim.Native.Nat.{_+_, _≤_, _<_};
 ghost use lib.ListN.{length, getD};
-ghost use Rattle.automaton.specs.Transition.{epsilon, transitionsWords};
-ghost use Rattle.automaton.specs.Numbering.{symbolTransitions, unionTransitions, productTransitions, closureTransitions, ownTransitions};
+ghost use Rattle.automaton.specs.Transition.{epsilon, sourceWords, transitionsWords};
+ghost use Rattle.automaton.specs.Numbering.{symbolTransitions, unionTransitions, productTransitions, closureTransitions, ownTransitions, fullPort};
 ghost use Rattle.emitter.specs.Writing.{Wrote, lastIndex};
-ghost use Rattle.ports.specs.Ports.{portIn, portsIn, fullPort};
-ghost use Rattle.emitter.specs.Emission.{Emits, Listed, Takes, sourceWords};
+ghost use Rattle.ports.specs.Ports.{exitsIn, portIn, portsIn};
+ghost use Rattle.emitter.specs.Emission.{Emits, Listed, Takes};
 use super::entries::push_closure_entries;
 use super::entries::push_entries;
 use super::entries::push_product_entries;
@@ -52,7 +52,7 @@ fn index_of(constants: &[u32], c: u32) -> usize
 // The part states of a symbol move: the children's exits.
 fn push_sources(ports: &[u32], out: &mut [u32], at: usize) -> usize
     requires { ⌜ (length (now ports) ≤ 4) × (at + 4 ≤ lastIndex) ⌝ }
-    ensures { λ r. ⌜ Wrote 4 at (sourceWords (now (ports .entry))) (now (out .entry)) (now (out .exit)) r ⌝ }
+    ensures { λ r. ⌜ Wrote 4 at (sourceWords (exitsIn (now (ports .entry)))) (now (out .entry)) (now (out .exit)) r ⌝ }
 {
     let mut next = at;
     let mut i = 0;
