@@ -31,9 +31,6 @@ use words::word::SYMBOL;
 use words::word::TRANSITION;
 use words::word::UNION;
 
-// The word of a part state, kind 11, over the number in its lower bits.
-const SOURCE_WORD: u32 = 2952790016;
-
 // The index of a constant.
 fn index_of(constants: &[u32], c: u32) -> usize
     requires { ⌜ Listed (now constants) c ⌝ }
@@ -57,7 +54,7 @@ fn push_sources(ports: &[u32], out: &mut [u32], at: usize) -> usize
     let mut next = at;
     let mut i = 0;
     while i < ports.len() {
-        next = push(out, next, SOURCE_WORD + exit_of(ports[i]));
+        next = push(out, next, SOURCE * KIND_UNIT + exit_of(ports[i]));
         i += 1;
     }
     next

@@ -9,7 +9,7 @@ use sets::state::contains;
 use sets::state::insert;
 use sets::whole::join;
 use sets::whole::write_set_at;
-use tables::head::STATE_RANGE;
+use words::word::STATE_RANGE;
 
 // How many closures are kept, one in a row of SET_WORDS words.
 const ROWS: usize = 64;
