@@ -21,7 +21,7 @@ pub fn push(out: &mut [u32], at: usize, w: u32) -> usize
 }
 
 // An empty move.
-pub fn push_epsilon(out: &mut [u32], at: usize, from: u32, to: u32) -> usize
+pub(crate) fn push_epsilon(out: &mut [u32], at: usize, from: u32, to: u32) -> usize
     requires { ⌜ (at < lastIndex) × ((from < 4096) × (to < 4096)) ⌝ }
     ensures { λ r. ⌜ Wrote 1 at (transitionWords (epsilon from to)) (now (out .entry)) (now (out .exit)) r ⌝ }
 {
@@ -29,7 +29,7 @@ pub fn push_epsilon(out: &mut [u32], at: usize, from: u32, to: u32) -> usize
 }
 
 // A symbol move without its part states.
-pub fn push_transition(out: &mut [u32], at: usize, symbol: u32, to: u32) -> usize
+pub(crate) fn push_transition(out: &mut [u32], at: usize, symbol: u32, to: u32) -> usize
     requires { ⌜ (at < lastIndex) × ((symbol < 256) × (to < 4096)) ⌝ }
     ensures { λ r. ⌜ Wrote 1 at (transitionWords (onSymbol symbol [] to)) (now (out .entry)) (now (out .exit)) r ⌝ }
 {

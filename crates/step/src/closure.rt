@@ -15,7 +15,7 @@ use words::word::STATE_RANGE;
 const ROWS: usize = 64;
 
 // The most words of a state set.
-pub(crate) const SET_WORDS: usize = 32;
+const SET_WORDS: usize = 32;
 
 // Puts state s into the set and on the stack, if it is not in the set. Answers the stack's height.
 fn reach(set: &mut [u32], pending: &mut [u32], top: usize, s: usize) -> usize

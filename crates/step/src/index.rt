@@ -17,9 +17,9 @@ use words::word::TRANSITION;
 use words::word::UNION;
 
 // The numbers that a symbol may have; the keys of the states stand behind them, and behind all keys the words' next words.
-pub const STATE_KEYS: usize = 256;
+pub(crate) const STATE_KEYS: usize = 256;
 
-pub const KEYS: usize = 1280;
+pub(crate) const KEYS: usize = 1280;
 
 // The key of a word.
 fn key(w: u32) -> usize

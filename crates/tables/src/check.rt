@@ -25,7 +25,7 @@ use words::word::is_of;
 use words::word::spare_bits_clear;
 
 // The most words of a table.
-pub const TABLE_MOST: usize = 2048;
+const TABLE_MOST: usize = 2048;
 
 // Whether the word is a head: 1 to 1,024 states, and the final state is one of them.
 fn is_head(w: u32) -> bool

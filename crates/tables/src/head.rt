@@ -7,7 +7,7 @@ use sets::state::size_for;
 use words::word::STATE_RANGE;
 
 // A head's state count is below this.
-pub const COUNT_RANGE: u32 = 2048;
+pub(crate) const COUNT_RANGE: u32 = 2048;
 
 // A symbol transition's symbol is below this.
 pub const SYMBOL_RANGE: u32 = 256;
