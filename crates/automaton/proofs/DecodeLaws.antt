@@ -1,18 +1,14 @@
 -- The decoder of tables undoes the encoder: the automaton of an automaton's words is the automaton itself. Assumes nothing.
 use mathlib.Core.Path.{_≡_, refl, ap, _∙_}
 use mathlib.Core.Bool.{true, false}
-use mathlib.Core.List.{List, [], _∷_, _++_, map}
+use mathlib.Core.List.{List, [], _∷_, _++_}
 use Prim.Native.Nat.{ℕ, _+_, _*_, _<_, _≤_}
 use native.Mathlib.Omega.{arith}
 use lib.ListN.{length}
 use borrow.Author.Tests.{eq-eqb, ne-eqb}
 use Rattle.words.specs.Word.{transitionKind, epsilonKind, sourceKind, numberOf, hasKind, wordOf, symbolAbove, countAbove, stateAbove, stateBelow}
-use Rattle.automaton.specs.Transition.{Transition, Automaton, onSymbol, epsilon, transitionsWords, headWord, tableWords, sourcesAt, transitionsAt, automatonOf}
+use Rattle.automaton.specs.Transition.{Transition, Automaton, onSymbol, epsilon, sourceWords, transitionsWords, headWord, tableWords, sourcesAt, transitionsAt, automatonOf}
 use Rattle.automaton.specs.Table.{AllBelow, TransitionsOver, AutomatonOver}
-
--- the words of a transition's source states
-abbrev pub sourceWords : List ℕ → List ℕ
-sourceWords ps = map (λ p. wordOf sourceKind p) ps
 
 -- ---- one word
 

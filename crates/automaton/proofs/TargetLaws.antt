@@ -7,21 +7,8 @@ use native.Mathlib.Omega.{arith}
 use native.Mathlib.Nat.{le-refl, le-trans, le-of-lt, le-suc}
 use lib.Dec.{eqb}
 use Rattle.words.proofs.Ascending.{Ascending, end, next, ascending-from, ascending-append, ascending-one}
-use Rattle.automaton.specs.Numbering.{Port, lookup, entryFor}
+use Rattle.automaton.specs.Numbering.{Port, lookup, entryFor, symbolTargets, unionTargets, productTargets, closureTargets}
 use Rattle.automaton.proofs.Ports.{statesIn, PortIn, Children, noChild, child}
-
--- where the entry for b of a word leads, by the word's kind
-abbrev pub symbolTargets : List Port → ℕ → List ℕ
-symbolTargets Ps b = flatMap (λ P. entryFor P b) Ps
-
-abbrev pub unionTargets : Port → Port → ℕ → List ℕ
-unionTargets F G b = entryFor F b ++ entryFor G b
-
-abbrev pub productTargets : ℕ → Port → Port → ℕ → List ℕ
-productTargets c F G b = cond (eqb b c) [] (entryFor F b) ++ entryFor G b
-
-abbrev pub closureTargets : ℕ → ℕ → Port → ℕ → List ℕ
-closureTargets c x F b = entryFor F b ++ cond (eqb b c) (x ∷ []) []
 
 pub lookup-ascending : {lo hi : ℕ} (c : ℕ) (es : List (ℕ × ℕ)) → Ascending lo hi (statesIn es) → Ascending lo hi (lookup es c)
 lookup-ascending c [] h = h

@@ -12,11 +12,11 @@ use Rattle.words.specs.Postfix.{arity}
 use Rattle.words.specs.Expression.{expressionFault}
 use Rattle.words.proofs.Ascending.{Ascending, end, next, ascending-append, ascending-one}
 use Rattle.automaton.specs.Transition.{Transition, onSymbol, epsilon}
-use Rattle.automaton.specs.Numbering.{Port, statesOf, portOf, epsilons, fan, ownTransitions}
+use Rattle.automaton.specs.Numbering.{Port, statesOf, portOf, epsilons, fan, ownTransitions, symbolTargets, unionTargets, productTargets, closureTargets}
 use Rattle.automaton.proofs.Ports.{statesIn, Children, noChild, child}
 use Rattle.automaton.proofs.OwnTransitions.{Own, leaf, ofSymbol, ofUnion, ofProduct, ofClosure}
 use Rattle.automaton.proofs.Reading.{Reading, ended, word, childrenOn, expression-reading}
-use Rattle.automaton.proofs.TargetLaws.{symbolTargets, unionTargets, productTargets, closureTargets, entryFor-ascending, symbol-ascending, union-ascending, product-ascending, closure-ascending}
+use Rattle.automaton.proofs.TargetLaws.{entryFor-ascending, symbol-ascending, union-ascending, product-ascending, closure-ascending}
 
 -- epsilon transitions strictly ordered by from and then by to, none before the one from p to q
 pub data OrderedFrom : ℕ → ℕ → List Transition → Type 0 where

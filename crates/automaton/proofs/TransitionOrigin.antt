@@ -11,12 +11,11 @@ use Rattle.words.specs.Postfix.{arity}
 use Rattle.words.proofs.AllLaws.{All, all-append}
 use Rattle.words.proofs.Ascending.{Ascending, next, ascending-le}
 use Rattle.automaton.specs.Transition.{Transition, onSymbol, epsilon}
-use Rattle.automaton.specs.Numbering.{Port, statesOf, portOf, entryFor, epsilons, fan}
+use Rattle.automaton.specs.Numbering.{Port, statesOf, portOf, entryFor, epsilons, fan, symbolTargets, unionTargets, productTargets, closureTargets}
 use Rattle.automaton.proofs.EntryLaws.{to-epsilons, to-fan}
 use Rattle.automaton.proofs.Ports.{statesIn, PortIn, Stack, push, Children, child, children-le}
 use Rattle.automaton.proofs.OwnTransitions.{Own, leaf, ofSymbol, ofUnion, ofProduct, ofClosure}
 use Rattle.automaton.proofs.Reading.{WordRead, childrenOn}
-use Rattle.automaton.proofs.TargetLaws.{symbolTargets, unionTargets, productTargets, closureTargets}
 
 abbrev pub exits : List Port → List ℕ
 exits Ps = map (λ P. P .exit) Ps

@@ -12,9 +12,8 @@ use Rattle.words.specs.Word.{transitionKind, epsilonKind, sourceKind, numberOf,
 use Rattle.words.specs.Alphabet.{isSymbol, rankOf}
 use Rattle.words.proofs.TestLaws.{and-true, true-and, or-true}
 use Rattle.words.proofs.KindLaws.{isOf-facts, isOf-wordOf}
-use Rattle.automaton.specs.Transition.{Transition, onSymbol, epsilon, transitionsWords}
+use Rattle.automaton.specs.Transition.{Transition, onSymbol, epsilon, sourceWords, transitionsWords}
 use Rattle.automaton.specs.Table.{isTableWord, sourcesLeft, areTransitions, AllBelow, TransitionsOver}
-use Rattle.automaton.proofs.DecodeLaws.{sourceWords}
 
 -- ---- one word from its fields
 

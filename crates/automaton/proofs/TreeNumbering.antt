@@ -1,11 +1,11 @@
 -- The numbered automaton of an expression as a tree: the states and transitions of each part from its first free state n
 -- on, over the constants cs. Assumes nothing.
 use Prim.Native.Nat.{ℕ, suc, _+_}
-use mathlib.Core.List.{List, [], _∷_, _++_, map, flatMap, List·Memᴰ}
+use mathlib.Core.List.{List, [], _∷_, _++_, map, List·Memᴰ}
 use lib.ListN.{length}
 use Rattle.language.specs.Expression.{Expression, Expressions, symbol, empty, union, product, closure, noneᵉ, moreᵉ}
 use Rattle.automaton.specs.Transition.{Transition}
-use Rattle.automaton.specs.Numbering.{Port, numbered, lookup, entryFor, symbolTransitions, unionTransitions, productTransitions, closureTransitions, constantTransitions}
+use Rattle.automaton.specs.Numbering.{Port, numbered, lookup, symbolTargets, symbolTransitions, unionTransitions, productTransitions, closureTransitions, constantTransitions}
 
 module _ (cs : List ℕ) where
   -- ---- states
@@ -59,7 +59,7 @@ module _ (cs : List ℕ) where
 
   -- each child's entry for a constant
   abbrev pub childEntries : Expressions → ℕ → ℕ → List ℕ
-  childEntries es n c = flatMap (λ P. entryFor P c) (ports es n)
+  childEntries es n c = symbolTargets (ports es n) c
 
   -- ---- transitions
 

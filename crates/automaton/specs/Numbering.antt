@@ -32,11 +32,15 @@ statesOf a w = suc (cond (hasEntries a w) (length (constantsOf a)) 0)
 abbrev pub ownEntry : ℕ → ℕ → List (ℕ × ℕ)
 ownEntry n w = cond (hasKind symbolKind w) ((lowByte w, n) ∷ []) []
 
+-- the states of a word with an entry for each constant of cs, of which n is the first
+abbrev pub fullPort : List ℕ → ℕ → Port
+fullPort cs n = record { exit = n; entries = numbered (suc n) cs }
+
 -- the states of word w, of which n is the first
 unfoldable pub portOf : List ℕ → ℕ → ℕ → Port
 portOf a n w = record {
   exit = n;
-  entries = cond (hasEntries a w) (numbered (suc n) (constantsOf a)) (ownEntry n w);
+  entries = cond (hasEntries a w) (fullPort (constantsOf a) n .entries) (ownEntry n w);
 }
 
 -- the entry for a constant, or none
@@ -56,28 +60,38 @@ abbrev pub fan : List (ℕ × ℕ) → (ℕ → List ℕ) → List Transition
 fan [] targets = []
 fan (e ∷ es) targets = epsilons (e .1) (targets (e .0)) ++ fan es targets
 
--- the transitions of a word with states E over its children's states, "ordered by from and then by to"
+-- the transitions of a word with states E over its children's states, "ordered by from and then by to", and the states to
+-- which E's entry for a constant leads
 
 -- "Symbol: E's entry for each constant to that entry of each part."
+abbrev pub symbolTargets : List Port → ℕ → List ℕ
+symbolTargets Ps b = flatMap (λ P. entryFor P b) Ps
+
 abbrev pub symbolTransitions : ℕ → Port → List Port → List Transition
-symbolTransitions f E Ps = onSymbol f (map (λ P. P .exit) Ps) (E .exit) ∷ fan (E .entries) (λ c. flatMap (λ P. entryFor P c) Ps)
+symbolTransitions f E Ps = onSymbol f (map (λ P. P .exit) Ps) (E .exit) ∷ fan (E .entries) (symbolTargets Ps)
 
 -- "Union: the same to both parts; both exits to E's exit."
+abbrev pub unionTargets : Port → Port → ℕ → List ℕ
+unionTargets F G b = entryFor F b ++ entryFor G b
+
 abbrev pub unionTransitions : Port → Port → Port → List Transition
-unionTransitions E F G =
-    epsilon (F .exit) (E .exit) ∷ epsilon (G .exit) (E .exit) ∷ fan (E .entries) (λ c. entryFor F c ++ entryFor G c)
+unionTransitions E F G = epsilon (F .exit) (E .exit) ∷ epsilon (G .exit) (E .exit) ∷ fan (E .entries) (unionTargets F G)
 
 -- "Product: each entry to G's; each but c's to F's; G's exit to F's entry for c; F's exit to E's exit."
+abbrev pub productTargets : ℕ → Port → Port → ℕ → List ℕ
+productTargets c F G b = cond (eqb b c) [] (entryFor F b) ++ entryFor G b
+
 abbrev pub productTransitions : ℕ → Port → Port → Port → List Transition
 productTransitions c E F G =
-    epsilon (F .exit) (E .exit) ∷ (epsilons (G .exit) (entryFor F c)
-    ++ fan (E .entries) (λ b. cond (eqb b c) [] (entryFor F b) ++ entryFor G b))
+    epsilon (F .exit) (E .exit) ∷ (epsilons (G .exit) (entryFor F c) ++ fan (E .entries) (productTargets c F G))
 
 -- "Closure: each entry to F's; E's entry for c to E's exit; F's exit to F's entry for c and to E's exit."
+abbrev pub closureTargets : ℕ → ℕ → Port → ℕ → List ℕ
+closureTargets c x F b = entryFor F b ++ cond (eqb b c) (x ∷ []) []
+
 abbrev pub closureTransitions : ℕ → Port → Port → List Transition
 closureTransitions c E F =
-    epsilons (F .exit) (entryFor F c ++ (E .exit ∷ []))
-    ++ fan (E .entries) (λ b. entryFor F b ++ cond (eqb b c) (E .exit ∷ []) [])
+    epsilons (F .exit) (entryFor F c ++ (E .exit ∷ [])) ++ fan (E .entries) (closureTargets c (E .exit) F)
 
 -- child i, where there is one
 abbrev pub childPort : List Port → ℕ → Port

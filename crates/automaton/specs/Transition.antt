@@ -19,8 +19,11 @@ pub record Automaton : Type 0 where
 
 -- "symbol move, followed by rank-many words of kind 11": bits 17..10 symbol, bits 9..0 target; a part state: bits 9..0.
 -- "empty move": bits 19..10 from, bits 9..0 to.
+abbrev pub sourceWords : List ℕ → List ℕ
+sourceWords ps = map (λ p. wordOf sourceKind p) ps
+
 abbrev pub transitionWords : Transition → List ℕ
-transitionWords (onSymbol f ps q) = wordOf transitionKind (f * 1024 + q) ∷ map (λ p. wordOf sourceKind p) ps
+transitionWords (onSymbol f ps q) = wordOf transitionKind (f * 1024 + q) ∷ sourceWords ps
 transitionWords (epsilon p q) = wordOf epsilonKind (p * 1024 + q) ∷ []
 
 abbrev pub transitionsWords : List Transition → List ℕ
@@ -40,12 +43,15 @@ abbrev pub sourcesAt : List ℕ → List ℕ
 sourcesAt [] = []
 sourcesAt (w ∷ ws) = let rest = sourcesAt ws in cond (hasKind sourceKind w) (stateBelow w ∷ rest) []
 
+-- the transition that begins with word w, before the words ws, if one does
+abbrev pub transitionAt : ℕ → List ℕ → List Transition
+transitionAt w ws =
+    cond (hasKind transitionKind w) (onSymbol (symbolAbove w) (sourcesAt ws) (stateBelow w) ∷ [])
+    (cond (hasKind epsilonKind w) (epsilon (stateAbove w) (stateBelow w) ∷ []) [])
+
 unfoldable pub transitionsAt : List ℕ → List Transition
 transitionsAt [] = []
-transitionsAt (w ∷ ws) =
-    let rest = transitionsAt ws in
-    cond (hasKind transitionKind w) (onSymbol (symbolAbove w) (sourcesAt ws) (stateBelow w) ∷ rest)
-    (cond (hasKind epsilonKind w) (epsilon (stateAbove w) (stateBelow w) ∷ rest) rest)
+transitionsAt (w ∷ ws) = transitionAt w ws ++ transitionsAt ws
 
 -- the automaton of a table's words
 unfoldable pub automatonOf : List ℕ → Automaton

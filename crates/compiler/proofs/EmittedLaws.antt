@@ -20,11 +20,11 @@ use Rattle.words.proofs.ReadingLaws.{take-pushed, drop-pushed}
 use Rattle.words.proofs.ScanLaws.{drop-step, drop-end}
 use Rattle.words.proofs.AcceptedAlphabet.{AcceptedAlphabet, arity-most}
 use Rattle.automaton.specs.Transition.{Transition, transitionsWords}
-use Rattle.automaton.specs.Numbering.{Port, statesOf, portOf, ownTransitions, transitionsFrom}
+use Rattle.automaton.specs.Numbering.{Port, statesOf, portOf, ownTransitions, transitionsFrom, fullPort}
 use Rattle.automaton.proofs.TransitionLaws.{transitionsWords-append}
 use Rattle.automaton.proofs.Reading.{expression-length}
 use Rattle.emitter.specs.Writing.{Wrote}
-use Rattle.ports.specs.Ports.{portIn, portsIn, fullPort}
+use Rattle.ports.specs.Ports.{portIn, portsIn}
 use Rattle.emitter.specs.Emission.{Emits, Takes}
 use Rattle.emitter.proofs.WritingLaws.{wrote-none, wrote-more, wrote-same, wrote-next}
 use Rattle.compiler.proofs.StateLaws.{portOf-full}

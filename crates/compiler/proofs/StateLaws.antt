@@ -16,8 +16,8 @@ use Rattle.words.specs.Expression.{isExpressionWord}
 use Rattle.words.proofs.KindLaws.{kindAt-number}
 use Rattle.words.proofs.ScanLaws.{drop-step, drop-end}
 use Rattle.words.proofs.ExpressionWordLaws.{ExpressionWord, symbolWord, emptyWord, unionWord, productWord, closureWord, expressionWord}
-use Rattle.automaton.specs.Numbering.{Port, hasEntries, statesOf, portOf, statesAfter}
-use Rattle.ports.specs.Ports.{entriesIn, exitIn, portIn, fullPort}
+use Rattle.automaton.specs.Numbering.{Port, hasEntries, statesOf, portOf, statesAfter, fullPort}
+use Rattle.ports.specs.Ports.{entriesIn, exitIn, portIn}
 use Rattle.ports.proofs.PortLaws.{entries-every, entries-none, entries-own}
 
 -- ---- how many states a word has

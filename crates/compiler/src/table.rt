@@ -10,13 +10,12 @@ use super::states::states_of;
 use super::states::word_port;
 use emitter::constants::push_constants;
 use emitter::own::push_own;
-use emitter::writer::ABOVE;
 use emitter::writer::push;
 use words::alphabet::write_constants;
 use words::postfix::arity;
-
-// The word of a table head, kind 8, over the numbers in its lower bits.
-const HEAD_WORD: u32 = 2147483648;
+use words::word::HEAD;
+use words::word::KIND_UNIT;
+use words::word::STATE_RANGE;
 
 // The own transitions of the rule's words in order. The ports of the words that wait for their parent stand on a stack.
 fn write_words(
@@ -63,7 +62,7 @@ fn write_parts(alphabet: &[u32], constants: &[u32], expression: &[u32], out: &mu
     let exit = states_after(alphabet, constants.len(), &expression[..last]);
     let states = exit + states_of(alphabet, constants.len(), w);
     let port = word_port(alphabet, exit, w);
-    let moves = push(out, 0, HEAD_WORD + (states * ABOVE + exit));
+    let moves = push(out, 0, HEAD * KIND_UNIT + (states * STATE_RANGE + exit));
     let next = push_constants(constants, port, out, moves);
     write_words(alphabet, constants, expression, out, next)
 }

@@ -11,13 +11,13 @@ use borrow.Author.Tests.{eq-eqb, ne-eqb}
 use Rattle.words.proofs.ListLaws.{map-append}
 use Rattle.words.proofs.ScanLaws.{drop-part}
 use Rattle.automaton.specs.Transition.{epsilon, transitionWords, transitionsWords}
-use Rattle.automaton.specs.Numbering.{entryFor, epsilons}
+use Rattle.automaton.specs.Numbering.{entryFor, epsilons, symbolTargets}
 use Rattle.automaton.proofs.TransitionLaws.{transitionsWords-append}
 use Rattle.emitter.specs.Writing.{Wrote}
 use Rattle.ports.specs.declared.port.Entry.{Entry}
 use Rattle.ports.specs.declared.port.Entry.the-variants.{Missing, State}
-use Rattle.ports.specs.Ports.{portIn, statesIn, Low, EntryOf}
-use Rattle.emitter.specs.Emission.{Emits, childEntries, productEntries, closureEntries}
+use Rattle.ports.specs.Ports.{portIn, portsIn, statesIn, Low, EntryOf}
+use Rattle.emitter.specs.Emission.{Emits, productEntries, closureEntries}
 use Rattle.emitter.proofs.WritingLaws.{wrote-none, wrote-more, wrote-same}
 
 -- the words of the epsilon transitions from a state to states
@@ -54,20 +54,20 @@ unfolding flatMap
 flatMap-append f [] k = refl
 flatMap-append f (x ∷ l) k = ap (λ (t : List ℕ). f x ++ t) (flatMap-append f l k) ∙ sym (append-assoc (f x) (flatMap f l) (flatMap f k))
 
-pub childEntries-more : (cs ps : List ℕ) (b i : ℕ) → i < length ps
-    → childEntries cs (take (suc i) ps) b ≡ childEntries cs (take i ps) b ++ entryFor (portIn cs (getD ps i 0)) b
+pub children-entries : (cs ps : List ℕ) (b i : ℕ) → i < length ps
+    → symbolTargets (portsIn cs (take (suc i) ps)) b ≡ symbolTargets (portsIn cs (take i ps)) b ++ entryFor (portIn cs (getD ps i 0)) b
 unfolding flatMap
-childEntries-more cs ps b i h =
-    ap (λ (l : List ℕ). childEntries cs l b) (take-suc ps i 0 h)
+children-entries cs ps b i h =
+    ap (λ (l : List ℕ). symbolTargets (portsIn cs l) b) (take-suc ps i 0 h)
     ∙ ap (flatMap (λ P. entryFor P b)) (map-append (portIn cs) (take i ps) (getD ps i 0 ∷ []))
     ∙ flatMap-append (λ P. entryFor P b) (map (portIn cs) (take i ps)) (portIn cs (getD ps i 0) ∷ [])
-    ∙ ap (λ (l : List ℕ). childEntries cs (take i ps) b ++ l) (append-nil (entryFor (portIn cs (getD ps i 0)) b))
+    ∙ ap (λ (l : List ℕ). symbolTargets (portsIn cs (take i ps)) b ++ l) (append-nil (entryFor (portIn cs (getD ps i 0)) b))
 
 -- the loop after i children
 pub record ToChildren (cs ps : List ℕ) (from b at : ℕ) (out out′ : List ℕ) (next i : ℕ) : Type 0 where
   pub within : i ≤ length ps
   pub long : length out′ ≡ length out
-  pub wrote : Wrote i at (epsilonWords from (childEntries cs (take i ps) b)) out out′ next
+  pub wrote : Wrote i at (epsilonWords from (symbolTargets (portsIn cs (take i ps)) b)) out out′ next
 
 pub children-none : (cs ps : List ℕ) (from b at : ℕ) (out : List ℕ) → ToChildren cs ps from b at out out at 0
 unfolding flatMap
@@ -82,11 +82,11 @@ module _ {cs ps : List ℕ} {from b at : ℕ} {out out′ : List ℕ} {next i : 
         long = l ∙ w .long;
         wrote = wrote-same (i + 1) (i + 1) at r _ _ out out″ (wrote-more i 1 at next r _ _ out out′ out″ (w .wrote) q) (omega arith)
             (sym
-            (rw (add-one i, childEntries-more cs ps b i h, ← e .states) (epsilonWords-append from (childEntries cs (take i ps) b)
+            (rw (add-one i, children-entries cs ps b i h, ← e .states) (epsilonWords-append from (symbolTargets (portsIn cs (take i ps)) b)
             (statesIn to))));
       }
 
-  pub children-end : length ps ≤ i → length ps ≤ 4 → Wrote 4 at (epsilonWords from (childEntries cs ps b)) out out′ next
+  pub children-end : length ps ≤ i → length ps ≤ 4 → Wrote 4 at (epsilonWords from (symbolTargets (portsIn cs ps) b)) out out′ next
   children-end h few =
       let k = w .within in
       wrote-same i 4 at next _ _ out out′ (w .wrote) (omega arith) (rw (take-all i ps h))
@@ -112,22 +112,22 @@ emits-behind cs ps x at n p =
     }
 
 module _ (cs ps : List ℕ) (from b c at : ℕ) (out out′ : List ℕ) (r : ℕ) where
-  pub product-here : b ≡ c → Wrote 4 at (epsilonWords from (childEntries cs (behindFirst ps) b)) out out′ r
+  pub product-here : b ≡ c → Wrote 4 at (epsilonWords from (symbolTargets (portsIn cs (behindFirst ps)) b)) out out′ r
       → Wrote 5 at (epsilonWords from (productEntries cs ps c b)) out out′ r
   product-here e w = wrote-same 4 5 at r _ _ out out′ w (omega arith) (rw (eq-eqb b c e, behindFirst-drop ps))
 
-  pub product-other : (b ≡ c → ⊥) → Wrote 4 at (epsilonWords from (childEntries cs ps b)) out out′ r
+  pub product-other : (b ≡ c → ⊥) → Wrote 4 at (epsilonWords from (symbolTargets (portsIn cs ps) b)) out out′ r
       → Wrote 5 at (epsilonWords from (productEntries cs ps c b)) out out′ r
   product-other n w = wrote-same 4 5 at r _ _ out out′ w (omega arith) (rw (ne-eqb b c n))
 
-  pub closure-here : (x : ℕ) (out″ : List ℕ) (s : ℕ) → b ≡ c → Wrote 4 at (epsilonWords from (childEntries cs ps b)) out out′ r
+  pub closure-here : (x : ℕ) (out″ : List ℕ) (s : ℕ) → b ≡ c → Wrote 4 at (epsilonWords from (symbolTargets (portsIn cs ps) b)) out out′ r
       → Wrote 1 r (transitionWords (epsilon from x)) out′ out″ s → Wrote 5 at (epsilonWords from (closureEntries cs ps c x b)) out out″ s
   closure-here x out″ s e w v =
       wrote-same 5 5 at s _ _ out out″ (wrote-more 4 1 at r s _ _ out out′ out″ w v) (omega arith)
-      (rw (eq-eqb b c e) (sym (epsilonWords-append from (childEntries cs ps b) (x ∷ []))))
+      (rw (eq-eqb b c e) (sym (epsilonWords-append from (symbolTargets (portsIn cs ps) b) (x ∷ []))))
 
-  pub closure-other : (x : ℕ) → (b ≡ c → ⊥) → Wrote 4 at (epsilonWords from (childEntries cs ps b)) out out′ r
+  pub closure-other : (x : ℕ) → (b ≡ c → ⊥) → Wrote 4 at (epsilonWords from (symbolTargets (portsIn cs ps) b)) out out′ r
       → Wrote 5 at (epsilonWords from (closureEntries cs ps c x b)) out out′ r
   closure-other x n w =
       wrote-same 4 5 at r _ _ out out′ w (omega arith) (rw (ne-eqb b c n) (ap (epsilonWords from) (sym (append-nil
-      (childEntries cs ps b)))))
+      (symbolTargets (portsIn cs ps) b)))))

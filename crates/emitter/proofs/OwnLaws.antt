@@ -6,12 +6,12 @@ use Prim.Native.Nat.{ℕ, suc, _+_, _≤_}
 use native.Mathlib.Omega.{arith}
 use lib.ListN.{length, getD}
 use lib.Dec.{eqb}
-use Rattle.automaton.specs.Transition.{Transition, onSymbol, epsilon, transitionWords, transitionsWords}
-use Rattle.automaton.specs.Numbering.{Port, numbered, entryFor, epsilons, symbolTransitions, unionTransitions, productTransitions, closureTransitions}
+use Rattle.automaton.specs.Transition.{Transition, onSymbol, epsilon, sourceWords, transitionWords, transitionsWords}
+use Rattle.automaton.specs.Numbering.{Port, numbered, entryFor, epsilons, symbolTargets, symbolTransitions, unionTransitions, productTransitions, closureTransitions, fullPort}
 use Rattle.automaton.proofs.TransitionLaws.{transitionsWords-append, fan-same}
 use Rattle.emitter.specs.Writing.{Wrote}
-use Rattle.ports.specs.Ports.{exitIn, portIn, portsIn, fullPort}
-use Rattle.emitter.specs.Emission.{Emits, childEntries, productEntries, closureEntries, sourceWords}
+use Rattle.ports.specs.Ports.{exitIn, exitsIn, portIn, portsIn}
+use Rattle.emitter.specs.Emission.{Emits, productEntries, closureEntries}
 use Rattle.emitter.proofs.WritingLaws.{wrote-more, wrote-same}
 use Rattle.emitter.proofs.EntryLaws.{epsilonWords, epsilonWords-append}
 use Rattle.emitter.proofs.FanLaws.{fanWords}
@@ -49,10 +49,10 @@ module _ (cs ps : List ℕ) where
   abbrev pub G : Port
   G = portIn cs (getD ps 1 0)
 
-  unionEntries-both : length ps ≡ 2 → (b : ℕ) → childEntries cs ps b ≡ entryFor F b ++ entryFor G b
+  unionEntries-both : length ps ≡ 2 → (b : ℕ) → symbolTargets (portsIn cs ps) b ≡ entryFor F b ++ entryFor G b
   unfolding flatMap
   unionEntries-both h b =
-      ap (λ (l : List ℕ). childEntries cs l b) (both ps h) ∙ ap (λ (l : List ℕ). entryFor F b ++ l) (append-nil (entryFor G b))
+      ap (λ (l : List ℕ). symbolTargets (portsIn cs l) b) (both ps h) ∙ ap (λ (l : List ℕ). entryFor F b ++ l) (append-nil (entryFor G b))
 
   productEntries-both : length ps ≡ 2 → (c b : ℕ) → productEntries cs ps c b ≡ cond (eqb b c) [] (entryFor F b) ++ entryFor G b
   unfolding flatMap
@@ -71,13 +71,13 @@ module _ (cs ps : List ℕ) where
 -- ---- what the writers leave, kind by kind
 
 pub union-own : (cs ps : List ℕ) (x at : ℕ) (out o₁ o₂ : List ℕ) (n r y z : ℕ) → length ps ≡ 2 → y ≡ exitIn (getD ps 0 0) → z ≡ exitIn (getD ps 1 0)
-    → Wrote 2 at (transitionsWords (epsilon y x ∷ epsilon z x ∷ [])) out o₁ n → Wrote 80 n (fanWords x cs (childEntries cs ps)) o₁ o₂ r
+    → Wrote 2 at (transitionsWords (epsilon y x ∷ epsilon z x ∷ [])) out o₁ n → Wrote 80 n (fanWords x cs (symbolTargets (portsIn cs ps))) o₁ o₂ r
     → Wrote 85 at (transitionsWords (unionTransitions (fullPort cs x) (F cs ps) (G cs ps))) out o₂ r
 union-own cs ps x at out o₁ o₂ n r y z h e d p s =
     wrote-same 82 85 at r _ _ out o₂ (wrote-more 2 80 at n r _ _ out o₁ o₂ p s) (omega arith)
     (rw (e, d)
     (ap (λ (l : List Transition). transitionsWords (epsilon (F cs ps .exit) x ∷ epsilon (G cs ps .exit) x ∷ l))
-    (fan-same (childEntries cs ps) (λ b. entryFor (F cs ps) b ++ entryFor (G cs ps) b) (numbered (suc x) cs) (unionEntries-both cs ps h))))
+    (fan-same (symbolTargets (portsIn cs ps)) (λ b. entryFor (F cs ps) b ++ entryFor (G cs ps) b) (numbered (suc x) cs) (unionEntries-both cs ps h))))
 
 module _ (cs ps : List ℕ) (x at : ℕ) (out o₁ o₂ o₃ : List ℕ) (n₁ n₂ r : ℕ) where
   abbrev E : Port
@@ -91,12 +91,12 @@ module _ (cs ps : List ℕ) (x at : ℕ) (out o₁ o₂ o₃ : List ℕ) (n₁ n
       (wrote-more (i + j) k at n₂ r (us ++ vs) ws out o₂ o₃ (wrote-more i j at n₁ n₂ us vs out o₁ o₂ p q) s) le
       (append-assoc us vs ws ∙ e)
 
-  pub symbol-own : (f : ℕ) → Wrote 1 at (transitionWords (onSymbol f [] x)) out o₁ n₁ → Wrote 4 n₁ (sourceWords ps) o₁ o₂ n₂
-      → Wrote 80 n₂ (fanWords x cs (childEntries cs ps)) o₂ o₃ r → Wrote 85 at (transitionsWords (symbolTransitions f E
+  pub symbol-own : (f : ℕ) → Wrote 1 at (transitionWords (onSymbol f [] x)) out o₁ n₁ → Wrote 4 n₁ (sourceWords (exitsIn ps)) o₁ o₂ n₂
+      → Wrote 80 n₂ (fanWords x cs (symbolTargets (portsIn cs ps))) o₂ o₃ r → Wrote 85 at (transitionsWords (symbolTransitions f E
       (portsIn cs ps))) out o₃ r
   symbol-own f p q s =
       three 1 4 80 _ _ _ _ p q s (omega arith)
-      (ap (λ (l : List ℕ). transitionWords (onSymbol f [] x) ++ (l ++ fanWords x cs (childEntries cs ps))) (sources-exits cs ps))
+      (ap (λ (l : List ℕ). transitionWords (onSymbol f [] x) ++ (l ++ fanWords x cs (symbolTargets (portsIn cs ps)))) (sources-exits cs ps))
 
   pub product-own : (y z c : ℕ) → length ps ≡ 2 → y ≡ exitIn (getD ps 0 0) → z ≡ exitIn (getD ps 1 0)
       → Wrote 1 at (transitionWords (epsilon y x)) out o₁ n₁ → Wrote 1 n₁ (epsilonWords z (entryFor (F cs ps) c)) o₁ o₂ n₂

@@ -8,12 +8,12 @@ use lib.ListN.{length, getD, take}
 use lib.Seq.{take-suc, take-all}
 use Rattle.words.specs.Word.{sourceKind, wordOf}
 use Rattle.words.proofs.ListLaws.{map-append}
+use Rattle.automaton.specs.Transition.{sourceWords}
 use Rattle.emitter.specs.Writing.{Wrote}
-use Rattle.ports.specs.Ports.{exitIn, portsIn}
-use Rattle.emitter.specs.Emission.{sourceWords}
+use Rattle.ports.specs.Ports.{exitIn, exitsIn, portsIn}
 use Rattle.emitter.proofs.WritingLaws.{wrote-none, wrote-more, wrote-same}
 
-pub sources-exits : (cs ps : List ℕ) → sourceWords ps ≡ map (λ p. wordOf sourceKind p) (map (λ P. P .exit) (portsIn cs ps))
+pub sources-exits : (cs ps : List ℕ) → sourceWords (exitsIn ps) ≡ sourceWords (map (λ P. P .exit) (portsIn cs ps))
 sources-exits cs [] = refl
 sources-exits cs (p ∷ ps) = ap (λ (l : List ℕ). wordOf sourceKind (exitIn p) ∷ l) (sources-exits cs ps)
 
@@ -21,7 +21,7 @@ sources-exits cs (p ∷ ps) = ap (λ (l : List ℕ). wordOf sourceKind (exitIn p
 pub record Sourced (ps : List ℕ) (at : ℕ) (out out′ : List ℕ) (next i : ℕ) : Type 0 where
   pub within : i ≤ length ps
   pub long : length out′ ≡ length out
-  pub wrote : Wrote i at (sourceWords (take i ps)) out out′ next
+  pub wrote : Wrote i at (sourceWords (exitsIn (take i ps))) out out′ next
 
 pub sourced-none : (ps : List ℕ) (at : ℕ) (out : List ℕ) → Sourced ps at out out at 0
 sourced-none ps at out = record { within = omega arith; long = refl; wrote = wrote-none at out }
@@ -35,10 +35,12 @@ module _ {ps : List ℕ} {at : ℕ} {out out′ : List ℕ} {next i : ℕ} (w : 
         long = l ∙ w .long;
         wrote = wrote-same (i + 1) (i + 1) at r _ _ out out″ (wrote-more i 1 at next r _ _ out out′ out″ (w .wrote) q) (omega arith)
             (sym
-            (rw (add-one i, take-suc ps i 0 h, e) (map-append (λ p. wordOf sourceKind (exitIn p)) (take i ps) (getD ps i 0 ∷ []))));
+            (rw (add-one i, take-suc ps i 0 h, e)
+            (ap sourceWords (map-append (λ p. exitIn p) (take i ps) (getD ps i 0 ∷ []))
+            ∙ map-append (λ p. wordOf sourceKind p) (exitsIn (take i ps)) (exitIn (getD ps i 0) ∷ []))));
       }
 
-  pub sourced-end : length ps ≤ i → length ps ≤ 4 → Wrote 4 at (sourceWords ps) out out′ next
+  pub sourced-end : length ps ≤ i → length ps ≤ 4 → Wrote 4 at (sourceWords (exitsIn ps)) out out′ next
   sourced-end h few =
       let k = w .within in
       wrote-same i 4 at next _ _ out out′ (w .wrote) (omega arith) (rw (take-all i ps h))

@@ -2,27 +2,25 @@
 -- Assumes nothing.
 use Prim.Native.Nat.{ℕ, _+_, _<_, _≤_}
 use mathlib.Core.Path.{_≡_}
-use mathlib.Core.List.{List, [], _∷_, _++_, map, flatMap}
+use mathlib.Core.List.{List, [], _∷_, _++_}
 use mathlib.Core.Bool.{cond}
 use lib.ListN.{length, getD, drop}
 use lib.Dec.{eqb}
-use Rattle.words.specs.Word.{sourceKind, numberOf, wordOf, lowByte}
-use Rattle.automaton.specs.Numbering.{entryFor}
+use Rattle.words.specs.Word.{numberOf, lowByte}
+use Rattle.automaton.specs.Numbering.{symbolTargets}
 pub use Rattle.automaton.specs.Numbering.{constantTransitions}
 use Rattle.emitter.specs.Writing.{lastIndex}
-use Rattle.ports.specs.Ports.{EachOnce, exitIn, portsIn}
+use Rattle.ports.specs.Ports.{EachOnce, portsIn}
 
--- the children's entries for a constant
-abbrev pub childEntries : List ℕ → List ℕ → ℕ → List ℕ
-childEntries cs ps b = flatMap (λ P. entryFor P b) (portsIn cs ps)
-
--- the same of a product over c, whose first child is left out at c
+-- The entry of a product over c for a constant leads to the children's entries, at c not to the first child's. This and the
+-- next are over a list of children, as the code has them; automaton's `productTargets` and `closureTargets` are over two
+-- and one.
 abbrev pub productEntries : List ℕ → List ℕ → ℕ → ℕ → List ℕ
-productEntries cs ps c b = cond (eqb b c) (childEntries cs (drop 1 ps) b) (childEntries cs ps b)
+productEntries cs ps c b = cond (eqb b c) (symbolTargets (portsIn cs (drop 1 ps)) b) (symbolTargets (portsIn cs ps) b)
 
--- the same of a closure over c with exit x, which is added at c
+-- that of a closure over c with exit x, which is added at c
 abbrev pub closureEntries : List ℕ → List ℕ → ℕ → ℕ → ℕ → List ℕ
-closureEntries cs ps c x b = childEntries cs ps b ++ cond (eqb b c) (x ∷ []) []
+closureEntries cs ps c x b = symbolTargets (portsIn cs ps) b ++ cond (eqb b c) (x ∷ []) []
 
 -- the constants cs, a word's children with ports ps, its exit x, and an index from which on n words may be written
 pub record Emits (cs ps : List ℕ) (x at n : ℕ) : Type 0 where
@@ -35,10 +33,6 @@ pub record Emits (cs ps : List ℕ) (x at n : ℕ) : Type 0 where
 -- c is one of the constants
 abbrev pub Listed : List ℕ → ℕ → Type 0
 Listed cs c = (k : ℕ) × (k < length cs) × (getD cs k 0 ≡ c)
-
--- the words of the children's exits as part states of a move
-abbrev pub sourceWords : List ℕ → List ℕ
-sourceWords ps = map (λ p. wordOf sourceKind (exitIn p)) ps
 
 -- word w takes children with ports ps, and its c is one of the constants
 pub record Takes (cs ps : List ℕ) (w : ℕ) : Type 0 where

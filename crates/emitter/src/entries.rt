@@ -2,10 +2,10 @@
 ghost use Prim.Native.Nat.{suc, _+_, _≤_, _<_};
 ghost use lib.ListN.{length, getD};
 ghost use Rattle.automaton.specs.Transition.{transitionsWords};
-ghost use Rattle.automaton.specs.Numbering.{numbered, epsilons, fan};
+ghost use Rattle.automaton.specs.Numbering.{numbered, epsilons, fan, symbolTargets};
 ghost use Rattle.emitter.specs.Writing.{Wrote, lastIndex};
-ghost use Rattle.ports.specs.Ports.{Low, statesIn};
-ghost use Rattle.emitter.specs.Emission.{Emits, childEntries, productEntries, closureEntries};
+ghost use Rattle.ports.specs.Ports.{Low, statesIn, portsIn};
+ghost use Rattle.emitter.specs.Emission.{Emits, productEntries, closureEntries};
 use super::writer::push_epsilon;
 use ports::port::Entry;
 use ports::port::entry_at;
@@ -35,7 +35,7 @@ fn push_to_children(
     ensures { λ r. ⌜
         Wrote 4 at
         (transitionsWords (epsilons (exit + 1 + k)
-        (childEntries (now (constants .entry)) (now (ports .entry)) (getD (now (constants .entry)) k 0))))
+        (symbolTargets (portsIn (now (constants .entry)) (now (ports .entry))) (getD (now (constants .entry)) k 0))))
         (now (out .entry)) (now (out .exit)) r
         ⌝ }
 {
@@ -113,7 +113,7 @@ pub(crate) fn push_entries(
     ensures { λ r. ⌜
         Wrote 80 at
         (transitionsWords (fan (numbered (suc exit) (now (constants .entry)))
-        (childEntries (now (constants .entry)) (now (ports .entry)))))
+        (symbolTargets (portsIn (now (constants .entry)) (now (ports .entry))))))
         (now (out .entry)) (now (out .exit)) r
         ⌝ }
 {

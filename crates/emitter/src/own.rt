@@ -3,11 +3,11 @@ ghost use mathlib.Core.Path.{_≡_};
 ghost use mathlib.Core.List.{[], _∷_};
 ghost use Prim.Native.Nat.{_+_, _≤_, _<_};
 ghost use lib.ListN.{length, getD};
-ghost use Rattle.automaton.specs.Transition.{epsilon, transitionsWords};
-ghost use Rattle.automaton.specs.Numbering.{symbolTransitions, unionTransitions, productTransitions, closureTransitions, ownTransitions};
+ghost use Rattle.automaton.specs.Transition.{epsilon, sourceWords, transitionsWords};
+ghost use Rattle.automaton.specs.Numbering.{symbolTransitions, unionTransitions, productTransitions, closureTransitions, ownTransitions, fullPort};
 ghost use Rattle.emitter.specs.Writing.{Wrote, lastIndex};
-ghost use Rattle.ports.specs.Ports.{portIn, portsIn, fullPort};
-ghost use Rattle.emitter.specs.Emission.{Emits, Listed, Takes, sourceWords};
+ghost use Rattle.ports.specs.Ports.{exitsIn, portIn, portsIn};
+ghost use Rattle.emitter.specs.Emission.{Emits, Listed, Takes};
 use super::entries::push_closure_entries;
 use super::entries::push_entries;
 use super::entries::push_product_entries;
@@ -31,9 +31,6 @@ use words::word::SYMBOL;
 use words::word::TRANSITION;
 use words::word::UNION;
 
-// The word of a part state, kind 11, over the number in its lower bits.
-const SOURCE_WORD: u32 = 2952790016;
-
 // The index of a constant.
 fn index_of(constants: &[u32], c: u32) -> usize
     requires { ⌜ Listed (now constants) c ⌝ }
@@ -52,12 +49,12 @@ fn index_of(constants: &[u32], c: u32) -> usize
 // The part states of a symbol move: the children's exits.
 fn push_sources(ports: &[u32], out: &mut [u32], at: usize) -> usize
     requires { ⌜ (length (now ports) ≤ 4) × (at + 4 ≤ lastIndex) ⌝ }
-    ensures { λ r. ⌜ Wrote 4 at (sourceWords (now (ports .entry))) (now (out .entry)) (now (out .exit)) r ⌝ }
+    ensures { λ r. ⌜ Wrote 4 at (sourceWords (exitsIn (now (ports .entry)))) (now (out .entry)) (now (out .exit)) r ⌝ }
 {
     let mut next = at;
     let mut i = 0;
     while i < ports.len() {
-        next = push(out, next, SOURCE_WORD + exit_of(ports[i]));
+        next = push(out, next, SOURCE * KIND_UNIT + exit_of(ports[i]));
         i += 1;
     }
     next

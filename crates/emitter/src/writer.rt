@@ -4,15 +4,10 @@ ghost use mathlib.Core.List.{[], _∷_};
 ghost use Prim.Native.Nat.{_+_, _*_, _<_};
 ghost use Rattle.automaton.specs.Transition.{transitionWords, onSymbol, epsilon};
 ghost use Rattle.emitter.specs.Writing.{Wrote, lastIndex};
-
-// The word of a symbol move, kind 9, over the numbers in its lower bits.
-const TRANSITION_WORD: u32 = 2415919104;
-
-// The word of an empty move, kind 10, over the numbers in its lower bits.
-const EPSILON_WORD: u32 = 2684354560;
-
-// A from state, a symbol or a state count stands above bits 9..0.
-pub const ABOVE: u32 = 1024;
+use words::word::EPSILON;
+use words::word::KIND_UNIT;
+use words::word::STATE_RANGE;
+use words::word::TRANSITION;
 
 // One word.
 pub fn push(out: &mut [u32], at: usize, w: u32) -> usize
@@ -26,17 +21,21 @@ pub fn push(out: &mut [u32], at: usize, w: u32) -> usize
 }
 
 // An empty move.
-pub fn push_epsilon(out: &mut [u32], at: usize, from: u32, to: u32) -> usize
+pub(crate) fn push_epsilon(out: &mut [u32], at: usize, from: u32, to: u32) -> usize
     requires { ⌜ (at < lastIndex) × ((from < 4096) × (to < 4096)) ⌝ }
     ensures { λ r. ⌜ Wrote 1 at (transitionWords (epsilon from to)) (now (out .entry)) (now (out .exit)) r ⌝ }
 {
-    push(out, at, EPSILON_WORD + (from * ABOVE + to))
+    push(out, at, EPSILON * KIND_UNIT + (from * STATE_RANGE + to))
 }
 
 // A symbol move without its part states.
-pub fn push_transition(out: &mut [u32], at: usize, symbol: u32, to: u32) -> usize
+pub(crate) fn push_transition(out: &mut [u32], at: usize, symbol: u32, to: u32) -> usize
     requires { ⌜ (at < lastIndex) × ((symbol < 256) × (to < 4096)) ⌝ }
     ensures { λ r. ⌜ Wrote 1 at (transitionWords (onSymbol symbol [] to)) (now (out .entry)) (now (out .exit)) r ⌝ }
 {
-    push(out, at, TRANSITION_WORD + (symbol * ABOVE + to))
+    push(
+        out,
+        at,
+        TRANSITION * KIND_UNIT + (symbol * STATE_RANGE + to),
+    )
 }

@@ -7,7 +7,7 @@ ghost use Rattle.encoding.specs.Writing.{Written};
 const ZERO: u8 = 48;
 
 // One byte.
-pub fn write_byte(out: &mut [u8], at: usize, byte: u8) -> usize
+fn write_byte(out: &mut [u8], at: usize, byte: u8) -> usize
     ensures { λ r. ⌜ Written at (byte ∷ []) (now (out .entry)) (now (out .exit)) r ⌝ }
 {
     if at < out.len() {
@@ -31,7 +31,7 @@ pub fn write_text(out: &mut [u8], at: usize, text: &[u8]) -> usize
 }
 
 // A number in decimal: the digits of a tenth of it, where it has several, and then the last one.
-pub fn write_number(out: &mut [u8], at: usize, n: usize) -> usize
+fn write_number(out: &mut [u8], at: usize, n: usize) -> usize
     ensures { λ r. ⌜ Written at (decimal n) (now (out .entry)) (now (out .exit)) r ⌝ }
 {
     let last = ZERO + (n % 10) as u8;

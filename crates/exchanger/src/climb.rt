@@ -160,7 +160,7 @@ fn climb_node(
 
 // Goes past the nodes from `root` on, the replacement's root, until one that is recomputed keeps its words or the nodes end.
 // Answers how many nodes were recomputed; `count` of them before.
-pub fn climb(
+pub(crate) fn climb(
     alphabet: &[u32],
     table: &[u32],
     index: &[u32],

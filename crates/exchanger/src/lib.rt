@@ -1,7 +1,7 @@
 // Exchange: one subtree of a marked chapter gives way to a replacement.
-pub mod climb;
+mod climb;
 pub mod exchange;
-pub mod replace;
+mod replace;
 
 // The answer: the new element count and the number of nodes worked out, or document 01's number of a refusal.
 pub enum Exchanged {

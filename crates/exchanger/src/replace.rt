@@ -9,7 +9,7 @@ use slices::moves::clear_words;
 use slices::moves::move_words;
 
 // Of the slice's words the first `used` are in use. Those from index `end` on move to index `at`; what they leave becomes zero.
-pub fn move_tail(words: &mut [u32], used: usize, end: usize, at: usize)
+pub(crate) fn move_tail(words: &mut [u32], used: usize, end: usize, at: usize)
     requires { ⌜ TailFits (now words) used end at ⌝ }
     ensures { λ _. ⌜ now (words .exit) ≡ refit used (take at (now (words .entry)) ++ slice end used (now (words .entry))) (now (words .entry)) ⌝ }
 {

@@ -22,13 +22,12 @@ exitIn p = p / 128 % 2048
 abbrev pub portIn : List ℕ → ℕ → Port
 portIn cs p = record { exit = exitIn p; entries = entriesIn cs (exitIn p) (p % 128) }
 
--- the ports of a word's children, from left to right
+-- the exits of a word's children, from left to right, and their ports
+abbrev pub exitsIn : List ℕ → List ℕ
+exitsIn ps = map (λ p. exitIn p) ps
+
 abbrev pub portsIn : List ℕ → List ℕ → List Port
 portsIn cs ps = map (portIn cs) ps
-
--- a word with an entry for each constant
-abbrev pub fullPort : List ℕ → ℕ → Port
-fullPort cs x = record { exit = x; entries = numbered (suc x) cs }
 
 -- each constant is found at its own index: none stands twice
 abbrev pub EachOnce : List ℕ → Type 0

@@ -19,7 +19,7 @@ use tables::head::state_count;
 pub mod input;
 
 // The most elements of a chapter here.
-pub const CHAPTER_MOST: usize = 256;
+const CHAPTER_MOST: usize = 256;
 
 // The words of the table and of the marks: a compiled table has at most 1,147 words, and the marks of an element have at
 // most 32.

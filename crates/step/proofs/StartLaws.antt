@@ -1,7 +1,7 @@
 -- A table's transitions are those that begin at its words; its head begins none. Assumes nothing.
 use mathlib.Core.Path.{_≡_, refl, ap, sym, subst}
 use mathlib.Core.Logic.{⊎-elim}
-use mathlib.Core.Bool.{Bool, true, false, cond, _&&_, false≢true}
+use mathlib.Core.Bool.{true, _&&_, false≢true}
 use mathlib.Core.List.{List, [], _∷_, _++_, List·Memᴰ, Memᴰ·append-left, Memᴰ·append-right, List·Memᴰ·append-cases, List·Memᴰ·not-nil}
 use Prim.Native.Nat.{ℕ, zero, suc, _<_}
 use native.Mathlib.Omega.{arith}
@@ -9,39 +9,21 @@ use native.Mathlib.Nat.{suc-add}
 use lib.ListN.{length, getD, drop}
 use lib.Dec.{ltb, leb}
 use borrow.Author.Tests.{ne-eqb}
-use Rattle.words.specs.Word.{headKind, transitionKind, epsilonKind, numberOf, hasKind, isOf, symbolAbove, countAbove, stateAbove, stateBelow}
+use Rattle.words.specs.Word.{headKind, numberOf, isOf, countAbove, stateBelow}
 use Rattle.words.proofs.TestLaws.{and-true}
 use Rattle.words.proofs.KindLaws.{isOf-facts}
-use Rattle.automaton.specs.Transition.{Transition, onSymbol, epsilon, sourcesAt, transitionsAt, automatonOf}
+use Rattle.automaton.specs.Transition.{Transition, transitionAt, transitionsAt, automatonOf}
 use Rattle.automaton.specs.Table.{isHead, areTransitions, isTable}
 use Rattle.step.specs.Closure.{startsAt}
 
 -- ---- one word more in front
 
 starts-suc : (w : ℕ) (ws : List ℕ) (i : ℕ) → startsAt (w ∷ ws) (suc i) ≡ startsAt ws i
-starts-suc w ws i =
-    ap
-    (λ (j : ℕ).
-    let x = getD ws i 0 in
-    cond (hasKind transitionKind x) (onSymbol (symbolAbove x) (sourcesAt (drop j (w ∷ ws))) (stateBelow x) ∷ [])
-    (cond (hasKind epsilonKind x) (epsilon (stateAbove x) (stateBelow x) ∷ []) []))
-    (suc-add i 1)
+starts-suc w ws i = ap (λ (j : ℕ). transitionAt (getD ws i 0) (drop j (w ∷ ws))) (suc-add i 1)
 
 transitions-cons : (w : ℕ) (ws : List ℕ) → transitionsAt (w ∷ ws) ≡ startsAt (w ∷ ws) 0 ++ transitionsAt ws
 unfolding transitionsAt
-transitions-cons w ws = go (hasKind transitionKind w) (hasKind epsilonKind w)
-  where
-    t : Transition
-    t = onSymbol (symbolAbove w) (sourcesAt ws) (stateBelow w)
-
-    e : Transition
-    e = epsilon (stateAbove w) (stateBelow w)
-
-    go : (b c : Bool) → cond b (t ∷ transitionsAt ws) (cond c (e ∷ transitionsAt ws) (transitionsAt ws))
-        ≡ cond b (t ∷ []) (cond c (e ∷ []) []) ++ transitionsAt ws
-    go true c = refl
-    go false true = refl
-    go false false = refl
+transitions-cons w ws = refl
 
 -- ---- at each word
 

@@ -7,8 +7,7 @@ use mathlib.Core.Bool.{true, false, cond}
 use mathlib.Core.List.{List, [], _∷_, List·Memᴰ}
 use lib.ListN.{length, getD, drop, set}
 use Rattle.words.specs.Lists.{count, listFrom}
-use Rattle.words.specs.Word.{transitionKind, epsilonKind, hasKind, symbolAbove, stateAbove, stateBelow}
-use Rattle.automaton.specs.Transition.{Transition, onSymbol, epsilon, sourcesAt, automatonOf}
+use Rattle.automaton.specs.Transition.{Transition, epsilon, transitionAt, automatonOf}
 use Rattle.automaton.specs.StateSet.{StateSet, contains, insert}
 use Rattle.operations.specs.Marks.{storedSet}
 use Rattle.sets.specs.Joined.{joined}
@@ -46,10 +45,7 @@ pub record Closures (table owners rows : List ℕ) : Type 0 where
 
 -- the transition that begins at word i, if one does
 abbrev pub startsAt : List ℕ → ℕ → List Transition
-startsAt table i =
-    let w = getD table i 0 in
-    cond (hasKind transitionKind w) (onSymbol (symbolAbove w) (sourcesAt (drop (i + 1) table)) (stateBelow w) ∷ [])
-    (cond (hasKind epsilonKind w) (epsilon (stateAbove w) (stateBelow w) ∷ []) [])
+startsAt table i = transitionAt (getD table i 0) (drop (i + 1) table)
 
 -- an epsilon transition at word i adds nothing to the set
 abbrev pub ClosedAt : List ℕ → StateSet → ℕ → Type 0

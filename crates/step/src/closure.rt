@@ -9,13 +9,13 @@ use sets::state::contains;
 use sets::state::insert;
 use sets::whole::join;
 use sets::whole::write_set_at;
-use tables::head::STATE_RANGE;
+use words::word::STATE_RANGE;
 
 // How many closures are kept, one in a row of SET_WORDS words.
 const ROWS: usize = 64;
 
 // The most words of a state set.
-pub(crate) const SET_WORDS: usize = 32;
+const SET_WORDS: usize = 32;
 
 // Puts state s into the set and on the stack, if it is not in the set. Answers the stack's height.
 fn reach(set: &mut [u32], pending: &mut [u32], top: usize, s: usize) -> usize

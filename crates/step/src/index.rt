@@ -1,7 +1,6 @@
 // An index of a table, made once for all nodes: for each symbol and each state a chain of the words at which transitions begin.
 ghost use mathlib.Core.Path.{_≡_};
 ghost use Rattle.step.specs.Index.{keyOf, indexedAt, indexOf, Insertable, Indexable};
-use tables::head::STATE_RANGE;
 use tables::head::SYMBOL_RANGE;
 use words::word::CLOSURE;
 use words::word::EMPTY;
@@ -12,14 +11,15 @@ use words::word::KIND_UNIT;
 use words::word::NODE;
 use words::word::PRODUCT;
 use words::word::SOURCE;
+use words::word::STATE_RANGE;
 use words::word::SYMBOL;
 use words::word::TRANSITION;
 use words::word::UNION;
 
 // The numbers that a symbol may have; the keys of the states stand behind them, and behind all keys the words' next words.
-pub const STATE_KEYS: usize = 256;
+pub(crate) const STATE_KEYS: usize = 256;
 
-pub const KEYS: usize = 1280;
+pub(crate) const KEYS: usize = 1280;
 
 // The key of a word.
 fn key(w: u32) -> usize

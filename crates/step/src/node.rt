@@ -13,8 +13,8 @@ ghost use Rattle.step.specs.Node.{Sources, Steppable, Seeding, SeedingAt
 use super::closure::join_closure;
 use super::index::KEYS;
 use sets::state::contains;
-use tables::head::STATE_RANGE;
 use tables::head::set_size;
+use words::word::STATE_RANGE;
 
 // Whether the part states from word `at` on are all in the children's sets.
 fn sources_contained(table: &[u32], at: usize, size: usize, marks: &[u32], children: &[u32]) -> bool

@@ -5,7 +5,6 @@ ghost use Prim.Native.Nat.{_+_};
 ghost use lib.ListN.{drop};
 ghost use Rattle.automaton.specs.Table.{isHead, isTableWord, sourcesLeft, areTransitions, isTable};
 use super::head::COUNT_RANGE;
-use super::head::STATE_RANGE;
 use super::head::SYMBOL_RANGE;
 use words::alphabet::rank;
 use words::word::CLOSURE;
@@ -17,6 +16,7 @@ use words::word::KIND_UNIT;
 use words::word::NODE;
 use words::word::PRODUCT;
 use words::word::SOURCE;
+use words::word::STATE_RANGE;
 use words::word::STATES_MOST;
 use words::word::SYMBOL;
 use words::word::TRANSITION;
@@ -25,7 +25,7 @@ use words::word::is_of;
 use words::word::spare_bits_clear;
 
 // The most words of a table.
-pub const TABLE_MOST: usize = 2048;
+const TABLE_MOST: usize = 2048;
 
 // Whether the word is a head: 1 to 1,024 states, and the final state is one of them.
 fn is_head(w: u32) -> bool

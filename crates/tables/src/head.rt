@@ -4,13 +4,10 @@ ghost use lib.ListN.{getD};
 ghost use Rattle.automaton.specs.Transition.{automatonOf};
 ghost use Rattle.operations.specs.Marks.{sizeOf, finalOf};
 use sets::state::size_for;
-
-// Bits 9..0 of a word of a table are a state. Above them stand a head's state count, a symbol transition's symbol, or the
-// from state of an epsilon transition.
-pub const STATE_RANGE: u32 = 1024;
+use words::word::STATE_RANGE;
 
 // A head's state count is below this.
-pub const COUNT_RANGE: u32 = 2048;
+pub(crate) const COUNT_RANGE: u32 = 2048;
 
 // A symbol transition's symbol is below this.
 pub const SYMBOL_RANGE: u32 = 256;

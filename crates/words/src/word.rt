@@ -38,6 +38,10 @@ pub const EPSILON: u32 = 10;
 // A part state of a symbol move.
 pub const SOURCE: u32 = 11;
 
+// Bits 9..0 of a word of a table are a state. Above them stand a head's state count, a symbol transition's symbol, or the
+// from state of an epsilon transition.
+pub const STATE_RANGE: u32 = 1024;
+
 // The most states of a table.
 pub const STATES_MOST: u32 = 1024;
 

@@ -65,7 +65,10 @@ word-port-requires c κs =
     }
 
 mul-push : tie.Need-mul-push
-mul-push c =
+mul-push c = search needs
+
+mul-push-2 : tie.Need-mul-push-2
+mul-push-2 c =
     let e = expression-accepted _ _
     (c .before .before .before .before .before .before .before .before .before .before .pre .accepted .expression) in
     let l = c .before .before .before .before .before .before .before .before .before .before .args .expression .now in
@@ -141,6 +144,7 @@ write-parts-spec =
     add-states
     word-port-requires
     mul-push
+    mul-push-2
     add-push
     add-push-2
     push-requires

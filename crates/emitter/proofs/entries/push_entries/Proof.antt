@@ -4,13 +4,14 @@ use Prim.Native.Nat.{_-_}
 use native.Mathlib.Omega.{arith}
 use lib.ListN.{length}
 use borrow.Author.Needs.{needs}
-use Rattle.emitter.specs.Emission.{childEntries}
+use Rattle.automaton.specs.Numbering.{symbolTargets}
+use Rattle.ports.specs.Ports.{portsIn}
 use Rattle.emitter.proofs.FanLaws.{Fanned, fanned-none, fanned-room, fanned-more, fanned-end}
 use Rattle.emitter.proofs.entries.push_entries.Statement.{statement}
 use Rattle.emitter.proofs.entries.push_entries.Tie as tie
 
 abbrev Inv-loop : tie.InvT-loop
-Inv-loop constants ports out₀ at exit next₀ k₀ out next k = Fanned constants (childEntries constants ports) exit at out₀ out next k
+Inv-loop constants ports out₀ at exit next₀ k₀ out next k = Fanned constants (symbolTargets (portsIn constants ports)) exit at out₀ out next k
 
 abbrev μ-loop : tie.MeasureT-loop
 μ-loop constants ports out₀ at exit next₀ k₀ out next k = length constants - k

@@ -1,7 +1,7 @@
 -- `emitter::own::push_own` meets its contract: the kind number says which transitions the word has. Assumes nothing.
 use native.Mathlib.Omega.{arith}
 use borrow.Author.Needs.{needs}
-use Rattle.ports.specs.Ports.{fullPort}
+use Rattle.automaton.specs.Numbering.{fullPort}
 use Rattle.emitter.proofs.KindLaws.{own-none, own-symbol, own-union, own-product, own-closure, own-other, own-beside, wrote-transitions, wrote-no-transitions}
 use Rattle.emitter.proofs.own.push_own.Statement.{statement}
 use Rattle.emitter.proofs.own.push_own.Tie as tie

@@ -17,6 +17,9 @@ abbrev μ-loop : tie.MeasureT-loop
 loop-holds : tie.Need-loop-holds Inv-loop μ-loop
 loop-holds c = sourced-none _ _ _
 
+mul-push : tie.Need-mul-push Inv-loop μ-loop
+mul-push c = search needs
+
 mul-exit-of : tie.Need-mul-exit-of Inv-loop μ-loop
 mul-exit-of c = search needs
 
@@ -64,6 +67,7 @@ push-sources-spec =
     Inv-loop
     μ-loop
     loop-holds
+    mul-push
     mul-exit-of
     shared-slice-read-exit-of
     exit-of-requires
