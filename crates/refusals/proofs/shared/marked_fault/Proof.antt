@@ -1,17 +1,25 @@
 -- `shared::marked_fault` meets its contract: it asks the conditions of 10, 11 and 12 in their order. Assumes nothing.
 use mathlib.Core.Path.{refl, sym, _∙_}
+use lib.ListN.{length}
 use borrow.Author.Needs.{needs}
+use Rattle.words.specs.Refusal.{Refusals}
 use Rattle.words.specs.Chapter.{treeRefusals}
 use Rattle.words.proofs.RefusalLaws.{none, here, next, number, refuses, passes}
 use Rattle.operations.specs.Run.{markedRefusals}
 use Rattle.refusals.proofs.shared.marked_fault.Statement.{statement}
 use Rattle.refusals.proofs.shared.marked_fault.Tie as tie
 
+-- the refusals of this call
+abbrev asked : tie.After-tree-fault → Refusals
+asked c =
+    let q = c .before .before .before .before .args in
+    markedRefusals (q .alphabet .now) (q .table .now) (length (q .nodes .now)) (q .nodes .now) (q .room)
+
 tree-fault-requires : tie.Need-tree-fault-requires
 tree-fault-requires c κs = search needs
 
 returns : tie.Need-returns
-returns c = number (markedRefusals _ _ _ _ _) (refuses (treeRefusals _ _) _ (c .before .tree-fault .ensures) (c .if1 .taken))
+returns c = number (asked (c .before)) (refuses (treeRefusals _ _) _ (c .before .tree-fault .ensures) (c .if1 .taken))
 
 few-marks-requires : tie.Need-few-marks-requires
 few-marks-requires c κs = search needs
@@ -19,14 +27,14 @@ few-marks-requires c κs = search needs
 returns-2 : tie.Need-returns-2
 returns-2 c =
     let shape = c .before .before in
-    number (markedRefusals _ _ _ _ _)
+    number (asked (shape .before))
     (passes (treeRefusals _ _) refl (shape .before .tree-fault .ensures) (shape .if1 .left)
     (here (sym (c .before .few-marks .ensures) ∙ c .if2 .taken)))
 
 returns-3 : tie.Need-returns-3
 returns-3 c =
     let shape = c .before .before in
-    number (markedRefusals _ _ _ _ _)
+    number (asked (shape .before))
     (passes (treeRefusals _ _) refl (shape .before .tree-fault .ensures) (shape .if1 .left)
     (next (sym (c .before .few-marks .ensures) ∙ c .if2 .left) none))
 
