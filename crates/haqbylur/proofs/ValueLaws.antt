@@ -9,7 +9,7 @@ use lib.Count.{ones-le}
 use borrow.Author.Tests.{ltb-false}
 use Rattle.words.specs.Alphabet.{alphabetRefusals}
 use Rattle.words.specs.Expression.{expressionRefusals}
-use Rattle.words.specs.Postfix.{arity, valueOn, values, splice}
+use Rattle.words.specs.Postfix.{arity, valueOn, values}
 use Rattle.words.proofs.RefusalLaws.{refusal-none, none-refusal}
 use Rattle.automaton.specs.StateSet.{StateSet}
 use Rattle.automaton.specs.Transition.{automatonOf}
@@ -23,9 +23,10 @@ use Rattle.operations.specs.Marks.{sizeOf, nodeSet, nodeSets}
 use Rattle.operations.specs.Run.{runFault, cellsIn, runAnswer}
 use Rattle.operations.specs.Listing.{matchesOf, listFault, listAnswer}
 use Rattle.operations.specs.Exchange.{Outcome, kept, recomputed, recomputedIn, fault, newTree, outcomes, exchangeAnswer}
+use Rattle.operations.specs.ExchangeCall.{ExchangeCall}
 use Rattle.operations.proofs.AcceptedLaws.{accepted-values, run-accepted, exchange-accepted}
 use Rattle.operations.proofs.MarksLaws.{length-nodeSet}
-use Rattle.operations.proofs.Recomputed.{exchanged}
+use Rattle.operations.proofs.Recomputed.{recomputation}
 use Rattle.compiler.specs.declared.Compiled.{Compiled}
 use Rattle.compiler.specs.declared.Compiled.the-variants.{Table}
 use Rattle.compiler.specs.Answers.{answerIn as answerInCompiled}
@@ -122,8 +123,8 @@ exchange-small a table chapter marks n e xs {count} {worked} r told answer =
     let h : accepted (count ∷ worked ∷ []) ≡ exchangeAnswer a table chapter marks n e xs = rw told at answer in
     let v = accepted-values (fault a table chapter marks n e xs) _ (count ∷ worked ∷ []) (sym h) in
     let few = exchange-accepted a table n (take n chapter) (length chapter) (length marks) e xs (v .0) .fits .few in
-    let q : length (splice a (take n chapter) e xs) ≡ count = cc in
-    let w : recomputedIn (outcomes a table chapter marks n e xs) ≡ worked = cc in
-    let nodes = exchanged a table chapter marks n e xs (v .0) .nodes in
+    let call : ExchangeCall =
+    record { alphabet = a; table = table; chapter = chapter; marks = marks; count = n; element = e; replacement = xs } in
+    let done = recomputation call count worked (sym h) in
     let most = recomputed-few (outcomes a table chapter marks n e xs) in
     (omega arith, omega arith)

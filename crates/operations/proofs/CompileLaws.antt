@@ -13,8 +13,8 @@ use Rattle.words.specs.Expression.{noExpressionWords, expressionRefusals, expre
 use Rattle.words.specs.Postfix.{notOneTree}
 use Rattle.words.proofs.RefusalLaws.{none-refusal}
 use Rattle.words.proofs.AlphabetLaws.{alphabet-most}
-use Rattle.words.proofs.ExactlyOne.{ExactlyOne}
-use Rattle.language.proofs.ExpressionLaws.{ExpressionOf}
+use Rattle.words.specs.ExactlyOne.{ExactlyOne}
+use Rattle.language.specs.Expression.{ExpressionOf}
 use Rattle.language.proofs.AcceptedLaws.{expression-accepted}
 use Rattle.automaton.specs.Transition.{automatonOf}
 use Rattle.automaton.specs.Numbering.{compiled}

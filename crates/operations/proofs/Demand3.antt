@@ -20,7 +20,8 @@ use Rattle.operations.specs.Marks.{sizeOf, nodeSets, storedSet, refit}
 use Rattle.operations.specs.Run.{runFault, runMarks, runAnswer, runExit, cellsIn}
 use Rattle.operations.specs.Listing.{matchesOf, listFault, listAnswer, listExit}
 use Rattle.operations.specs.Exchange.{setIn, outcomesAfter, exchangeFault, fault, newTree, outcomes, exchangeAnswer, exchangeChapter, exchangeMarks}
-use Rattle.operations.specs.History.{Call, Memory, exchange, exchanges, plain, plains, Start, Fresh, Faithful, Demand3}
+use Rattle.operations.specs.History.{Call, Memory, exchange, exchanges, plain, plains}
+use Rattle.operations.specs.Demands.{Start, Fresh, Faithful, Demand3}
 use Rattle.operations.proofs.MarksLaws.{stored-right, take-refit, length-refit}
 use Rattle.operations.proofs.RunLaws.{length-words, run-writes, run-length, run-exit, matches-nodeSets}
 use Rattle.operations.proofs.AcceptedLaws.{accepted-values, run-accepted, accepted-run, ResultFits, ExchangeAccepted, exchange-accepted}

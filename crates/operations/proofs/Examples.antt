@@ -26,7 +26,8 @@ use Rattle.operations.specs.Compile.{compiledTable, compileFault, tooMan
 use Rattle.operations.specs.Marks.{sizeOf, finalOf, nodeSet, nodeSets, storedSet, sameWords, refit}
 use Rattle.operations.specs.Run.{wrongCount, fewMarks, runFault, runMarks, cellsIn, runAnswer, runExit}
 use Rattle.operations.specs.Listing.{matchesIn, matchesOf}
-use Rattle.operations.proofs.Demand2.{Calls, AllAccepted, namesOf, demand2, demand2-of}
+use Rattle.operations.specs.Demands.{Calls, AllAccepted, namesOf}
+use Rattle.operations.proofs.Demand2.{demand2, demand2-of}
 use Rattle.operations.specs.Exchange.{wrongUse, noElement, noReplacement, resultTooLong, recomputedIn, climb, rootSet, outcomesBehind, outcomesAfter, fault, newTree, outcomes, exchangeAnswer, exchangeChapter, exchangeMarks}
 
 -- nodes

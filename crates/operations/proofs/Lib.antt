@@ -17,6 +17,5 @@ pub mod OutcomeParts
 pub mod OutcomeSizes
 pub mod LengthLaws
 pub mod Recomputed
-pub mod Recomputation
 pub mod LoopLaws
 pub mod ExchangeLoops

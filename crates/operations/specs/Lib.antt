@@ -4,4 +4,7 @@ pub mod Marks
 pub mod Run
 pub mod Listing
 pub mod Exchange
+pub mod ExchangeCall
+pub mod Recomputation
 pub mod History
+pub mod Demands

@@ -1,5 +1,5 @@
 -- Laws of refusals: a call is accepted exactly if no condition holds, and otherwise the first condition that holds gives the
--- number. Assumes nothing.
+-- number. They pass on `NoneHolds`, of which they speak. Assumes nothing.
 use mathlib.Core.Path.{_≡_, refl, _∙_, sym}
 use mathlib.Core.Bool.{Bool, true, false, _&&_}
 use mathlib.Core.List.{[], _∷_, _++_}
@@ -7,13 +7,9 @@ use Prim.Native.Nat.{ℕ, _<_}
 use native.Mathlib.Omega.{arith}
 use lib.Dec.{ltb}
 use borrow.Author.Tests.{ltb-true}
-use Rattle.words.specs.Refusal.{Refusals, refusal}
+use Rattle.words.specs.Refusal.{Refusals, refusal, First, here, later}
+pub use Rattle.words.specs.Refusal.{NoneHolds}
 use Rattle.words.proofs.TestLaws.{and-true}
-
--- no condition of the list holds
-abbrev pub NoneHolds : Refusals → Type 0
-NoneHolds [] = Unit {0}
-NoneHolds (r ∷ rs) = (r .1 ≡ false) × NoneHolds rs
 
 -- every number is above 0; of a list whose numbers are written out, `refl` proves it
 abbrev pub positive : Refusals → Bool
@@ -57,3 +53,18 @@ part-refuses rs ks f e h = e ∙ sym (refusal-before rs ks (omega (arith, e, h))
 -- where the first list does not refuse, the second decides
 pub refusal-rest : (rs ks : Refusals) → positive rs ≡ true → refusal rs ≡ 0 → refusal (rs ++ ks) ≡ refusal ks
 refusal-rest rs ks p h = refusal-behind rs ks (refusal-none rs p h)
+
+-- ---- the first that applies: both ways
+
+pub refusal-is-first : (rs : Refusals) (n : ℕ) → 0 < n → refusal rs ≡ n → First n rs
+refusal-is-first [] n p h = absurd (omega arith)
+refusal-is-first ((m, true) ∷ rs) n p h = rw h (here refl)
+refusal-is-first ((m, false) ∷ rs) n p h = later refl (refusal-is-first rs n p h)
+
+pub first-is-refusal : {rs : Refusals} {n : ℕ} → First n rs → refusal rs ≡ n
+first-is-refusal (here e) = rw e
+first-is-refusal (later e f) = rw e (first-is-refusal f)
+
+pub first-positive : {rs : Refusals} {n : ℕ} → positive rs ≡ true → First n rs → 0 < n
+first-positive {rs = (m, b) ∷ rs} {n = n} p (here e) = ltb-true 0 n (and-true (ltb 0 n) (positive rs) p .0)
+first-positive {rs = (m, b) ∷ rs} p (later e f) = first-positive (and-true (ltb 0 m) (positive rs) p .1) f
