@@ -22,10 +22,10 @@ use Rattle.words.proofs.ExactlyOneLaws.{one-along}
 use Rattle.words.proofs.WordLaws.{arity-wordOf, isExpressionWord-wordOf}
 use Rattle.words.proofs.ReadingLaws.{stack-tree, oneTree-tree}
 use Rattle.words.proofs.TreeLaws.{TreeOf, exactly-one-tree}
-use Rattle.language.proofs.ParseLaws.{expressionAt, number-syntaxTrees, tree-expression, constant-small, expression-back}
+use Rattle.language.proofs.ParseLaws.{treeExpression, number-syntaxTrees, tree-expression, constant-small, expression-back}
 
 module _ (a : List ℕ) where
-  expression-read : (e : List ℕ) → all (isExpressionWord a) e ≡ true → (t : Tree) → TreeOf a e t → ExpressionOf a e (expressionAt t)
+  expression-read : (e : List ℕ) → all (isExpressionWord a) e ≡ true → (t : Tree) → TreeOf a e t → ExpressionOf a e (treeExpression t)
   expression-read e h t k =
       let p = tree-expression a t (k .ranked) (rw (k .words) h) in
       record { over = p .0; words = ap postfix (p .1) ∙ k .words }
@@ -101,7 +101,7 @@ module _ (a : List ℕ) where
     -- and words that pass both are those of exactly one
     pub exactly-one-expression : (e : List ℕ) → all (isExpressionWord a) e ≡ true → oneTree a e ≡ true → ExactlyOne (ExpressionOf a e)
     exactly-one-expression e h o =
-        one-along expressionAt syntaxTree (expression-read e h) (expression-tree e) (λ E k. expression-back a m E (k .over)) (exactly-one-tree a e o)
+        one-along treeExpression syntaxTree (expression-read e h) (expression-tree e) (λ E k. expression-back a m E (k .over)) (exactly-one-tree a e o)
 
     -- which the reading of the words finds
     pub expression-of : (e : List ℕ) (E : Expression) → ExpressionOf a e E → expressionOf a e ≡ E

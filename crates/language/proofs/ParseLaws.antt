@@ -23,11 +23,11 @@ use Rattle.words.proofs.WordLaws.{IsExpressionWord, isExpressionWord-facts}
 use Rattle.words.proofs.ExpressionWordLaws.{ExpressionWord, symbolWord, emptyWord, unionWord, productWord, closureWord, expressionWord}
 
 -- the expression that a tree of words is read as
-abbrev pub expressionAt : Tree → Expression
-expressionAt t = fold expressionOn t
+abbrev pub treeExpression : Tree → Expression
+treeExpression t = fold expressionOn t
 
-abbrev expressionsAt : Trees → List Expression
-expressionsAt ts = foldAll expressionOn ts
+abbrev treeExpressions : Trees → List Expression
+treeExpressions ts = foldAll expressionOn ts
 
 pub number-syntaxTrees : (es : Expressions) → number (syntaxTrees es) ≡ numberᵉ es
 number-syntaxTrees noneᵉ = refl
@@ -99,16 +99,16 @@ module _ (a : List ℕ) where
 
   mutual
     pub tree-expression : (t : Tree) → Ranked a t → all (isExpressionWord a) (postfix t) ≡ true
-        → ExpressionOver a (expressionAt t) × (syntaxTree (expressionAt t) ≡ t)
+        → ExpressionOver a (treeExpression t) × (syntaxTree (treeExpression t) ≡ t)
     tree-expression (node w ts) r h =
         let q = trees-expressions ts (r .1) (all-left (isExpressionWord a) (postfixAll ts) (w ∷ []) h) in
-        let es = expressionsAt ts in
+        let es = treeExpressions ts in
         let n : arity a w ≡ numberᵉ (childrenᵉ es) = r .0 ∙ ap number (sym (q .1)) ∙ number-syntaxTrees (childrenᵉ es) in
         let f = root w es (and-true (isExpressionWord a w) true (all-right (isExpressionWord a) (postfixAll ts) (w ∷ []) h) .0) n (q .0) in
         (f .over, f .tree ∙ ap (node w) (q .1))
 
     pub trees-expressions : (ts : Trees) → RankedAll a ts → all (isExpressionWord a) (postfixAll ts) ≡ true
-        → ExpressionsOver a (childrenᵉ (expressionsAt ts)) × (syntaxTrees (childrenᵉ (expressionsAt ts)) ≡ ts)
+        → ExpressionsOver a (childrenᵉ (treeExpressions ts)) × (syntaxTrees (childrenᵉ (treeExpressions ts)) ≡ ts)
     trees-expressions none r h = (tt, refl)
     trees-expressions (more t ts) r h =
         let p = tree-expression t (r .0) (all-left (isExpressionWord a) (postfix t) (postfixAll ts) h) in
@@ -121,28 +121,28 @@ module _ (a : List ℕ) where
     pub constant-small : (c : ℕ) → isConstant a c ≡ true → c < 256
     constant-small c h = omega (arith, isConstant-zero a c h .0)
 
-    -- `expressionAt` gives the expression back
+    -- `treeExpression` gives the expression back
     kind-back : (k : Kind) (b : ℕ) (es : List Expression) → b < 256 → ofKind (kindOf (wordOf k b)) (lowByte (wordOf k b)) es ≡ ofKind k b es
     kind-back k b es l =
         let e : lowByte (wordOf k b) ≡ b = omega arith in
         ap₂ (λ (x : Kind) (y : ℕ). ofKind x y es) (kindOf-wordOf k b (omega arith)) e
 
     mutual
-      pub expression-back : (E : Expression) → ExpressionOver a E → expressionAt (syntaxTree E) ≡ E
+      pub expression-back : (E : Expression) → ExpressionOver a E → treeExpression (syntaxTree E) ≡ E
       expression-back (symbol f es) h =
           let l = h .0 in
-          kind-back symbolKind f (expressionsAt (syntaxTrees es)) (omega arith) ∙ ap (symbol f) (expressions-back es (h .2))
+          kind-back symbolKind f (treeExpressions (syntaxTrees es)) (omega arith) ∙ ap (symbol f) (expressions-back es (h .2))
       expression-back empty h = kind-back emptyKind 0 [] (omega arith)
       expression-back (union F G) h =
-          kind-back unionKind 0 (expressionAt (syntaxTree F) ∷ expressionAt (syntaxTree G) ∷ []) (omega arith)
+          kind-back unionKind 0 (treeExpression (syntaxTree F) ∷ treeExpression (syntaxTree G) ∷ []) (omega arith)
           ∙ ap₂ union (expression-back F (h .0)) (expression-back G (h .1))
       expression-back (product c F G) h =
-          kind-back productKind c (expressionAt (syntaxTree F) ∷ expressionAt (syntaxTree G) ∷ []) (constant-small c (h .0))
+          kind-back productKind c (treeExpression (syntaxTree F) ∷ treeExpression (syntaxTree G) ∷ []) (constant-small c (h .0))
           ∙ ap₂ (product c) (expression-back F (h .1)) (expression-back G (h .2))
       expression-back (closure c F) h =
-          kind-back closureKind c (expressionAt (syntaxTree F) ∷ []) (constant-small c (h .0))
+          kind-back closureKind c (treeExpression (syntaxTree F) ∷ []) (constant-small c (h .0))
           ∙ ap (closure c) (expression-back F (h .1))
 
-      pub expressions-back : (es : Expressions) → ExpressionsOver a es → childrenᵉ (expressionsAt (syntaxTrees es)) ≡ es
+      pub expressions-back : (es : Expressions) → ExpressionsOver a es → childrenᵉ (treeExpressions (syntaxTrees es)) ≡ es
       expressions-back noneᵉ h = refl
       expressions-back (moreᵉ E es) h = ap₂ moreᵉ (expression-back E (h .0)) (expressions-back es (h .1))

@@ -16,7 +16,7 @@ use Rattle.operations.specs.Marks.{sizeOf, nodeSets, refit}
 use Rattle.operations.specs.Run.{runRefusals, runAnswer, runExit, runMarks, cellsIn}
 use Rattle.operations.specs.Listing.{listRefusals, listAnswer, listExit, matchesOf}
 use Rattle.operations.specs.Exchange.{setIn, fault, recomputedIn, exchangeAnswer, exchangeChapter, exchangeMarks}
-use Rattle.operations.specs.ExchangeCall.{refusalsTo, newTreeOf, outcomesOf}
+use Rattle.operations.specs.ExchangeCall.{refusalsOf, newTreeOf, outcomesOf}
 use Rattle.operations.specs.Demands.{Unchanged, SameLength, Judged, Demand1}
 use Rattle.operations.proofs.LengthLaws.{compile-length, run-exit-length, list-length, chapter-length, marks-length}
 
@@ -80,7 +80,7 @@ demand1 = record {
       (list-length a table n marks slice, tt);
   exchange = λ c.
       let vs = length (newTreeOf c) ∷ recomputedIn (outcomesOf c) ∷ [] in
-      let rs = refusalsTo c in
+      let rs = refusalsOf c in
       judged vs rs _ refl
       (λ n h. (
         kept-by vs (refusal rs) n (refit (c .count) (newTreeOf c) (c .chapter)) (c .chapter) h,

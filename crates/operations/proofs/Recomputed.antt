@@ -12,7 +12,7 @@ use Rattle.automaton.specs.StateSet.{StateSet}
 use Rattle.operations.specs.Answer.{accepted}
 use Rattle.operations.specs.Marks.{sizeOf, nodeSet, ReachedSet, nodeSets, storedSet, refit}
 use Rattle.operations.specs.Exchange.{kept, recomputed, setIn, recomputedIn, fault, newTree, outcomes, exchangeAnswer, exchangeMarks}
-use Rattle.operations.specs.ExchangeCall.{ExchangeCall, usedIn, storedIn, newTreeOf, outcomesOf, answerTo, marksAfter}
+use Rattle.operations.specs.ExchangeCall.{ExchangeCall, usedIn, storedIn, newTreeOf, outcomesOf, answeredBy, marksAfter}
 use Rattle.operations.specs.Recomputation.{outcomeOf, setAfter, startIn}
 use Rattle.operations.specs.Demands.{RecomputesOnly, Demand3Recomputation}
 use Rattle.operations.proofs.MarksLaws.{storedSet-flatten}
@@ -22,7 +22,7 @@ use Rattle.operations.proofs.AnyTable.{nodeSet-reached}
 use Rattle.operations.proofs.RuleLaws.{Follows, follows-length, follows-outcomes, from-children}
 use Rattle.operations.proofs.OutcomeParts.{root-last, outcome-before, outcome-replaced, recomputed-parts, behindOf, outcome-rest, count-rest, count-most}
 
-module _ (c : ExchangeCall) (elements workedOut : ℕ) (h : answerTo c ≡ accepted (elements ∷ workedOut ∷ [])) where
+module _ (c : ExchangeCall) (elements workedOut : ℕ) (h : answeredBy c ≡ accepted (elements ∷ workedOut ∷ [])) where
   abbrev a : List ℕ
   a = c .alphabet
 

@@ -21,7 +21,7 @@ use Rattle.operations.specs.Marks.{sizeOf, nodeSet, ReachedSet, nodeSets
 use Rattle.operations.specs.Run.{runRefusals, runAnswer, runExit, cellsIn}
 use Rattle.operations.specs.Listing.{listRefusals, listAnswer, listExit, matchesOf}
 use Rattle.operations.specs.Exchange.{kept, recomputed, recomputedIn, rootSet}
-use Rattle.operations.specs.ExchangeCall.{ExchangeCall, usedIn, refusalsTo, storedIn, newTreeOf, outcomesOf, answerTo, chapterAfter, marksAfter}
+use Rattle.operations.specs.ExchangeCall.{ExchangeCall, usedIn, refusalsOf, storedIn, newTreeOf, outcomesOf, answeredBy, chapterAfter, marksAfter}
 use Rattle.operations.specs.Recomputation.{outcomeOf, setAfter, startIn, behindIn, oldNumber, newNumber, recomputes}
 use Rattle.operations.specs.History.{Call, Memory, exchanges, plains}
 
@@ -55,7 +55,7 @@ pub record Demand1 : Type 0 where
       → Judged (listRefusals alphabet table elements (length marks) (length slice)) (listAnswer alphabet table elements marks slice)
       (length (matchesOf table elements marks) ∷ []) ((slice, listExit alphabet table elements marks slice) ∷ [])
   pub exchange : (c : ExchangeCall)
-      → Judged (refusalsTo c) (answerTo c) (length (newTreeOf c) ∷ recomputedIn (outcomesOf c) ∷ [])
+      → Judged (refusalsOf c) (answeredBy c) (length (newTreeOf c) ∷ recomputedIn (outcomesOf c) ∷ [])
       ((c .chapter, chapterAfter c) ∷ (c .marks, marksAfter c) ∷ [])
 
 -- ---- Demand 2 (Demand2): "A rule that Compile accepts becomes exactly the numbered Thompson tree automaton of the rules.
@@ -180,4 +180,4 @@ pub record RecomputesOnly (c : ExchangeCall) (elements workedOut : ℕ) : Type 0
   pub most : workedOut ≤ length (c .replacement) + depthOf (c .alphabet) (usedIn c) (c .element)
 
 abbrev pub Demand3Recomputation : Type 0
-Demand3Recomputation = (c : ExchangeCall) (elements workedOut : ℕ) → answerTo c ≡ accepted (elements ∷ workedOut ∷ []) → RecomputesOnly c elements workedOut
+Demand3Recomputation = (c : ExchangeCall) (elements workedOut : ℕ) → answeredBy c ≡ accepted (elements ∷ workedOut ∷ []) → RecomputesOnly c elements workedOut

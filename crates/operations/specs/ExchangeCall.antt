@@ -23,8 +23,8 @@ module _ (c : ExchangeCall) where
   abbrev pub usedIn : List ℕ
   usedIn = used (c .alphabet) (c .table) (c .chapter) (c .marks) (c .count) (c .element) (c .replacement)
 
-  abbrev pub refusalsTo : Refusals
-  refusalsTo =
+  abbrev pub refusalsOf : Refusals
+  refusalsOf =
       exchangeRefusals (c .alphabet) (c .table) (c .count) usedIn (length (c .chapter)) (length (c .marks)) (c .element) (c .replacement)
 
   -- "Stored marks count as they stand": those of node i of the old tree
@@ -38,8 +38,8 @@ module _ (c : ExchangeCall) where
   outcomesOf = outcomes (c .alphabet) (c .table) (c .chapter) (c .marks) (c .count) (c .element) (c .replacement)
 
   -- the answer, and both slices at exit
-  abbrev pub answerTo : Answer
-  answerTo = exchangeAnswer (c .alphabet) (c .table) (c .chapter) (c .marks) (c .count) (c .element) (c .replacement)
+  abbrev pub answeredBy : Answer
+  answeredBy = exchangeAnswer (c .alphabet) (c .table) (c .chapter) (c .marks) (c .count) (c .element) (c .replacement)
 
   abbrev pub chapterAfter : List ℕ
   chapterAfter = exchangeChapter (c .alphabet) (c .table) (c .chapter) (c .marks) (c .count) (c .element) (c .replacement)

@@ -7,7 +7,7 @@ use lib.Dec.{eqb}
 use Rattle.words.specs.Postfix.{splice}
 use Rattle.operations.specs.Answer.{firstValue}
 use Rattle.operations.specs.Exchange.{exchangeFault}
-use Rattle.operations.specs.ExchangeCall.{ExchangeCall, answerTo, chapterAfter, marksAfter}
+use Rattle.operations.specs.ExchangeCall.{ExchangeCall, answeredBy, chapterAfter, marksAfter}
 
 -- "element and replacement are its own"
 pub record Call : Type 0 where
@@ -37,7 +37,7 @@ unfoldable pub exchange : List ℕ → List ℕ → Memory → Call → Memory
 exchange a table s c = record {
   chapter = chapterAfter (callOn a table s c);
   marks = marksAfter (callOn a table s c);
-  count = firstValue (answerTo (callOn a table s c)) (s .count);
+  count = firstValue (answeredBy (callOn a table s c)) (s .count);
 }
 
 -- the memory behind a list of calls, "as the call before left them"
