@@ -17,5 +17,3 @@ pub mod OutcomeParts
 pub mod OutcomeSizes
 pub mod LengthLaws
 pub mod Recomputed
-pub mod LoopLaws
-pub mod ExchangeLoops
