@@ -13,7 +13,7 @@ use Rattle.words.specs.Expression.{expressionRefusals, expressionFault}
 use Rattle.words.proofs.ListLaws.{sets-whole}
 use Rattle.words.proofs.RefusalLaws.{NoneHolds, none-refusal, refusal-rest, refusal-none, part-refuses}
 use Rattle.automaton.specs.Numbering.{statesAfter, compiled}
-use Rattle.operations.specs.Answer.{refused, accepted}
+use Rattle.words.specs.Answer.{refused, accepted}
 use Rattle.operations.specs.Compile.{compiledTable, tooManyStates, tableTooLong, compileRefusals, compileFault, compileAnswer, compileExit}
 use Rattle.compiler.specs.Compiling.{Accepted}
 

@@ -17,7 +17,7 @@ use Rattle.automaton.specs.Numbering.{compiled}
 use Rattle.automaton.proofs.BitLaws.{Words}
 use Rattle.automaton.proofs.ClosureLaws.{words-stateSet}
 use Rattle.automaton.proofs.CompiledTable.{table-most}
-use Rattle.operations.specs.Answer.{accepted}
+use Rattle.words.specs.Answer.{accepted}
 use Rattle.operations.specs.Compile.{compiledTable, tooManyStates, compileRefusals, compileFault, compileAnswer}
 use Rattle.operations.specs.Marks.{sizeOf, nodeSet, nodeSets}
 use Rattle.operations.specs.Run.{runFault, cellsIn, runAnswer}

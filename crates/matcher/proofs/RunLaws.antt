@@ -10,7 +10,7 @@ use Rattle.words.specs.Lists.{listFrom}
 use Rattle.words.specs.Postfix.{values, stackGiven}
 use Rattle.words.proofs.ListLaws.{length-listFrom}
 use Rattle.automaton.specs.StateSet.{StateSet}
-use Rattle.operations.specs.Answer.{refused, accepted}
+use Rattle.words.specs.Answer.{refused, accepted}
 use Rattle.operations.specs.Marks.{sizeOf, nodeSet, nodeSets, storedSet}
 use Rattle.operations.specs.Run.{runFault, runMarks, cellsIn, runAnswer, runExit}
 use Rattle.nodes.proofs.LoopLaws.{Recomputing}

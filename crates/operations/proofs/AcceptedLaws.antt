@@ -15,7 +15,7 @@ use Rattle.words.proofs.TestLaws.{Tested, holds, fails, tested, and-true, or-fa
 use Rattle.words.specs.Refusal.{Refusals, refusal}
 use Rattle.words.proofs.RefusalLaws.{NoneHolds, positive, refusal-none}
 use Rattle.automaton.specs.Table.{noTable}
-use Rattle.operations.specs.Answer.{refused, accepted, answerOf}
+use Rattle.words.specs.Answer.{refused, accepted, answerOf}
 use Rattle.operations.specs.Marks.{sizeOf}
 use Rattle.operations.specs.Run.{wrongCount, fewMarks, runRefusals, runFault}
 use Rattle.operations.specs.Exchange.{wrongUse, noElement, noReplacement, resultTooLong, exchangeRefusals, exchangeFault}

@@ -26,7 +26,7 @@ use Rattle.automaton.specs.Table.{isTable, noTable}
 use Rattle.automaton.proofs.ClosureLaws.{TargetsBelow, targets-below, stateSet-reached, stateSet-beyond}
 use Rattle.automaton.proofs.TreeSets.{treeSet, treeSet-reaches}
 use Rattle.automaton.proofs.TableLaws.{isTable-automaton}
-use Rattle.operations.specs.Answer.{accepted}
+use Rattle.words.specs.Answer.{accepted}
 use Rattle.operations.specs.Compile.{compileAnswer, compileExit}
 use Rattle.operations.specs.Marks.{sizeOf, nodeSet, ReachedSet, nodeSets, storedSet}
 use Rattle.operations.specs.Run.{runFault, runMarks, runAnswer, runExit}

@@ -22,7 +22,7 @@ use Rattle.automaton.specs.Table.{noTable, AutomatonOver}
 use Rattle.automaton.proofs.DecodeLaws.{automatonOf-words}
 use Rattle.automaton.proofs.CompiledOver.{compiled-over}
 use Rattle.automaton.proofs.CompiledTable.{compiled-isTable, table-most}
-use Rattle.operations.specs.Answer.{accepted}
+use Rattle.words.specs.Answer.{accepted}
 use Rattle.operations.specs.Compile.{compiledTable, tooManyStates, compileRefusals, compileFault, compileAnswer, compileExit}
 use Rattle.operations.proofs.AcceptedLaws.{accepted-values, conditionOf, none-applies}
 

@@ -10,7 +10,7 @@ use lib.Dec.{eqb·suc-zero}
 use borrow.Author.Tests.{ne-eqb}
 use Rattle.words.specs.Refusal.{Refusals, refusal}
 use Rattle.words.proofs.RefusalLaws.{positive, none-refusal, refusal-none, refusal-is-first, first-is-refusal, first-positive}
-use Rattle.operations.specs.Answer.{refused, accepted, answerOf, exitOf}
+use Rattle.words.specs.Answer.{refused, accepted, answerOf, exitOf}
 use Rattle.operations.specs.Compile.{compiledTable, compileRefusals, compileAnswer, compileExit}
 use Rattle.operations.specs.Marks.{sizeOf, nodeSets, refit}
 use Rattle.operations.specs.Run.{runRefusals, runAnswer, runExit, runMarks, cellsIn}

@@ -23,7 +23,7 @@ use Rattle.automaton.specs.Reached.{Reaches}
 use Rattle.automaton.proofs.ClosureLaws.{TargetsBelow, targets-below}
 use Rattle.automaton.proofs.TreeSets.{treeSet, treeSet-reaches}
 use Rattle.automaton.proofs.Thompson.{thompson}
-use Rattle.operations.specs.Answer.{accepted}
+use Rattle.words.specs.Answer.{accepted}
 use Rattle.operations.specs.Compile.{compiledTable}
 use Rattle.operations.specs.Marks.{finalOf, nodeSets}
 use Rattle.operations.specs.Run.{runFault, runMarks, runAnswer, runExit, cellsIn}

@@ -15,7 +15,7 @@ use Rattle.words.specs.Postfix.{startOf, splice}
 use Rattle.words.proofs.TestLaws.{Tested, holds, fails, tested, all-left, all-right, all-append}
 use Rattle.words.proofs.PostfixLaws.{splice-tree}
 use Rattle.automaton.specs.StateSet.{StateSet}
-use Rattle.operations.specs.Answer.{answerOf, exitOf}
+use Rattle.words.specs.Answer.{answerOf, exitOf}
 use Rattle.operations.specs.Marks.{sizeOf, nodeSets, storedSet, refit}
 use Rattle.operations.specs.Run.{runFault, runMarks, runAnswer, runExit, cellsIn}
 use Rattle.operations.specs.Listing.{matchesOf, listFault, listAnswer, listExit}

@@ -9,7 +9,7 @@ use lib.Seq.{length-take-le}
 use Rattle.words.specs.Chapter.{symbolOf}
 use Rattle.words.specs.Postfix.{childrenOf}
 use Rattle.automaton.specs.StateSet.{StateSet}
-use Rattle.operations.specs.Answer.{accepted}
+use Rattle.words.specs.Answer.{accepted}
 use Rattle.operations.specs.Marks.{sizeOf, nodeSet, ReachedSet, nodeSets, storedSet, refit}
 use Rattle.operations.specs.Exchange.{kept, recomputed, setIn, recomputedIn, fault, newTree, outcomes, exchangeAnswer, exchangeMarks}
 use Rattle.operations.specs.ExchangeCall.{ExchangeCall, usedIn, storedIn, newTreeOf, outcomesOf, answeredBy, marksAfter}

@@ -15,7 +15,7 @@ use Rattle.language.specs.Expression.{ExpressionOf, SubjectOf}
 use Rattle.language.specs.Reading.{expressionOf}
 use Rattle.language.specs.Membership.{Member}
 use Rattle.automaton.specs.StateSet.{StateSet}
-use Rattle.operations.specs.Answer.{Answer, refused, accepted}
+use Rattle.words.specs.Answer.{Answer, refused, accepted}
 use Rattle.operations.specs.Compile.{compiledTable, compileRefusals, compileAnswer, compileExit}
 use Rattle.operations.specs.Marks.{sizeOf, nodeSet, ReachedSet, nodeSets, storedSet}
 use Rattle.operations.specs.Run.{runRefusals, runAnswer, runExit, cellsIn}

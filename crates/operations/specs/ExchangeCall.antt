@@ -4,7 +4,7 @@ use mathlib.Core.List.{List}
 use lib.ListN.{length}
 use Rattle.words.specs.Refusal.{Refusals}
 use Rattle.automaton.specs.StateSet.{StateSet}
-use Rattle.operations.specs.Answer.{Answer}
+use Rattle.words.specs.Answer.{Answer}
 use Rattle.operations.specs.Marks.{sizeOf, storedSet}
 use Rattle.operations.specs.Exchange.{Outcome, exchangeRefusals, used, newTree, outcomes, exchangeAnswer, exchangeChapter, exchangeMarks}
 

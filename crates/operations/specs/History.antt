@@ -5,7 +5,7 @@ use mathlib.Core.Bool.{cond}
 use lib.ListN.{length}
 use lib.Dec.{eqb}
 use Rattle.words.specs.Postfix.{splice}
-use Rattle.operations.specs.Answer.{firstValue}
+use Rattle.words.specs.Answer.{firstValue}
 use Rattle.operations.specs.Exchange.{exchangeFault}
 use Rattle.operations.specs.ExchangeCall.{ExchangeCall, answeredBy, chapterAfter, marksAfter}
 

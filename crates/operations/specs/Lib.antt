@@ -1,4 +1,3 @@
-pub mod Answer
 pub mod Compile
 pub mod Marks
 pub mod Run

@@ -9,7 +9,7 @@ use Rattle.words.specs.Refusal.{Refusals, refusal}
 use Rattle.words.specs.Alphabet.{alphabetRefusals}
 use Rattle.automaton.specs.Table.{noTable}
 use Rattle.automaton.specs.StateSet.{StateSet, contains}
-use Rattle.operations.specs.Answer.{Answer, answerOf, exitOf}
+use Rattle.words.specs.Answer.{Answer, answerOf, exitOf}
 use Rattle.operations.specs.Marks.{sizeOf, finalOf, storedSet}
 use Rattle.operations.specs.Run.{wrongCount, fewMarks}
 

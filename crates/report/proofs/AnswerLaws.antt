@@ -19,7 +19,7 @@ use Rattle.automaton.specs.StateSet.{sizeFor}
 use Rattle.automaton.specs.Numbering.{compiled}
 use Rattle.automaton.specs.Table.{noTable}
 use Rattle.automaton.proofs.CompiledTable.{table-most, compiled-isTable}
-use Rattle.operations.specs.Answer.{refused, accepted}
+use Rattle.words.specs.Answer.{refused, accepted}
 use Rattle.operations.specs.Compile.{compiledTable, tooManyStates, tableTooLong, compileFault, compileAnswer}
 use Rattle.operations.specs.Marks.{sizeOf, finalOf, nodeSets}
 use Rattle.operations.specs.Run.{wrongCount, fewMarks, runFault, runMarks, runAnswer, runExit}
