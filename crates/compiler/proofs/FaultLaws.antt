@@ -9,7 +9,7 @@ use lib.Seq.{sets}
 use borrow.Author.Tests.{lt-ltb, le-ltb, eq-eqb, ne-eqb}
 use Rattle.words.proofs.ListLaws.{sets-whole}
 use Rattle.automaton.specs.Numbering.{statesAfter, compiled}
-use Rattle.operations.specs.Answer.{refused, accepted}
+use Rattle.words.specs.Answer.{refused, accepted}
 use Rattle.operations.specs.Compile.{compiledTable, tooManyStates, tableTooLong, compileFault, compileAnswer, compileExit}
 use Rattle.operations.proofs.AcceptedLaws.{rule-alphabet, rule-expression, CompilePassed, compile-passed}
 use Rattle.compiler.specs.Compiling.{Accepted}

@@ -1,6 +1,6 @@
 -- Compile's answer as document 01 has it: a refusal's number, or the table's word count. Assumes nothing.
 use mathlib.Core.List.{[], _∷_}
-use Rattle.operations.specs.Answer.{Answer, refused, accepted}
+use Rattle.words.specs.Answer.{Answer, refused, accepted}
 use Rattle.compiler.specs.declared.Compiled.{Compiled}
 use Rattle.compiler.specs.declared.Compiled.the-variants.{Table, Refused}
 

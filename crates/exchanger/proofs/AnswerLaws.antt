@@ -4,7 +4,7 @@ use mathlib.Core.Path.{_≡_, _∙_, sym}
 use mathlib.Core.List.{List, [], _∷_, flatten, map}
 use Prim.Native.Nat.{ℕ, _*_}
 use lib.ListN.{length, take}
-use Rattle.operations.specs.Answer.{Answer, refused, accepted}
+use Rattle.words.specs.Answer.{Answer, refused, accepted}
 use Rattle.operations.specs.Marks.{sizeOf, refit}
 use Rattle.operations.specs.Exchange.{setIn, recomputedIn, exchangeFault, fault, newTree, outcomes, exchangeAnswer, exchangeChapter, exchangeMarks}
 use Rattle.refusals.proofs.AnswerLaws.{answer-refused, answer-accepted, exit-refused, exit-accepted}

@@ -20,9 +20,10 @@ use Rattle.operations.specs.Marks.{sizeOf, storedSet, sameWords, refit}
 use Rattle.operations.specs.Exchange.{setIn, recomputedIn, outcomesAfter, fault, newTree, outcomes}
 use Rattle.operations.proofs.MarksLaws.{length-flatten, take-refit}
 use Rattle.operations.proofs.RuleLaws.{follows-length, follows-outcomes}
-use Rattle.operations.proofs.LoopLaws.{setAt, upwards}
-use Rattle.operations.proofs.LoopLaws as loops
-use Rattle.operations.proofs.ExchangeLoops.{movedSets, replacedSets, exchangedSets, exchangedSets-outcomes, length-movedSets, length-replacedSets, words-behind}
+use Rattle.nodes.proofs.LoopLaws.{setAt}
+use Rattle.nodes.proofs.LoopLaws as loops
+use Rattle.exchanger.proofs.UpwardLoop.{upwards}
+use Rattle.exchanger.proofs.ExchangeLoops.{movedSets, replacedSets, exchangedSets, exchangedSets-outcomes, length-movedSets, length-replacedSets, words-behind}
 use Rattle.nodes.specs.Nodes.{setFrom, markedFrom}
 use Rattle.nodes.proofs.MarkLaws.{Holding, holding-set, setFrom-rows, markedAt-rows}
 use Rattle.exchanger.specs.declared.climb.Rise.{Rise}

@@ -1,3 +1,5 @@
+pub mod UpwardLoop
+pub mod ExchangeLoops
 pub mod TailLaws
 pub mod ClimbLaws
 pub mod RiseLaws

@@ -15,7 +15,7 @@ use Rattle.automaton.specs.StateSet.{StateSet}
 use Rattle.operations.specs.Marks.{sizeOf, storedSet, refit}
 use Rattle.operations.specs.Exchange.{fault}
 use Rattle.operations.proofs.MarksLaws.{Sized}
-use Rattle.operations.proofs.ExchangeLoops.{movedSets}
+use Rattle.exchanger.proofs.ExchangeLoops.{movedSets}
 use Rattle.slices.proofs.RefitLaws.{take-drop}
 use Rattle.sets.proofs.RowLaws.{sized-stored, flatten-stored}
 use Rattle.nodes.proofs.MarkLaws.{Holding}

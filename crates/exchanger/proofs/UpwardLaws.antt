@@ -13,8 +13,9 @@ use Rattle.words.proofs.TestLaws.{Tested, holds, fails, tested}
 use Rattle.words.proofs.HoldingLaws.{HoldingTree, takes-others, holding-others, takes-holding, holding-ancestor}
 use Rattle.automaton.specs.StateSet.{StateSet}
 use Rattle.operations.specs.Marks.{sizeOf, storedSet, sameWords}
-use Rattle.operations.proofs.LoopLaws.{setAt, upwards, upwards-beside, upwards-last, upwards-onward}
-use Rattle.operations.proofs.LoopLaws as loops
+use Rattle.nodes.proofs.LoopLaws.{setAt}
+use Rattle.nodes.proofs.LoopLaws as loops
+use Rattle.exchanger.proofs.UpwardLoop.{upwards, upwards-beside, upwards-last, upwards-onward}
 use Rattle.nodes.specs.Nodes.{setFrom, markedAt}
 use Rattle.nodes.proofs.MarkLaws.{Holding, holding-set, setFrom-rows, markedAt-rows}
 use Rattle.exchanger.specs.declared.climb.Rise.{Rise}

@@ -1,7 +1,7 @@
 -- Exchange's answer as document 01 has it: a refusal's number, or the new element count and the number worked out. Assumes
 -- nothing.
 use mathlib.Core.List.{[], _∷_}
-use Rattle.operations.specs.Answer.{Answer, refused, accepted}
+use Rattle.words.specs.Answer.{Answer, refused, accepted}
 use Rattle.exchanger.specs.declared.Exchanged.{Exchanged}
 use Rattle.exchanger.specs.declared.Exchanged.the-variants.{Replaced, Refused}
 

@@ -4,7 +4,7 @@ ghost use mathlib.Core.Path.{_≡_};
 ghost use mathlib.Core.List.{[], _∷_, flatten, map};
 ghost use Prim.Native.Nat.{_*_};
 ghost use lib.ListN.{length};
-ghost use Rattle.operations.specs.Answer.{accepted};
+ghost use Rattle.words.specs.Answer.{accepted};
 ghost use Rattle.operations.specs.Marks.{sizeOf, refit};
 ghost use Rattle.operations.specs.Exchange.{setIn, recomputedIn, fault as Exchange·fault, newTree, outcomes, exchangeAnswer, exchangeChapter, exchangeMarks};
 ghost use Rattle.exchanger.specs.Exchanging.{exchangedFrom, Exchangeable};

@@ -3,7 +3,7 @@
 use mathlib.Core.Path.{_≡_}
 use mathlib.Core.List.{List, [], _∷_}
 use Prim.Native.Nat.{ℕ}
-use Rattle.operations.specs.Answer.{Answer, refused, accepted}
+use Rattle.words.specs.Answer.{Answer, refused, accepted}
 use Rattle.compiler.specs.declared.Compiled.{Compiled}
 use Rattle.compiler.specs.declared.Compiled.the-variants.{Table, Refused as Compiled·Refused}
 use Rattle.compiler.specs.Answers.{answerIn as answerInCompiled}

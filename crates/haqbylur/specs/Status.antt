@@ -1,7 +1,7 @@
 -- What a C caller gets of an answer: a status, and the values through its out-parameters. Assumes nothing.
 use Prim.Native.Nat.{ℕ}
 use lib.ListN.{getD}
-use Rattle.operations.specs.Answer.{Answer, refused, accepted}
+use Rattle.words.specs.Answer.{Answer, refused, accepted}
 
 -- 0 for an accepted call, and otherwise document 01's number of the refusal
 abbrev pub statusOf : Answer → ℕ

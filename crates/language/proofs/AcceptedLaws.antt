@@ -14,9 +14,10 @@ use Rattle.words.specs.Chapter.{isNode, noNodes, treeRefusals, treeFault}
 use Rattle.words.specs.Expression.{isExpressionWord, noExpressionWords}
 use Rattle.words.proofs.RefusalLaws.{none-refusal, none-applies}
 use Rattle.words.proofs.AlphabetLaws.{alphabet-most}
-use Rattle.words.proofs.ExactlyOne.{ExactlyOne}
-use Rattle.language.proofs.SubjectLaws.{SubjectOf, subject-nodes, subject-oneTree, exactly-one-subject}
-use Rattle.language.proofs.ExpressionLaws.{ExpressionOf, expression-words, expression-oneTree, exactly-one-expression}
+use Rattle.words.specs.ExactlyOne.{ExactlyOne}
+use Rattle.language.specs.Expression.{ExpressionOf, SubjectOf}
+use Rattle.language.proofs.SubjectLaws.{subject-nodes, subject-oneTree, exactly-one-subject}
+use Rattle.language.proofs.ExpressionLaws.{expression-words, expression-oneTree, exactly-one-expression}
 
 module _ (a : List ℕ) (h : noAlphabet a ≡ false) where
   abbrev most : length a ≤ 64

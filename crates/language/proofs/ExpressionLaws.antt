@@ -1,34 +1,31 @@
 -- Words that are expression words and make one tree are the words of exactly one expression over the alphabet, and the
--- words of every expression over the alphabet are expression words that make one tree. Assumes nothing.
+-- words of every expression over the alphabet are expression words that make one tree; the reading finds it. Assumes nothing.
 use mathlib.Core.Path.{_≡_, refl, ap, _∙_, sym}
 use mathlib.Core.Bool.{true}
 use mathlib.Core.List.{List, [], _∷_, _++_}
 use Prim.Native.Nat.{ℕ, _<_, _≤_}
 use native.Mathlib.Omega.{arith}
-use lib.ListN.{length}
+use lib.ListN.{length, getD}
 use borrow.Author.Tests.{lt-ltb}
 use Rattle.words.specs.Lists.{all}
 use Rattle.words.specs.Word.{Kind, symbolKind, emptyKind, unionKind, productKind, closureKind, fieldRange, wordOf, lowByte}
 use Rattle.words.specs.Alphabet.{isConstant}
 use Rattle.words.specs.Tree.{Tree, none, more, postfix, postfixAll}
-use Rattle.words.specs.Postfix.{oneTree}
+use Rattle.words.specs.Postfix.{oneTree, stackAfter}
 use Rattle.words.specs.Expression.{namesAt, isExpressionWord}
-use Rattle.language.specs.Expression.{Expression, Expressions, symbol, empty, union, product, closure, noneᵉ, moreᵉ, syntaxTree, syntaxTrees, expressionWords, ExpressionOver, ExpressionsOver}
+use Rattle.language.specs.Expression.{Expression, Expressions, symbol, empty, union, product, closure, noneᵉ, moreᵉ, syntaxTree, syntaxTrees, expressionWords, ExpressionOver, ExpressionsOver, ExpressionOf}
+use Rattle.language.specs.Reading.{expressionOn, expressionOf}
 use Rattle.words.proofs.RankedTree.{Ranked, RankedAll}
 use Rattle.words.proofs.TestLaws.{true-and, all-append}
-use Rattle.words.proofs.ExactlyOne.{ExactlyOne, one-along}
+use Rattle.words.specs.ExactlyOne.{ExactlyOne}
+use Rattle.words.proofs.ExactlyOneLaws.{one-along}
 use Rattle.words.proofs.WordLaws.{arity-wordOf, isExpressionWord-wordOf}
-use Rattle.words.proofs.ReadingLaws.{oneTree-tree}
+use Rattle.words.proofs.ReadingLaws.{stack-tree, oneTree-tree}
 use Rattle.words.proofs.TreeLaws.{TreeOf, exactly-one-tree}
-use Rattle.language.proofs.ParseLaws.{expressionOf, number-syntaxTrees, tree-expression, constant-small, expression-back}
-
--- an expression over the alphabet whose words these are
-pub record ExpressionOf (a e : List ℕ) (E : Expression) : Type 0 where
-  pub over : ExpressionOver a E
-  pub words : expressionWords E ≡ e
+use Rattle.language.proofs.ParseLaws.{treeExpression, number-syntaxTrees, tree-expression, constant-small, expression-back}
 
 module _ (a : List ℕ) where
-  expression-read : (e : List ℕ) → all (isExpressionWord a) e ≡ true → (t : Tree) → TreeOf a e t → ExpressionOf a e (expressionOf t)
+  expression-read : (e : List ℕ) → all (isExpressionWord a) e ≡ true → (t : Tree) → TreeOf a e t → ExpressionOf a e (treeExpression t)
   expression-read e h t k =
       let p = tree-expression a t (k .ranked) (rw (k .words) h) in
       record { over = p .0; words = ap postfix (p .1) ∙ k .words }
@@ -104,4 +101,12 @@ module _ (a : List ℕ) where
     -- and words that pass both are those of exactly one
     pub exactly-one-expression : (e : List ℕ) → all (isExpressionWord a) e ≡ true → oneTree a e ≡ true → ExactlyOne (ExpressionOf a e)
     exactly-one-expression e h o =
-        one-along expressionOf syntaxTree (expression-read e h) (expression-tree e) (λ E k. expression-back a m E (k .over)) (exactly-one-tree a e o)
+        one-along treeExpression syntaxTree (expression-read e h) (expression-tree e) (λ E k. expression-back a m E (k .over)) (exactly-one-tree a e o)
+
+    -- which the reading of the words finds
+    pub expression-of : (e : List ℕ) (E : Expression) → ExpressionOf a e E → expressionOf a e ≡ E
+    unfolding expressionOf
+    expression-of e E k =
+        ap (λ (ws : List ℕ). getD (stackAfter a expressionOn ws []) 0 empty) (sym (k .words))
+        ∙ ap (λ (s : List Expression). getD s 0 empty) (stack-tree a expressionOn (syntaxTree E) [] (ranked-syntax E (k .over)))
+        ∙ expression-back a m E (k .over)

@@ -7,50 +7,27 @@ use Prim.Native.Nat.{ℕ, suc, _<_, _≤_}
 use native.Mathlib.Omega.{arith}
 use lib.ListN.{length}
 use Rattle.words.specs.Lists.{all}
-use Rattle.words.specs.Word.{Kind, entryKind, symbolKind, emptyKind, unionKind, productKind, closureKind, nodeKind, headKind, transitionKind, epsilonKind, sourceKind, noKind, kindOf, bodyOf, wordOf, lowByte}
+use Rattle.words.specs.Word.{Kind, symbolKind, emptyKind, unionKind, productKind, closureKind, kindOf, bodyOf, wordOf, lowByte}
 use Rattle.words.specs.Alphabet.{rankOf, isConstant}
 use Rattle.words.specs.Tree.{Tree, Trees, node, none, more, number, postfix, postfixAll}
 use Rattle.words.specs.Postfix.{arity}
 use Rattle.words.specs.Expression.{isExpressionWord}
 use Rattle.language.specs.Expression.{Expression, Expressions, symbol, empty, union, product, closure, noneᵉ, moreᵉ, numberᵉ, syntaxTree, syntaxTrees, ExpressionOver, ExpressionsOver}
+use Rattle.language.specs.Reading.{childrenᵉ, ofKind, expressionOn}
 use Rattle.words.proofs.RankedTree.{Ranked, RankedAll}
+use Rattle.words.proofs.TreeFold.{fold, foldAll}
 use Rattle.words.proofs.TestLaws.{and-true, all-left, all-right}
 use Rattle.words.proofs.KindLaws.{kindOf-wordOf}
 use Rattle.words.proofs.AlphabetLaws.{isConstant-zero}
 use Rattle.words.proofs.WordLaws.{IsExpressionWord, isExpressionWord-facts}
 use Rattle.words.proofs.ExpressionWordLaws.{ExpressionWord, symbolWord, emptyWord, unionWord, productWord, closureWord, expressionWord}
 
--- child i, where there is one
-abbrev firstOf : Expressions → Expression
-firstOf noneᵉ = empty
-firstOf (moreᵉ e es) = e
+-- the expression that a tree of words is read as
+abbrev pub treeExpression : Tree → Expression
+treeExpression t = fold expressionOn t
 
-abbrev restOf : Expressions → Expressions
-restOf noneᵉ = noneᵉ
-restOf (moreᵉ e es) = es
-
--- a word of a kind over its children
-abbrev pub ofKind : Kind → ℕ → Expressions → Expression
-ofKind symbolKind s es = symbol s es
-ofKind unionKind s es = union (firstOf es) (firstOf (restOf es))
-ofKind productKind s es = product s (firstOf es) (firstOf (restOf es))
-ofKind closureKind s es = closure s (firstOf es)
-ofKind emptyKind s es = empty
-ofKind nodeKind s es = empty
-ofKind entryKind s es = empty
-ofKind headKind s es = empty
-ofKind transitionKind s es = empty
-ofKind epsilonKind s es = empty
-ofKind sourceKind s es = empty
-ofKind noKind s es = empty
-
-abbrev mutual
-  pub expressionOf : Tree → Expression
-  expressionOf (node w ts) = ofKind (kindOf w) (lowByte w) (expressionsOf ts)
-
-  pub expressionsOf : Trees → Expressions
-  expressionsOf none = noneᵉ
-  expressionsOf (more t ts) = moreᵉ (expressionOf t) (expressionsOf ts)
+abbrev treeExpressions : Trees → List Expression
+treeExpressions ts = foldAll expressionOn ts
 
 pub number-syntaxTrees : (es : Expressions) → number (syntaxTrees es) ≡ numberᵉ es
 number-syntaxTrees noneᵉ = refl
@@ -58,9 +35,9 @@ number-syntaxTrees (moreᵉ e es) = ap suc (number-syntaxTrees es)
 
 module _ (a : List ℕ) where
   -- a word over children that were read is read as the expression of which it is the root
-  record Root (w : ℕ) (es : Expressions) (k : Kind) : Type 0 where
+  record Root (w : ℕ) (es : List Expression) (k : Kind) : Type 0 where
     over : ExpressionOver a (ofKind k (lowByte w) es)
-    tree : syntaxTree (ofKind k (lowByte w) es) ≡ node w (syntaxTrees es)
+    tree : syntaxTree (ofKind k (lowByte w) es) ≡ node w (syntaxTrees (childrenᵉ es))
 
   -- a word with a symbol in its low byte, and one without
   named : (w : ℕ) (k : Kind) → w ≡ wordOf k (bodyOf w) → bodyOf w < 256 → wordOf k (lowByte w) ≡ w
@@ -70,44 +47,44 @@ module _ (a : List ℕ) where
   bare w k f l = let e : 0 ≡ bodyOf w = omega arith in ap (wordOf k) e ∙ sym f
 
   module _ (w : ℕ) where
-    root-symbol : (es : Expressions) → IsExpressionWord a w symbolKind → lowByte w < length a → rankOf a (lowByte w) ≡ numberᵉ es
-        → ExpressionsOver a es → Root w es symbolKind
+    root-symbol : (es : List Expression) → IsExpressionWord a w symbolKind → lowByte w < length a → rankOf a (lowByte w) ≡ numberᵉ (childrenᵉ es)
+        → ExpressionsOver a (childrenᵉ es) → Root w es symbolKind
     root-symbol es f s r o =
-        record { over = (s, r, o); tree = ap (λ (x : ℕ). node x (syntaxTrees es)) (named w symbolKind (f .word) (f .body)) }
+        record { over = (s, r, o); tree = ap (λ (x : ℕ). node x (syntaxTrees (childrenᵉ es))) (named w symbolKind (f .word) (f .body)) }
 
-    root-empty : (es : Expressions) → IsExpressionWord a w emptyKind → 0 ≡ numberᵉ es → Root w es emptyKind
-    root-empty noneᵉ f r = record { over = tt; tree = ap (λ (x : ℕ). node x none) (bare w emptyKind (f .word) (f .body)) }
-    root-empty (moreᵉ e es) f r = absurd (omega arith)
+    root-empty : (es : List Expression) → IsExpressionWord a w emptyKind → 0 ≡ numberᵉ (childrenᵉ es) → Root w es emptyKind
+    root-empty [] f r = record { over = tt; tree = ap (λ (x : ℕ). node x none) (bare w emptyKind (f .word) (f .body)) }
+    root-empty (E ∷ es) f r = absurd (omega arith)
 
-    root-union : (es : Expressions) → IsExpressionWord a w unionKind → 2 ≡ numberᵉ es → ExpressionsOver a es → Root w es unionKind
-    root-union noneᵉ f r o = absurd (omega arith)
-    root-union (moreᵉ F noneᵉ) f r o = absurd (omega arith)
-    root-union (moreᵉ F (moreᵉ G noneᵉ)) f r o =
+    root-union : (es : List Expression) → IsExpressionWord a w unionKind → 2 ≡ numberᵉ (childrenᵉ es) → ExpressionsOver a (childrenᵉ es) → Root w es unionKind
+    root-union [] f r o = absurd (omega arith)
+    root-union (F ∷ []) f r o = absurd (omega arith)
+    root-union (F ∷ G ∷ []) f r o =
         record {
           over = (o .0, o .1 .0);
           tree = ap (λ (x : ℕ). node x (more (syntaxTree F) (more (syntaxTree G) none))) (bare w unionKind (f .word) (f .body));
         }
-    root-union (moreᵉ F (moreᵉ G (moreᵉ H es))) f r o = absurd (omega arith)
+    root-union (F ∷ G ∷ H ∷ es) f r o = absurd (omega arith)
 
-    root-product : (es : Expressions) → IsExpressionWord a w productKind → isConstant a (lowByte w) ≡ true → 2 ≡ numberᵉ es
-        → ExpressionsOver a es → Root w es productKind
-    root-product noneᵉ f c r o = absurd (omega arith)
-    root-product (moreᵉ F noneᵉ) f c r o = absurd (omega arith)
-    root-product (moreᵉ F (moreᵉ G noneᵉ)) f c r o =
+    root-product : (es : List Expression) → IsExpressionWord a w productKind → isConstant a (lowByte w) ≡ true → 2 ≡ numberᵉ (childrenᵉ es)
+        → ExpressionsOver a (childrenᵉ es) → Root w es productKind
+    root-product [] f c r o = absurd (omega arith)
+    root-product (F ∷ []) f c r o = absurd (omega arith)
+    root-product (F ∷ G ∷ []) f c r o =
         record {
           over = (c, o .0, o .1 .0);
           tree = ap (λ (x : ℕ). node x (more (syntaxTree F) (more (syntaxTree G) none))) (named w productKind (f .word) (f .body));
         }
-    root-product (moreᵉ F (moreᵉ G (moreᵉ H es))) f c r o = absurd (omega arith)
+    root-product (F ∷ G ∷ H ∷ es) f c r o = absurd (omega arith)
 
-    root-closure : (es : Expressions) → IsExpressionWord a w closureKind → isConstant a (lowByte w) ≡ true → 1 ≡ numberᵉ es
-        → ExpressionsOver a es → Root w es closureKind
-    root-closure noneᵉ f c r o = absurd (omega arith)
-    root-closure (moreᵉ F noneᵉ) f c r o =
+    root-closure : (es : List Expression) → IsExpressionWord a w closureKind → isConstant a (lowByte w) ≡ true → 1 ≡ numberᵉ (childrenᵉ es)
+        → ExpressionsOver a (childrenᵉ es) → Root w es closureKind
+    root-closure [] f c r o = absurd (omega arith)
+    root-closure (F ∷ []) f c r o =
         record { over = (c, o .0); tree = ap (λ (x : ℕ). node x (more (syntaxTree F) none)) (named w closureKind (f .word) (f .body)) }
-    root-closure (moreᵉ F (moreᵉ G es)) f c r o = absurd (omega arith)
+    root-closure (F ∷ G ∷ es) f c r o = absurd (omega arith)
 
-    root : (es : Expressions) → isExpressionWord a w ≡ true → arity a w ≡ numberᵉ es → ExpressionsOver a es → Root w es (kindOf w)
+    root : (es : List Expression) → isExpressionWord a w ≡ true → arity a w ≡ numberᵉ (childrenᵉ es) → ExpressionsOver a (childrenᵉ es) → Root w es (kindOf w)
     root es h n o = go (expressionWord a w h)
       where
         facts : (k : Kind) → kindOf w ≡ k → IsExpressionWord a w k
@@ -122,16 +99,16 @@ module _ (a : List ℕ) where
 
   mutual
     pub tree-expression : (t : Tree) → Ranked a t → all (isExpressionWord a) (postfix t) ≡ true
-        → ExpressionOver a (expressionOf t) × (syntaxTree (expressionOf t) ≡ t)
+        → ExpressionOver a (treeExpression t) × (syntaxTree (treeExpression t) ≡ t)
     tree-expression (node w ts) r h =
         let q = trees-expressions ts (r .1) (all-left (isExpressionWord a) (postfixAll ts) (w ∷ []) h) in
-        let es = expressionsOf ts in
-        let n : arity a w ≡ numberᵉ es = r .0 ∙ ap number (sym (q .1)) ∙ number-syntaxTrees es in
+        let es = treeExpressions ts in
+        let n : arity a w ≡ numberᵉ (childrenᵉ es) = r .0 ∙ ap number (sym (q .1)) ∙ number-syntaxTrees (childrenᵉ es) in
         let f = root w es (and-true (isExpressionWord a w) true (all-right (isExpressionWord a) (postfixAll ts) (w ∷ []) h) .0) n (q .0) in
         (f .over, f .tree ∙ ap (node w) (q .1))
 
     pub trees-expressions : (ts : Trees) → RankedAll a ts → all (isExpressionWord a) (postfixAll ts) ≡ true
-        → ExpressionsOver a (expressionsOf ts) × (syntaxTrees (expressionsOf ts) ≡ ts)
+        → ExpressionsOver a (childrenᵉ (treeExpressions ts)) × (syntaxTrees (childrenᵉ (treeExpressions ts)) ≡ ts)
     trees-expressions none r h = (tt, refl)
     trees-expressions (more t ts) r h =
         let p = tree-expression t (r .0) (all-left (isExpressionWord a) (postfix t) (postfixAll ts) h) in
@@ -144,28 +121,28 @@ module _ (a : List ℕ) where
     pub constant-small : (c : ℕ) → isConstant a c ≡ true → c < 256
     constant-small c h = omega (arith, isConstant-zero a c h .0)
 
-    -- `expressionOf` gives the expression back
-    kind-back : (k : Kind) (b : ℕ) (es : Expressions) → b < 256 → ofKind (kindOf (wordOf k b)) (lowByte (wordOf k b)) es ≡ ofKind k b es
+    -- `treeExpression` gives the expression back
+    kind-back : (k : Kind) (b : ℕ) (es : List Expression) → b < 256 → ofKind (kindOf (wordOf k b)) (lowByte (wordOf k b)) es ≡ ofKind k b es
     kind-back k b es l =
         let e : lowByte (wordOf k b) ≡ b = omega arith in
         ap₂ (λ (x : Kind) (y : ℕ). ofKind x y es) (kindOf-wordOf k b (omega arith)) e
 
     mutual
-      pub expression-back : (E : Expression) → ExpressionOver a E → expressionOf (syntaxTree E) ≡ E
+      pub expression-back : (E : Expression) → ExpressionOver a E → treeExpression (syntaxTree E) ≡ E
       expression-back (symbol f es) h =
           let l = h .0 in
-          kind-back symbolKind f (expressionsOf (syntaxTrees es)) (omega arith) ∙ ap (symbol f) (expressions-back es (h .2))
-      expression-back empty h = kind-back emptyKind 0 noneᵉ (omega arith)
+          kind-back symbolKind f (treeExpressions (syntaxTrees es)) (omega arith) ∙ ap (symbol f) (expressions-back es (h .2))
+      expression-back empty h = kind-back emptyKind 0 [] (omega arith)
       expression-back (union F G) h =
-          kind-back unionKind 0 (moreᵉ (expressionOf (syntaxTree F)) (moreᵉ (expressionOf (syntaxTree G)) noneᵉ)) (omega arith)
+          kind-back unionKind 0 (treeExpression (syntaxTree F) ∷ treeExpression (syntaxTree G) ∷ []) (omega arith)
           ∙ ap₂ union (expression-back F (h .0)) (expression-back G (h .1))
       expression-back (product c F G) h =
-          kind-back productKind c (moreᵉ (expressionOf (syntaxTree F)) (moreᵉ (expressionOf (syntaxTree G)) noneᵉ)) (constant-small c (h .0))
+          kind-back productKind c (treeExpression (syntaxTree F) ∷ treeExpression (syntaxTree G) ∷ []) (constant-small c (h .0))
           ∙ ap₂ (product c) (expression-back F (h .1)) (expression-back G (h .2))
       expression-back (closure c F) h =
-          kind-back closureKind c (moreᵉ (expressionOf (syntaxTree F)) noneᵉ) (constant-small c (h .0))
+          kind-back closureKind c (treeExpression (syntaxTree F) ∷ []) (constant-small c (h .0))
           ∙ ap (closure c) (expression-back F (h .1))
 
-      pub expressions-back : (es : Expressions) → ExpressionsOver a es → expressionsOf (syntaxTrees es) ≡ es
+      pub expressions-back : (es : Expressions) → ExpressionsOver a es → childrenᵉ (treeExpressions (syntaxTrees es)) ≡ es
       expressions-back noneᵉ h = refl
       expressions-back (moreᵉ E es) h = ap₂ moreᵉ (expression-back E (h .0)) (expressions-back es (h .1))

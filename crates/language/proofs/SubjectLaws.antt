@@ -11,19 +11,15 @@ use Rattle.words.specs.Word.{nodeKind, wordOf}
 use Rattle.words.specs.Tree.{Tree, Trees, node, none, more, postfix, postfixAll}
 use Rattle.words.specs.Postfix.{oneTree}
 use Rattle.words.specs.Chapter.{symbolOf, isNode}
-use Rattle.language.specs.Expression.{treeWords, TreeOver, TreesOver}
+use Rattle.language.specs.Expression.{treeWords, TreeOver, TreesOver, SubjectOf}
 use Rattle.words.proofs.RankedTree.{Ranked, RankedAll}
 use Rattle.words.proofs.TestLaws.{and-true, true-and, all-left, all-right, all-append}
-use Rattle.words.proofs.ExactlyOne.{ExactlyOne, one-along}
+use Rattle.words.specs.ExactlyOne.{ExactlyOne}
+use Rattle.words.proofs.ExactlyOneLaws.{one-along}
 use Rattle.words.proofs.WordLaws.{arity-wordOf, isNode-facts, isNode-wordOf, symbolOf-wordOf}
 use Rattle.words.proofs.RelabelLaws.{relabel, relabelAll, number-relabel, postfix-relabel}
 use Rattle.words.proofs.ReadingLaws.{oneTree-tree}
 use Rattle.words.proofs.TreeLaws.{TreeOf, exactly-one-tree}
-
--- a tree over the alphabet whose words these are
-pub record SubjectOf (a ch : List ℕ) (t : Tree) : Type 0 where
-  pub over : TreeOver a t
-  pub words : treeWords t ≡ ch
 
 -- the tree of words of a tree of symbols, and back
 abbrev pub wordTree : Tree → Tree

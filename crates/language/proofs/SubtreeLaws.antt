@@ -11,14 +11,14 @@ use Rattle.words.specs.Word.{nodeKind, wordOf}
 use Rattle.words.specs.Tree.{Tree, Trees, node, none, more}
 use Rattle.words.specs.Postfix.{oneTree, startOf, subtreeOf, values}
 use Rattle.words.specs.Chapter.{symbolOf, isNode}
-use Rattle.language.specs.Expression.{TreeOver, TreesOver}
+use Rattle.language.specs.Expression.{TreeOver, TreesOver, SubjectOf}
 use Rattle.words.proofs.TreeFold.{fold, foldAll}
 use Rattle.words.proofs.TestLaws.{all-left, all-right}
-use Rattle.words.proofs.ExactlyOne.{ExactlyOne}
+use Rattle.words.specs.ExactlyOne.{ExactlyOne}
 use Rattle.words.proofs.WordLaws.{symbolOf-wordOf}
 use Rattle.words.proofs.RelabelLaws.{relabelAll}
 use Rattle.words.proofs.SubtreeLaws.{subtree-tree, value-subtree}
-use Rattle.language.proofs.SubjectLaws.{SubjectOf, wordTree, subject-words, exactly-one-subject}
+use Rattle.language.proofs.SubjectLaws.{wordTree, subject-words, exactly-one-subject}
 
 -- the words of a subtree are nodes
 pub subtree-nodes : (a ch : List ℕ) (i : ℕ) → all (isNode a) ch ≡ true → all (isNode a) (subtreeOf a ch i) ≡ true

@@ -67,3 +67,13 @@ abbrev mutual
   pub ExpressionsOver : List ℕ → Expressions → Type 0
   ExpressionsOver a noneᵉ = Unit {0}
   ExpressionsOver a (moreᵉ e es) = ExpressionOver a e × ExpressionsOver a es
+
+-- an expression over the alphabet whose words these are
+pub record ExpressionOf (a ws : List ℕ) (E : Expression) : Type 0 where
+  pub over : ExpressionOver a E
+  pub words : expressionWords E ≡ ws
+
+-- a subject tree over the alphabet whose words these are
+pub record SubjectOf (a ws : List ℕ) (t : Tree) : Type 0 where
+  pub over : TreeOver a t
+  pub words : treeWords t ≡ ws

@@ -1,2 +1,3 @@
 pub mod Expression
 pub mod Membership
+pub mod Reading

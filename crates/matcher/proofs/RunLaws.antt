@@ -10,10 +10,10 @@ use Rattle.words.specs.Lists.{listFrom}
 use Rattle.words.specs.Postfix.{values, stackGiven}
 use Rattle.words.proofs.ListLaws.{length-listFrom}
 use Rattle.automaton.specs.StateSet.{StateSet}
-use Rattle.operations.specs.Answer.{refused, accepted}
+use Rattle.words.specs.Answer.{refused, accepted}
 use Rattle.operations.specs.Marks.{sizeOf, nodeSet, nodeSets, storedSet}
 use Rattle.operations.specs.Run.{runFault, runMarks, cellsIn, runAnswer, runExit}
-use Rattle.operations.proofs.LoopLaws.{Recomputing}
+use Rattle.nodes.proofs.LoopLaws.{Recomputing}
 use Rattle.operations.proofs.RunLaws.{run-writes, run-length}
 use Rattle.sets.proofs.StoredLaws.{words-few}
 use Rattle.step.specs.Index.{indexOf, Indexable}

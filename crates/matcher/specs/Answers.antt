@@ -1,6 +1,6 @@
 -- What the answers of Run and List say: document 01's refusal number, or its values, for each case. Assumes nothing.
 use mathlib.Core.List.{[], _∷_}
-use Rattle.operations.specs.Answer.{Answer, refused, accepted}
+use Rattle.words.specs.Answer.{Answer, refused, accepted}
 use Rattle.matcher.specs.declared.Ran.{Ran}
 use Rattle.matcher.specs.declared.Ran.the-variants.{Marked, Refused as Ran·Refused}
 use Rattle.matcher.specs.declared.Listed.{Listed}

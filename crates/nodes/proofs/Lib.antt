@@ -1,3 +1,4 @@
+pub mod LoopLaws
 pub mod RootLaws
 pub mod WorkedLaws
 pub mod MarkLaws

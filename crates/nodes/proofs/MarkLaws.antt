@@ -13,8 +13,8 @@ use Rattle.automaton.specs.StateSet.{StateSet}
 use Rattle.operations.specs.Marks.{sizeOf, nodeSet, nodeSets, storedSet}
 use Rattle.operations.specs.Run.{runMarks}
 use Rattle.operations.proofs.MarksLaws.{Sized, length-nodeSet, storedSet-flatten}
-use Rattle.operations.proofs.LoopLaws.{setAt, Recomputing}
-use Rattle.operations.proofs.LoopLaws as loops
+use Rattle.nodes.proofs.LoopLaws.{setAt, Recomputing}
+use Rattle.nodes.proofs.LoopLaws as loops
 use Rattle.sets.proofs.RowLaws.{paste-row, sized-set, sized-stored, stored-split}
 use Rattle.nodes.specs.Nodes.{setFrom, markedAt, markedFrom}
 use Rattle.nodes.proofs.RootLaws.{children-below}

@@ -5,7 +5,7 @@ use Prim.Native.Nat.{ℕ, zero, suc, _+_, _≤_}
 use native.Mathlib.Omega.{arith}
 use lib.ListN.{length, set, length-set}
 use Rattle.automaton.specs.StateSet.{StateSet}
-use Rattle.operations.proofs.LoopLaws.{setAt, setFrom, Recomputing, recomputing-none, recomputing-more}
+use Rattle.nodes.proofs.LoopLaws.{setAt, setFrom, Recomputing, recomputing-none, recomputing-more}
 use Rattle.nodes.specs.Nodes.{rootsOf}
 
 module _ (a table ch : List ℕ) where

@@ -18,7 +18,7 @@ use Rattle.words.proofs.TestLaws.{Tested, holds, fails, tested, and-true, or-fa
 use Rattle.words.proofs.RefusalLaws.{none-refusal, conditionOf, none-applies, parts-pass}
 use Rattle.automaton.specs.Table.{isTable, noTable}
 use Rattle.automaton.specs.Numbering.{compiled}
-use Rattle.operations.specs.Answer.{refused, accepted, answerOf}
+use Rattle.words.specs.Answer.{refused, accepted, answerOf}
 use Rattle.operations.specs.Compile.{compiledTable, tooManyStates, tableTooLong, ruleRefusals, compileFault}
 use Rattle.operations.specs.Marks.{sizeOf}
 use Rattle.operations.specs.Run.{wrongCount, fewMarks, runRefusals, runFault}

@@ -14,35 +14,26 @@ use Rattle.words.specs.Alphabet.{noAlphabet}
 use Rattle.words.specs.Chapter.{symbolOf}
 use Rattle.words.specs.Postfix.{subtreeOf, childrenOf}
 use Rattle.words.proofs.AlphabetLaws.{alphabet-most}
-use Rattle.words.proofs.ExactlyOne.{ExactlyOne}
+use Rattle.words.specs.ExactlyOne.{ExactlyOne}
 use Rattle.words.proofs.ChildLaws.{values-children}
 use Rattle.words.proofs.StackLaws.{Right}
-use Rattle.language.proofs.SubjectLaws.{SubjectOf}
+use Rattle.language.specs.Expression.{SubjectOf}
 use Rattle.language.proofs.SubtreeLaws.{exactly-one-subtree}
 use Rattle.automaton.specs.Transition.{automatonOf}
 use Rattle.automaton.specs.StateSet.{StateSet, contains}
-use Rattle.automaton.specs.Reached.{Reached, Reaches}
+use Rattle.automaton.specs.Reached.{Reaches}
 use Rattle.automaton.specs.Table.{isTable, noTable}
 use Rattle.automaton.proofs.ClosureLaws.{TargetsBelow, targets-below, stateSet-reached, stateSet-beyond}
 use Rattle.automaton.proofs.TreeSets.{treeSet, treeSet-reaches}
 use Rattle.automaton.proofs.TableLaws.{isTable-automaton}
-use Rattle.operations.specs.Answer.{accepted}
+use Rattle.words.specs.Answer.{accepted}
 use Rattle.operations.specs.Compile.{compileAnswer, compileExit}
-use Rattle.operations.specs.Marks.{sizeOf, nodeSet, nodeSets, storedSet}
+use Rattle.operations.specs.Marks.{sizeOf, nodeSet, ReachedSet, nodeSets, storedSet}
 use Rattle.operations.specs.Run.{runFault, runMarks, runAnswer, runExit}
 use Rattle.operations.proofs.AcceptedLaws.{accepted-values, RunAccepted, run-accepted}
 use Rattle.operations.proofs.CompileLaws.{compile-accepted}
 use Rattle.operations.proofs.MarksLaws.{length-nodeSet, sized-nodeSets, length-nodeSets, storedSet-flatten, stored-right}
 use Rattle.operations.proofs.RunLaws.{run-writes, run-exit, node-tree}
-
--- the words of one element with symbol f whose children have the sets rs
-pub record ReachedSet (table : List ℕ) (f : ℕ) (rs : List StateSet) (r : StateSet) : Type 0 where
-  -- "Element i owns S words"
-  pub size : length r ≡ sizeOf table
-  -- "for every state s, bit s mod 32 (bit 0 lowest) of word s / 32 is set exactly if s is reached"
-  pub reached : (q : ℕ) → (contains r q ≡ true) ↔ Reached (automatonOf table .transitions) f rs q
-  -- "Bits beyond the last state are zero."
-  pub beyond : (q : ℕ) → automatonOf table .states ≤ q → contains r q ≡ false
 
 -- ---- any table
 

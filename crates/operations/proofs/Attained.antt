@@ -13,7 +13,7 @@ use Rattle.automaton.specs.Transition.{automatonOf}
 use Rattle.automaton.specs.Numbering.{hasEntries, statesOf, portOf, ownTransitions, portsFrom, statesAfter, transitionsFrom, compiled}
 use Rattle.automaton.specs.Table.{isHead, isTableWord, sourcesLeft, areTransitions, isTable, noTable}
 use Rattle.automaton.specs.StateSet.{sizeFor}
-use Rattle.operations.specs.Answer.{Answer, refused}
+use Rattle.words.specs.Answer.{Answer, refused}
 use Rattle.operations.specs.Compile.{tooManyStates, tableTooLong, compileAnswer}
 use Rattle.operations.specs.Marks.{sizeOf}
 use Rattle.operations.specs.Run.{wrongCount, fewMarks, runAnswer}

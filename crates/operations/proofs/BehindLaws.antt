@@ -14,7 +14,7 @@ use Rattle.words.proofs.ListLaws.{listFrom-shift, map-listFrom, all-map, count-
 use Rattle.automaton.specs.StateSet.{StateSet}
 use Rattle.operations.specs.Marks.{nodeSet, sameWords}
 use Rattle.operations.specs.Exchange.{Outcome, kept, recomputed, setIn, isRecomputed, recomputedIn, keptFrom, climb, rootSet, outcomesBehind}
-use Rattle.operations.proofs.Recomputation.{outcomeAt}
+use Rattle.operations.specs.Recomputation.{outcomeAt}
 use Rattle.operations.proofs.ClimbLaws.{climb-beside, climb-last, climb-onward}
 
 module _ (stored : ℕ → StateSet) (above : ℕ → Bool) where

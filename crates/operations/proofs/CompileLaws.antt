@@ -9,8 +9,8 @@ use lib.ListN.{length, take, drop}
 use lib.Seq.{take-at}
 use Rattle.words.specs.Alphabet.{noAlphabet}
 use Rattle.words.proofs.AlphabetLaws.{alphabet-most}
-use Rattle.words.proofs.ExactlyOne.{ExactlyOne}
-use Rattle.language.proofs.ExpressionLaws.{ExpressionOf}
+use Rattle.words.specs.ExactlyOne.{ExactlyOne}
+use Rattle.language.specs.Expression.{ExpressionOf}
 use Rattle.language.proofs.AcceptedLaws.{expression-accepted}
 use Rattle.automaton.specs.Transition.{automatonOf}
 use Rattle.automaton.specs.Numbering.{compiled}
@@ -18,7 +18,7 @@ use Rattle.automaton.specs.Table.{noTable, AutomatonOver}
 use Rattle.automaton.proofs.DecodeLaws.{automatonOf-words}
 use Rattle.automaton.proofs.CompiledOver.{compiled-over}
 use Rattle.automaton.proofs.CompiledTable.{compiled-isTable, table-most}
-use Rattle.operations.specs.Answer.{accepted}
+use Rattle.words.specs.Answer.{accepted}
 use Rattle.operations.specs.Compile.{compiledTable, compileFault, compileAnswer, compileExit}
 use Rattle.operations.proofs.AcceptedLaws.{accepted-values, compile-passed, rule-alphabet, rule-expression}
 

@@ -1,6 +1,5 @@
--- Demand 2: after an accepted Compile, an accepted Run with that table and alphabet and an accepted List with the element
--- count and the marks that Run left, List names an element if and only if the tree of its subtree belongs to the language of
--- the rule's expression. Assumes nothing.
+-- Demand 2 holds: List writes the nodes whose state sets hold the final state, a node's set holds the states that its subtree's
+-- tree reaches, and by Thompson's theorem the final one is reached by the members of the rule's language. Assumes nothing.
 use Prim.Native.Nat.{ℕ, _<_, _≤_}
 use mathlib.Core.Path.{_≡_, sym, _∙_, ap, ap₂, subst}
 use mathlib.Core.Logic.{_↔_}
@@ -12,11 +11,10 @@ use lib.ListN.{length, getD, take, drop}
 use lib.Seq.{take-at}
 use Rattle.words.specs.Tree.{Tree}
 use Rattle.words.specs.Postfix.{subtreeOf}
-use Rattle.words.proofs.ExactlyOne.{ExactlyOne}
-use Rattle.language.specs.Expression.{Expression}
+use Rattle.words.specs.ExactlyOne.{ExactlyOne}
+use Rattle.language.specs.Expression.{Expression, ExpressionOf, SubjectOf}
 use Rattle.language.specs.Membership.{Member}
-use Rattle.language.proofs.SubjectLaws.{SubjectOf}
-use Rattle.language.proofs.ExpressionLaws.{ExpressionOf}
+use Rattle.language.proofs.ExpressionLaws.{expression-of}
 use Rattle.language.proofs.SubtreeLaws.{exactly-one-subtree}
 use Rattle.automaton.specs.Transition.{automatonOf}
 use Rattle.automaton.specs.Numbering.{compiled}
@@ -25,57 +23,17 @@ use Rattle.automaton.specs.Reached.{Reaches}
 use Rattle.automaton.proofs.ClosureLaws.{TargetsBelow, targets-below}
 use Rattle.automaton.proofs.TreeSets.{treeSet, treeSet-reaches}
 use Rattle.automaton.proofs.Thompson.{thompson}
-use Rattle.operations.specs.Answer.{accepted}
-use Rattle.operations.specs.Compile.{compiledTable, compileAnswer, compileExit}
+use Rattle.words.specs.Answer.{accepted}
+use Rattle.operations.specs.Compile.{compiledTable}
 use Rattle.operations.specs.Marks.{finalOf, nodeSets}
 use Rattle.operations.specs.Run.{runFault, runMarks, runAnswer, runExit, cellsIn}
 use Rattle.operations.specs.Listing.{listFault, matchesIn, matchesOf, listAnswer, listExit}
+use Rattle.operations.specs.Demands.{Calls, namesOf, AllAccepted, Named, Demand2}
 use Rattle.operations.proofs.AcceptedLaws.{accepted-values, RunAccepted, run-accepted}
 use Rattle.operations.proofs.CompileLaws.{CompileAccepted, compile-accepted}
 use Rattle.operations.proofs.MarksLaws.{length-nodeSets}
 use Rattle.operations.proofs.MatchLaws.{Holding, holding-named, named-holding}
 use Rattle.operations.proofs.RunLaws.{run-writes, run-exit, matches-nodeSets, node-tree}
-
--- the three calls, one after the other: what is lent, and what each accepted call answers
-pub record Calls : Type 0 where
-  pub alphabet : List ℕ
-  pub rule : List ℕ
-  pub tableSlice : List ℕ
-  pub chapter : List ℕ
-  pub marksSlice : List ℕ
-  pub listSlice : List ℕ
-  -- Compile's word count; Run's element count and cells; List's number of hits
-  pub words : ℕ
-  pub elements : ℕ
-  pub cells : ℕ
-  pub hits : ℕ
-
--- the table that Compile wrote, the marks that Run left, the numbers that List wrote
-abbrev pub tableOf : Calls → List ℕ
-tableOf c = take (c .words) (compileExit (c .alphabet) (c .rule) (c .tableSlice))
-
-abbrev pub marksOf : Calls → List ℕ
-marksOf c = runExit (c .alphabet) (tableOf c) (c .chapter) (c .marksSlice)
-
-abbrev pub namesOf : Calls → List ℕ
-namesOf c = take (c .hits) (listExit (c .alphabet) (tableOf c) (c .elements) (marksOf c) (c .listSlice))
-
-pub record AllAccepted (c : Calls) : Type 0 where
-  pub compiles : compileAnswer (c .alphabet) (c .rule) (c .tableSlice) ≡ accepted (c .words ∷ [])
-  pub runs : runAnswer (c .alphabet) (tableOf c) (c .chapter) (c .marksSlice) ≡ accepted (c .elements ∷ c .cells ∷ [])
-  pub lists : listAnswer (c .alphabet) (tableOf c) (c .elements) (marksOf c) (c .listSlice) ≡ accepted (c .hits ∷ [])
-
--- what demand 2 says
-pub record Demand2 (c : Calls) : Type 0 where
-  -- "A rule that Compile accepts becomes exactly the numbered Thompson tree automaton of the rules."
-  pub automaton : tableOf c ≡ compiledTable (c .alphabet) (c .rule)
-  -- the rule is the words of exactly one expression, and an element's subtree those of exactly one tree
-  pub expression : ExactlyOne (ExpressionOf (c .alphabet) (c .rule))
-  pub subtrees : (i : ℕ) → i < length (c .chapter) → ExactlyOne (SubjectOf (c .alphabet) (subtreeOf (c .alphabet) (c .chapter) i))
-  -- every number that List writes is an element's
-  pub within : (i : ℕ) → List·Memᴰ i (namesOf c) → i < length (c .chapter)
-  -- "names an element if and only if its subtree belongs to the rule's language"
-  pub names : (i : ℕ) (l : i < length (c .chapter)) → List·Memᴰ i (namesOf c) ↔ Member (expression .the) (subtrees i l .the)
 
 -- ---- a compiled table
 
@@ -172,10 +130,11 @@ module _ (c : Calls) (h : AllAccepted c) where
       holds-member a (c .rule) (c .chapter) (compiles .few) (compiles .automaton) (targets-below (compiles .over))
       (compiles .expression .the) i (subtree i l .the) (compiles .expression .has) l (subtree i l .has)
 
-  pub demand2 : Demand2 c
-  demand2 = record {
+  named-members : Named c
+  named-members = record {
     automaton = compiles .table;
     expression = compiles .expression;
+    read = expression-of a (compiles .few) (c .rule) (compiles .expression .the) (compiles .expression .has);
     subtrees = subtree;
     within = λ i x. omega (arith, length-nodeSets a T (c .chapter), names-holding i .0 x .0);
     names = λ i l. (
@@ -184,8 +143,12 @@ module _ (c : Calls) (h : AllAccepted c) where
     );
   }
 
-  -- the same of any expression whose words the rule is
-  pub demand2-of : (E : Expression) → ExpressionOf (c .alphabet) (c .rule) E → (i : ℕ) (l : i < length (c .chapter))
-      → List·Memᴰ i (namesOf c) ↔ Member E (demand2 .subtrees i l .the)
-  demand2-of E x i l =
-      subst (λ (F : Expression). List·Memᴰ i (namesOf c) ↔ Member F (demand2 .subtrees i l .the)) (sym (demand2 .expression .only E x)) (demand2 .names i l)
+pub demand2 : Demand2
+demand2 c h = named-members c h
+
+-- the same of any expression whose words the rule is
+pub demand2-of : (c : Calls) (h : AllAccepted c) (E : Expression) → ExpressionOf (c .alphabet) (c .rule) E → (i : ℕ) (l : i < length (c .chapter))
+    → List·Memᴰ i (namesOf c) ↔ Member E (demand2 c h .subtrees i l .the)
+demand2-of c h E x i l =
+    subst (λ (F : Expression). List·Memᴰ i (namesOf c) ↔ Member F (demand2 c h .subtrees i l .the)) (sym (demand2 c h .expression .only E x))
+    (demand2 c h .names i l)

@@ -15,12 +15,14 @@ use Rattle.words.specs.Postfix.{startOf, splice}
 use Rattle.words.proofs.TestLaws.{Tested, holds, fails, tested, all-left, all-right, all-append}
 use Rattle.words.proofs.PostfixLaws.{splice-tree}
 use Rattle.automaton.specs.StateSet.{StateSet}
-use Rattle.operations.specs.Answer.{answerOf, exitOf}
+use Rattle.words.specs.Answer.{answerOf, exitOf}
 use Rattle.operations.specs.Marks.{sizeOf, nodeSets, storedSet, refit}
 use Rattle.operations.specs.Run.{runFault, runMarks, runAnswer, runExit, cellsIn}
 use Rattle.operations.specs.Listing.{matchesOf, listFault, listAnswer, listExit}
 use Rattle.operations.specs.Exchange.{setIn, outcomesAfter, exchangeFault, fault, newTree, outcomes, exchangeAnswer, exchangeChapter, exchangeMarks}
-use Rattle.operations.specs.History.{Call, Memory, exchange, exchanges, plain, plains, Start, Fresh, Faithful, Demand3}
+use Rattle.operations.specs.ExchangeCall.{newTreeOf, outcomesOf}
+use Rattle.operations.specs.History.{Call, Memory, callOn, exchange, exchanges, plain, plains}
+use Rattle.operations.specs.Demands.{Start, Fresh, Faithful, Demand3}
 use Rattle.operations.proofs.MarksLaws.{stored-right, take-refit, length-refit}
 use Rattle.operations.proofs.RunLaws.{length-words, run-writes, run-length, run-exit, matches-nodeSets}
 use Rattle.operations.proofs.AcceptedLaws.{accepted-values, run-accepted, accepted-run, ResultFits, ExchangeAccepted, exchange-accepted}
@@ -79,10 +81,10 @@ module _ (a table : List ℕ) (treeRoom marksRoom : ℕ) where
 
   module _ (p : List ℕ) (s : Memory) (c : Call) (g : Related a table treeRoom marksRoom p s) where
     abbrev tree : List ℕ
-    tree = newTree a table (s .chapter) (s .marks) (s .count) (c .element) (c .replacement)
+    tree = newTreeOf (callOn a table s c)
 
     abbrev sets : List StateSet
-    sets = map setIn (outcomes a table (s .chapter) (s .marks) (s .count) (c .element) (c .replacement))
+    sets = map setIn (outcomesOf (callOn a table s c))
 
     -- the memory behind an accepted call
     abbrev exchanged : Memory

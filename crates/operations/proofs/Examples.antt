@@ -21,12 +21,13 @@ use Rattle.automaton.specs.Transition.{transitionsAt, automatonOf, headWord}
 use Rattle.automaton.specs.Numbering.{hasEntries, statesOf, portOf, ownTransitions, portsFrom, statesAfter, transitionsFrom, compiled}
 use Rattle.automaton.specs.Table.{isHead, isTableWord, sourcesLeft, areTransitions, isTable, noTable}
 use Rattle.automaton.specs.StateSet.{sizeFor, contains, insert, allContained, symbolPass, epsilonPass, epsilonClosure, stateSet}
-use Rattle.operations.specs.Answer.{Answer, refused, accepted, firstValue}
+use Rattle.words.specs.Answer.{Answer, refused, accepted, firstValue}
 use Rattle.operations.specs.Compile.{compiledTable, compileFault, tooManyStates, tableTooLong}
 use Rattle.operations.specs.Marks.{sizeOf, finalOf, nodeSet, nodeSets, storedSet, sameWords, refit}
 use Rattle.operations.specs.Run.{wrongCount, fewMarks, runFault, runMarks, cellsIn, runAnswer, runExit}
 use Rattle.operations.specs.Listing.{matchesIn, matchesOf}
-use Rattle.operations.proofs.Demand2.{Calls, AllAccepted, namesOf, demand2, demand2-of}
+use Rattle.operations.specs.Demands.{Calls, AllAccepted, namesOf}
+use Rattle.operations.proofs.Demand2.{demand2, demand2-of}
 use Rattle.operations.specs.Exchange.{wrongUse, noElement, noReplacement, resultTooLong, recomputedIn, climb, rootSet, outcomesBehind, outcomesAfter, fault, newTree, outcomes, exchangeAnswer, exchangeChapter, exchangeMarks}
 
 -- nodes

@@ -14,7 +14,7 @@ use Rattle.words.specs.Postfix.{splice}
 use Rattle.words.proofs.TestLaws.{Tested, holds, fails, tested}
 use Rattle.words.proofs.ListLaws.{length-listFrom}
 use Rattle.automaton.specs.StateSet.{StateSet, contains}
-use Rattle.operations.specs.Answer.{exitOf}
+use Rattle.words.specs.Answer.{exitOf}
 use Rattle.operations.specs.Compile.{compiledTable, compileFault, compileExit}
 use Rattle.operations.specs.Marks.{sizeOf, finalOf, storedSet, refit}
 use Rattle.operations.specs.Run.{runFault, runMarks, runExit}

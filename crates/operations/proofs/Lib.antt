@@ -19,6 +19,3 @@ pub mod OutcomeParts
 pub mod OutcomeSizes
 pub mod LengthLaws
 pub mod Recomputed
-pub mod Recomputation
-pub mod LoopLaws
-pub mod ExchangeLoops

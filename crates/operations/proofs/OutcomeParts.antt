@@ -6,7 +6,7 @@ use mathlib.Core.List.{List, [], _∷_, _++_, map}
 use Prim.Native.Nat.{ℕ, zero, suc, _+_, _-_, _<_, _≤_}
 use native.Mathlib.Omega.{arith}
 use native.Mathlib.Nat.{zero-add, add-zero, add-assoc}
-use lib.ListN.{length, getD, take, drop, length-drop, length-map, List·getD-append}
+use lib.ListN.{length, getD, take, length-drop, length-map, List·getD-append}
 use lib.Seq.{getD-append-add, take-suc, take-length, length-take-le}
 use Rattle.words.specs.Lists.{count, listFrom}
 use Rattle.words.specs.Postfix.{oneTree, startOf, isAncestor, depthOf, values, stackAfter}
@@ -16,11 +16,12 @@ use Rattle.words.proofs.CountLaws.{count-wider}
 use Rattle.words.proofs.StackLaws.{length-values, read, Right, list-right, right-last}
 use Rattle.automaton.specs.StateSet.{StateSet}
 use Rattle.operations.specs.Marks.{nodeSet, nodeSets, sameWords}
-use Rattle.operations.specs.Exchange.{Outcome, kept, recomputed, setIn, isRecomputed, recomputedIn, keptFrom, rootSet, outcomesBehind, outcomesAfter}
+use Rattle.operations.specs.Exchange.{Outcome, kept, recomputed, isRecomputed, recomputedIn, keptFrom, rootSet, outcomesBehind, outcomesAfter, outcomes}
+use Rattle.operations.specs.ExchangeCall.{ExchangeCall, usedIn, storedIn}
+use Rattle.operations.specs.Recomputation.{outcomeAt, outcomeOf, setAfter, behindIn, oldNumber, newNumber, ancestor, goesOn, recomputes}
 use Rattle.operations.proofs.MarksLaws.{length-nodeSets}
 use Rattle.operations.proofs.ClimbLaws.{count-kept}
 use Rattle.operations.proofs.OutcomeLaws.{root-read}
-use Rattle.operations.proofs.Recomputation.{outcomeAt, goesOn, reached}
 use Rattle.operations.proofs.BehindLaws.{chosen-at, chosen-behind, recomputed-count, is-chosen}
 use Rattle.operations.proofs.RuleLaws.{length-behind}
 
@@ -128,50 +129,62 @@ module _ (a table : List ℕ) (stored : ℕ → StateSet) (used : List ℕ) (e :
       ∙ zero-add (recomputedIn replaced + recomputedIn rest)
       ∙ ap (λ (i : ℕ). i + recomputedIn rest) (all-recomputed (nodeSets a table xs) ∙ length-nodeSets a table xs)
 
-  -- ---- the nodes behind
+-- ---- the nodes behind
 
-  abbrev reaches : ℕ → Bool
-  reaches k = reached a table stored used e xs k
+abbrev pub behindOf : ExchangeCall → List Outcome
+behindOf c = outcomesBehind (c .alphabet) (c .table) (storedIn c) (usedIn c) (c .element) (c .replacement)
 
-  module _ (he : e < length used) (hx : oneTree a xs ≡ true) where
-    many : length rest ≡ length (drop (e + 1) used)
-    many = length-behind a table stored used e xs he hx
+module _ (c : ExchangeCall) (he : c .element < length (usedIn c)) (hx : oneTree (c .alphabet) (c .replacement) ≡ true) where
+  abbrev behind : List Outcome
+  behind = behindOf c
 
-    pub outcome-rest : (k : ℕ) → k < length (drop (e + 1) used)
-        → outcomeAt os (start + length xs + k) ≡ cond (reaches k) (recomputed (setIn (outcomeAt os (start + length xs + k)))) (kept (stored (e + 1 + k)))
-    outcome-rest k l =
-        simp outcome-behind
-        (chosen-at stored (isAncestor a used e) rest (e + 1) (not (sameWords (rootSet a table xs) (stored e))) k (chosen-behind a table stored used e xs) (rw many l))
+  many : length behind ≡ behindIn c
+  many = length-behind (c .alphabet) (c .table) (storedIn c) (usedIn c) (c .element) (c .replacement) he hx
 
-    pub count-rest : recomputedIn rest ≡ count reaches (listFrom (λ i. i) 0 (length (drop (e + 1) used)))
-    count-rest =
-        recomputed-count rest reaches
-        (λ k l. is-chosen (outcomeAt rest k) (reaches k) (setIn (outcomeAt os (start + length xs + k))) (stored (e + 1 + k))
-        (sym (outcome-behind k) ∙ outcome-rest k (rw (← many) l)))
-        ∙ ap (λ (n : ℕ). count reaches (listFrom (λ i. i) 0 n)) many
+  at-behind : (k : ℕ) → outcomeOf c (newNumber c k) ≡ outcomeAt behind k
+  unfolding outcomes
+  at-behind k = outcome-behind (c .alphabet) (c .table) (storedIn c) (usedIn c) (c .element) (c .replacement) k
 
-    -- "it is at most the replacement's elements plus the depth of the place"
-    pub count-most : recomputedIn rest ≤ depthOf a used e
-    unfolding depthOf
-    count-most =
-        let w = count-wider reaches (λ k. above (e + 1 + k)) (λ k h. and-true (goesOn a table stored used e xs k) (above (e + 1 + k)) h .1) (listFrom (λ i. i) 0 m) in
-        omega (arith, count-rest, shifted, parts)
-      where
-        above : ℕ → Bool
-        above = isAncestor a used e
+  pub outcome-rest : (k : ℕ) → k < behindIn c
+      → outcomeOf c (newNumber c k) ≡ cond (recomputes c k) (recomputed (setAfter c (newNumber c k))) (kept (storedIn c (oldNumber c k)))
+  outcome-rest k l =
+      simp at-behind
+      (chosen-at (storedIn c) (isAncestor (c .alphabet) (usedIn c) (c .element)) behind (c .element + 1)
+      (not (sameWords (rootSet (c .alphabet) (c .table) (c .replacement)) (storedIn c (c .element)))) k
+      (chosen-behind (c .alphabet) (c .table) (storedIn c) (usedIn c) (c .element) (c .replacement)) (rw many l))
 
-        m : ℕ
-        m = length (drop (e + 1) used)
+  pub count-rest : recomputedIn behind ≡ count (recomputes c) (listFrom (λ i. i) 0 (behindIn c))
+  count-rest =
+      recomputed-count behind (recomputes c)
+      (λ k l. is-chosen (outcomeAt behind k) (recomputes c k) (setAfter c (newNumber c k)) (storedIn c (oldNumber c k))
+      (sym (at-behind k) ∙ outcome-rest k (rw (← many) l)))
+      ∙ ap (λ (n : ℕ). count (recomputes c) (listFrom (λ i. i) 0 n)) many
 
-        shifted : count above (listFrom (λ i. i) (e + 1) m) ≡ count (λ k. above (e + 1 + k)) (listFrom (λ i. i) 0 m)
-        shifted =
-            ap (λ (j : ℕ). count above (listFrom (λ i. i) j m)) (sym (add-zero (e + 1)))
-            ∙ ap (count above) (sym (map-listFrom (λ i. i) (λ k. e + 1 + k) m 0 ∙ listFrom-offset (λ i. i) (e + 1) m 0))
-            ∙ count-map above (λ k. e + 1 + k) (listFrom (λ i. i) 0 m)
+  -- "it is at most the replacement's elements plus the depth of the place"
+  pub count-most : recomputedIn behind ≤ depthOf (c .alphabet) (usedIn c) (c .element)
+  unfolding depthOf
+  count-most =
+      let w = count-wider (recomputes c) (ancestor c) (λ k h. and-true (goesOn c k) (ancestor c k) h .1) (listFrom (λ i. i) 0 m) in
+      omega (arith, count-rest, shifted, parts)
+    where
+      above : ℕ → Bool
+      above = isAncestor (c .alphabet) (usedIn c) (c .element)
 
-        parts : count above (listFrom (λ i. i) 0 (length used)) ≡ count above (listFrom (λ i. i) 0 (e + 1)) + count above (listFrom (λ i. i) (e + 1) m)
-        parts =
-            let n : length used ≡ e + 1 + m = rw (length-drop (e + 1) used) (omega arith) in
-            ap (λ (i : ℕ). count above (listFrom (λ k. k) 0 i)) n
-            ∙ ap (count above) (listFrom-add (λ i. i) (e + 1) m 0 ∙ ap (λ (j : ℕ). listFrom (λ i. i) 0 (e + 1) ++ listFrom (λ i. i) j m) (zero-add (e + 1)))
-            ∙ count-append above (listFrom (λ i. i) 0 (e + 1)) (listFrom (λ i. i) (e + 1) m)
+      m : ℕ
+      m = behindIn c
+
+      shifted : count above (listFrom (λ i. i) (c .element + 1) m) ≡ count (ancestor c) (listFrom (λ i. i) 0 m)
+      shifted =
+          ap (λ (j : ℕ). count above (listFrom (λ i. i) j m)) (sym (add-zero (c .element + 1)))
+          ∙ ap (count above) (sym (map-listFrom (λ i. i) (oldNumber c) m 0 ∙ listFrom-offset (λ i. i) (c .element + 1) m 0))
+          ∙ count-map above (oldNumber c) (listFrom (λ i. i) 0 m)
+
+      parts : count above (listFrom (λ i. i) 0 (length (usedIn c)))
+          ≡ count above (listFrom (λ i. i) 0 (c .element + 1)) + count above (listFrom (λ i. i) (c .element + 1) m)
+      parts =
+          let n : length (usedIn c) ≡ c .element + 1 + m = rw (length-drop (c .element + 1) (usedIn c)) (omega arith) in
+          ap (λ (i : ℕ). count above (listFrom (λ k. k) 0 i)) n
+          ∙ ap (count above)
+          (listFrom-add (λ i. i) (c .element + 1) m 0
+          ∙ ap (λ (j : ℕ). listFrom (λ i. i) 0 (c .element + 1) ++ listFrom (λ i. i) j m) (zero-add (c .element + 1)))
+          ∙ count-append above (listFrom (λ i. i) 0 (c .element + 1)) (listFrom (λ i. i) (c .element + 1) m)

@@ -18,7 +18,7 @@ use Rattle.operations.specs.Marks.{nodeSet, nodeSets, sameWords}
 use Rattle.operations.specs.Exchange.{Outcome, kept, recomputed, setIn, keptFrom, climb, rootSet, outcomesBehind, outcomesAfter}
 use Rattle.operations.proofs.ClimbLaws.{climb-beside, climb-last, climb-onward}
 use Rattle.operations.proofs.OutcomeLaws.{root-read}
-use Rattle.operations.proofs.Recomputation.{outcomeAt}
+use Rattle.operations.specs.Recomputation.{outcomeAt}
 
 module _ (a table : List ℕ) where
   abbrev on : ℕ → List StateSet → StateSet

@@ -8,7 +8,7 @@ use lib.ListN.{length, getD, take, drop, length-append, length-drop}
 use lib.Seq.{take-at}
 use Rattle.words.specs.Tree.{Tree}
 use Rattle.words.specs.Postfix.{subtreeOf}
-use Rattle.language.proofs.SubjectLaws.{SubjectOf}
+use Rattle.language.specs.Expression.{SubjectOf}
 use Rattle.language.proofs.SubtreeLaws.{value-subject}
 use Rattle.automaton.specs.Transition.{automatonOf}
 use Rattle.automaton.specs.StateSet.{stateSet}

@@ -8,17 +8,18 @@ use lib.ListN.{length, take}
 use Rattle.words.specs.Postfix.{splice}
 use Rattle.automaton.specs.Transition.{automatonOf}
 use Rattle.automaton.specs.StateSet.{sizeFor}
-use Rattle.operations.specs.Answer.{accepted}
+use Rattle.words.specs.Answer.{accepted}
 use Rattle.operations.specs.Compile.{compileAnswer}
 use Rattle.operations.specs.Marks.{sizeOf, nodeSets}
 use Rattle.operations.specs.Run.{runFault, cellsIn, runAnswer}
 use Rattle.operations.specs.Listing.{matchesOf, listFault, listAnswer}
 use Rattle.operations.specs.Exchange.{Outcome, kept, recomputed, recomputedIn, fault, newTree, outcomes, exchangeAnswer}
+use Rattle.operations.specs.ExchangeCall.{ExchangeCall}
 use Rattle.operations.proofs.AcceptedLaws.{accepted-values, run-accepted, list-accepted, exchange-accepted}
 use Rattle.operations.proofs.CompileLaws.{compile-accepted}
 use Rattle.operations.proofs.CellLaws.{cells-nodeSets}
 use Rattle.operations.proofs.MatchLaws.{matchesOf-few}
-use Rattle.operations.proofs.Recomputed.{exchanged}
+use Rattle.operations.proofs.Recomputed.{recomputation}
 
 -- Compile: at most 1,147 words
 pub compile-value : (a e slice : List ℕ) {k : ℕ} → accepted (k ∷ []) ≡ compileAnswer a e slice → k < 2 ^ 32
@@ -68,8 +69,8 @@ unfolding exchangeAnswer fault newTree
 exchange-values a table chapter marks n e xs {count} {worked} h =
     let v = accepted-values (fault a table chapter marks n e xs) _ (count ∷ worked ∷ []) (sym h) in
     let few = exchange-accepted a table n (take n chapter) (length chapter) (length marks) e xs (v .0) .fits .few in
-    let q : length (splice a (take n chapter) e xs) ≡ count = cc in
-    let w : recomputedIn (outcomes a table chapter marks n e xs) ≡ worked = cc in
-    let nodes = exchanged a table chapter marks n e xs (v .0) .nodes in
+    let call : ExchangeCall =
+    record { alphabet = a; table = table; chapter = chapter; marks = marks; count = n; element = e; replacement = xs } in
+    let done = recomputation call count worked (sym h) in
     let most = recomputed-few (outcomes a table chapter marks n e xs) in
     (omega arith, omega arith)

@@ -9,7 +9,7 @@ use Rattle.words.specs.Alphabet.{alphabetRefusals}
 use Rattle.words.specs.Expression.{expressionRefusals}
 use Rattle.automaton.specs.Transition.{tableWords}
 use Rattle.automaton.specs.Numbering.{compiled}
-use Rattle.operations.specs.Answer.{Answer, answerOf, exitOf}
+use Rattle.words.specs.Answer.{Answer, answerOf, exitOf}
 
 -- the table of a rule
 abbrev pub compiledTable : List ℕ → List ℕ → List ℕ

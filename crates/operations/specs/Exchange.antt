@@ -10,7 +10,7 @@ use Rattle.words.specs.Refusal.{Refusals, refusal}
 use Rattle.words.specs.Chapter.{isNode}
 use Rattle.words.specs.Postfix.{arity, oneTree, startOf, isAncestor, splice, valueOn, stackAfter, stackGiven}
 use Rattle.automaton.specs.StateSet.{StateSet}
-use Rattle.operations.specs.Answer.{Answer, answerOf, exitOf}
+use Rattle.words.specs.Answer.{Answer, answerOf, exitOf}
 use Rattle.operations.specs.Marks.{sizeOf, nodeSet, nodeSets, storedSet, sameWords, refit}
 use Rattle.operations.specs.Run.{wrongCount, fewMarks, tableRefusals, markedRefusals}
 

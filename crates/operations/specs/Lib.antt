@@ -1,7 +1,9 @@
-pub mod Answer
 pub mod Compile
 pub mod Marks
 pub mod Run
 pub mod Listing
 pub mod Exchange
+pub mod ExchangeCall
+pub mod Recomputation
 pub mod History
+pub mod Demands

@@ -7,7 +7,7 @@ use lib.Dec.{ltb}
 use Rattle.words.specs.Lists.{listFrom}
 use Rattle.words.specs.Refusal.{Refusals, refusal}
 use Rattle.automaton.specs.StateSet.{StateSet, contains}
-use Rattle.operations.specs.Answer.{Answer, answerOf, exitOf}
+use Rattle.words.specs.Answer.{Answer, answerOf, exitOf}
 use Rattle.operations.specs.Marks.{sizeOf, finalOf, storedSet}
 use Rattle.operations.specs.Run.{wrongCount, fewMarks, tableRefusals}
 

@@ -1,5 +1,7 @@
 -- The state sets of a tree's nodes (document 01's marks), and what stands in a lent slice behind a change. Assumes nothing.
-use Prim.Native.Nat.{ℕ, _-_, _*_, max}
+use Prim.Native.Nat.{ℕ, _-_, _*_, _≤_, max}
+use mathlib.Core.Path.{_≡_}
+use mathlib.Core.Logic.{_↔_}
 use mathlib.Core.List.{List, [], _∷_, _++_}
 use mathlib.Core.Bool.{Bool, true, false, _&&_}
 use lib.ListN.{length, take, drop, replicate}
@@ -7,7 +9,8 @@ use lib.Dec.{eqb}
 use Rattle.words.specs.Chapter.{symbolOf}
 use Rattle.words.specs.Postfix.{values}
 use Rattle.automaton.specs.Transition.{automatonOf}
-use Rattle.automaton.specs.StateSet.{StateSet, sizeFor, stateSet}
+use Rattle.automaton.specs.StateSet.{StateSet, sizeFor, contains, stateSet}
+use Rattle.automaton.specs.Reached.{Reached}
 
 -- S: the words of one element's marks
 unfoldable pub sizeOf : List ℕ → ℕ
@@ -20,6 +23,15 @@ finalOf table = automatonOf table .final
 -- the state set of a node (an element's marks) from its word and its children's state sets
 unfoldable pub nodeSet : List ℕ → ℕ → List StateSet → StateSet
 nodeSet table w rs = stateSet (automatonOf table) (symbolOf w) rs
+
+-- what document 01 says of the words r of an element with symbol f whose parts' words are rs
+pub record ReachedSet (table : List ℕ) (f : ℕ) (rs : List StateSet) (r : StateSet) : Type 0 where
+  -- "Element i owns S words"
+  pub size : length r ≡ sizeOf table
+  -- "for every state s, bit s mod 32 (bit 0 lowest) of word s / 32 is set exactly if s is reached"
+  pub reached : (s : ℕ) → (contains r s ≡ true) ↔ Reached (automatonOf table .transitions) f rs s
+  -- "Bits beyond the last state are zero."
+  pub beyond : (s : ℕ) → automatonOf table .states ≤ s → contains r s ≡ false
 
 -- the state sets of all nodes of a tree, in order
 unfoldable pub nodeSets : List ℕ → List ℕ → List ℕ → List StateSet

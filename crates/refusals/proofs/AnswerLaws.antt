@@ -3,7 +3,7 @@ use mathlib.Core.Path.{_≡_, sym}
 use mathlib.Core.List.{List}
 use Prim.Native.Nat.{ℕ}
 use borrow.Author.Tests.{ne-eqb}
-use Rattle.operations.specs.Answer.{refused, accepted, answerOf, exitOf}
+use Rattle.words.specs.Answer.{refused, accepted, answerOf, exitOf}
 
 module _ (f g : ℕ) (e : f ≡ g) where
   pub answer-refused : (values : List ℕ) → (f ≡ 0 → ⊥) → refused f ≡ answerOf g values

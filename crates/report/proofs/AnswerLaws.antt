@@ -15,7 +15,7 @@ use Rattle.automaton.specs.Transition.{Automaton, automatonOf}
 use Rattle.automaton.specs.StateSet.{sizeFor}
 use Rattle.automaton.specs.Numbering.{compiled}
 use Rattle.automaton.proofs.CompiledTable.{table-most}
-use Rattle.operations.specs.Answer.{refused, accepted}
+use Rattle.words.specs.Answer.{refused, accepted}
 use Rattle.operations.specs.Compile.{compiledTable, tableTooLong, ruleRefusals, compileRefusals, compileFault, compileAnswer}
 use Rattle.operations.specs.Marks.{sizeOf, finalOf, nodeSets}
 use Rattle.operations.specs.Run.{wrongCount, fewMarks, runFault, runMarks, runAnswer, runExit}

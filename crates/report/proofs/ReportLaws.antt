@@ -6,7 +6,7 @@ use Prim.Native.Nat.{ℕ, _<_, _≤_}
 use native.Mathlib.Omega.{arith}
 use lib.ListN.{length, take, drop, replicate, length-replicate, length-take}
 use Rattle.automaton.specs.Transition.{automatonOf}
-use Rattle.operations.specs.Answer.{refused, accepted}
+use Rattle.words.specs.Answer.{refused, accepted}
 use Rattle.operations.specs.Compile.{compiledTable, compileAnswer, compileExit}
 use Rattle.operations.specs.Run.{runAnswer, runExit}
 use Rattle.operations.specs.Listing.{matchesOf, listFault, listAnswer, listExit}

@@ -3,7 +3,7 @@ use Prim.Native.Nat.{ℕ, _≤_}
 use mathlib.Core.Path.{_≡_}
 use mathlib.Core.List.{List, [], _∷_}
 use lib.ListN.{length}
-use Rattle.operations.specs.Answer.{accepted}
+use Rattle.words.specs.Answer.{accepted}
 use Rattle.operations.specs.Compile.{compiledTable, compileAnswer}
 use Rattle.operations.specs.Run.{runAnswer, runExit}
 

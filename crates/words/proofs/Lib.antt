@@ -15,7 +15,7 @@ pub mod RefusalLaws
 pub mod ReadingLaws
 pub mod KindLaws
 pub mod ChildLaws
-pub mod ExactlyOne
+pub mod ExactlyOneLaws
 pub mod TreeLaws
 pub mod SubtreeLaws
 pub mod ChildSubtreeLaws

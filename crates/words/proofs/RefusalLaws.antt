@@ -1,13 +1,14 @@
 -- Laws of refusals: the number is that of the first condition that holds, and a call that is not refused has none that does.
--- Assumes nothing.
+-- They pass on `NoneHolds`, of which they speak. Assumes nothing.
 use mathlib.Core.Path.{_≡_, refl, _∙_, sym}
 use mathlib.Core.Bool.{Bool, true, false, cond, _&&_}
 use mathlib.Core.List.{[], _∷_, _++_}
-use Prim.Native.Nat.{ℕ}
+use Prim.Native.Nat.{ℕ, _<_}
 use native.Mathlib.Omega.{arith}
 use lib.Dec.{ltb, eqb}
 use borrow.Author.Tests.{ltb-true}
-use Rattle.words.specs.Refusal.{Refusals, refusal}
+use Rattle.words.specs.Refusal.{Refusals, refusal, First, here as first-here, later}
+pub use Rattle.words.specs.Refusal.{NoneHolds}
 use Rattle.words.proofs.TestLaws.{and-true}
 
 -- ---- a number and how it is found
@@ -33,10 +34,6 @@ found rs e = rw e (go rs)
     go ((n, false) ∷ rs) = next refl (go rs)
 
 -- ---- a call that is not refused: no condition holds
-
-abbrev pub NoneHolds : Refusals → Type 0
-NoneHolds [] = Unit {0}
-NoneHolds (r ∷ rs) = (r .1 ≡ false) × NoneHolds rs
 
 -- every number is above 0; of a list whose numbers are written out, `refl` proves it
 abbrev pub positive : Refusals → Bool
@@ -92,3 +89,18 @@ pub parts-pass : (rs ks : Refusals) → positive rs ≡ true → refusal (rs ++ 
 parts-pass [] ks p h = (refl, h)
 parts-pass ((n, true) ∷ rs) ks p h = let q = ltb-true 0 n (and-true (ltb 0 n) (positive rs) p .0) in absurd (omega arith)
 parts-pass ((n, false) ∷ rs) ks p h = parts-pass rs ks (and-true (ltb 0 n) (positive rs) p .1) h
+
+-- ---- the first that applies: both ways
+
+pub refusal-is-first : (rs : Refusals) (n : ℕ) → 0 < n → refusal rs ≡ n → First n rs
+refusal-is-first [] n p h = absurd (omega arith)
+refusal-is-first ((m, true) ∷ rs) n p h = rw h (first-here refl)
+refusal-is-first ((m, false) ∷ rs) n p h = later refl (refusal-is-first rs n p h)
+
+pub first-is-refusal : {rs : Refusals} {n : ℕ} → First n rs → refusal rs ≡ n
+first-is-refusal (first-here e) = rw e
+first-is-refusal (later e f) = rw e (first-is-refusal f)
+
+pub first-positive : {rs : Refusals} {n : ℕ} → positive rs ≡ true → First n rs → 0 < n
+first-positive {rs = (m, b) ∷ rs} {n = n} p (first-here e) = ltb-true 0 n (and-true (ltb 0 n) (positive rs) p .0)
+first-positive {rs = (m, b) ∷ rs} p (later e f) = first-positive (and-true (ltb 0 m) (positive rs) p .1) f

@@ -13,7 +13,7 @@ use Rattle.words.specs.Postfix.{arity, oneTree, startOf, subtreeOf, valu
 use Rattle.words.proofs.TreeFold.{fold}
 use Rattle.words.proofs.PostfixLaws.{run-snoc, start-le, sub-tree}
 use Rattle.words.proofs.StackLaws.{stack-append}
-use Rattle.words.proofs.ExactlyOne.{ExactlyOne}
+use Rattle.words.specs.ExactlyOne.{ExactlyOne}
 use Rattle.words.proofs.ReadingLaws.{stack-tree}
 use Rattle.words.proofs.TreeLaws.{TreeOf, exactly-one-tree}
 

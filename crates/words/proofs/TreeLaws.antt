@@ -13,7 +13,7 @@ use borrow.Author.Tests.{leb-true, eqb-true}
 use Rattle.words.specs.Tree.{Tree, Trees, node, none, more, number, postfix, postfixAll}
 use Rattle.words.specs.Postfix.{arity, trees, oneTree, stackAfter}
 use Rattle.words.proofs.TestLaws.{picked}
-use Rattle.words.proofs.ExactlyOne.{ExactlyOne}
+use Rattle.words.specs.ExactlyOne.{ExactlyOne}
 use Rattle.words.proofs.RankedTree.{Ranked, RankedAll}
 use Rattle.words.proofs.TreeFold.{fold, foldAll}
 use Rattle.words.proofs.ReadingLaws.{stack-tree}

@@ -1,5 +1,7 @@
 pub mod Lists
 pub mod Refusal
+pub mod Answer
+pub mod ExactlyOne
 pub mod Word
 pub mod Alphabet
 pub mod Tree

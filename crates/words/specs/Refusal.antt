@@ -1,7 +1,8 @@
 -- Refusals (document 01, "Refused calls"): a refusal is a number, and the order is as written. Assumes nothing.
 use Prim.Native.Nat.{ℕ}
+use mathlib.Core.Path.{_≡_}
 use mathlib.Core.List.{List, [], _∷_}
-use mathlib.Core.Bool.{Bool, cond}
+use mathlib.Core.Bool.{Bool, true, false, cond}
 
 -- a call's refusals in document 01's order: each number with its condition
 abbrev pub Refusals : Type 0
@@ -11,3 +12,13 @@ Refusals = List (ℕ × Bool)
 abbrev pub refusal : Refusals → ℕ
 refusal [] = 0
 refusal (r ∷ rs) = cond (r .1) (r .0) (refusal rs)
+
+-- "the first applicable number": n's condition holds, and no condition before it
+pub data First (n : ℕ) : Refusals → Type 0 where
+  here : {b : Bool} {rs : Refusals} → b ≡ true → First n ((n, b) ∷ rs)
+  later : {m : ℕ} {b : Bool} {rs : Refusals} → b ≡ false → First n rs → First n ((m, b) ∷ rs)
+
+-- no condition of the list holds
+abbrev pub NoneHolds : Refusals → Type 0
+NoneHolds [] = Unit {0}
+NoneHolds (r ∷ rs) = (r .1 ≡ false) × NoneHolds rs

@@ -4,7 +4,7 @@ use mathlib.Core.Path.{sym, ap₂}
 use mathlib.Core.List.{[], _∷_}
 use Prim.Native.Nat.{ℕ}
 use native.Mathlib.Omega.{arith}
-use Rattle.operations.specs.Answer.{accepted}
+use Rattle.words.specs.Answer.{accepted}
 use Rattle.operations.specs.Exchange.{newTree}
 use Rattle.exchanger.proofs.CallLaws.{Numbers, numbers, accepted-call, length-used, chapter-fits, marks-fits}
 use Rattle.exchanger.proofs.ReplaceLaws.{chapter-exit, chapter-count, call-exchangeable, marks-exit}

@@ -17,12 +17,13 @@ use Rattle.words.proofs.PostfixLaws.{start-le, length-splice}
 use Rattle.words.proofs.StackLaws.{read, Read, length-values}
 use Rattle.words.proofs.ChildLaws.{numbers, numbers-more, stack-below, stack-numbers}
 use Rattle.automaton.specs.StateSet.{StateSet}
 use Rattle.operations.specs.Marks.{nodeSet, nodeSets, sameWords}
 use Rattle.operations.specs.Exchange.{Outcome, recomputed, setIn, recomputedIn, keptFrom, climb, rootSet, outcomesBehind, outcomesAfter}
 use Rattle.operations.proofs.ClimbLaws.{sets-kept, count-kept}
 use Rattle.operations.proofs.OutcomeLaws.{sets-recomputed, root-read}
 use Rattle.operations.proofs.OutcomeParts.{recomputed-parts}
-use Rattle.operations.proofs.LoopLaws.{setAt, setFrom, Recomputing, recomputing-none, recomputing-more, upwards, upwards-is}
+use Rattle.nodes.proofs.LoopLaws.{setAt, setFrom, Recomputing, recomputing-none, recomputing-more}
+use Rattle.exchanger.proofs.UpwardLoop.{upwards, upwards-is}
 
 module _ (a table : List ℕ) (stored : ℕ → StateSet) (ch : List ℕ) (e : ℕ) (x : List ℕ) (gap : List StateSet) where
   abbrev s : ℕ

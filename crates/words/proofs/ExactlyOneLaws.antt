@@ -1,12 +1,6 @@
--- Exactly one thing has a property: what that says, and how it carries over to things that stand for one another. Assumes
--- nothing.
+-- How "exactly one" carries over to things that stand for one another. Assumes nothing.
 use mathlib.Core.Path.{_≡_, ap, _∙_, sym}
-
--- `the` one thing with the property, and that any other with it is the same
-pub record ExactlyOne {A : Type 0} (P : A → Type 0) : Type 0 where
-  pub the : A
-  pub has : P the
-  pub only : (x : A) → P x → x ≡ the
+use Rattle.words.specs.ExactlyOne.{ExactlyOne}
 
 -- each x with P stands for a y with Q, each y with Q comes from an x with P: where there is one x, there is one y
 pub one-along : {A B : Type 0} {P : A → Type 0} {Q : B → Type 0} (f : A → B) (g : B → A)

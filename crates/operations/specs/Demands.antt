@@ -1,0 +1,183 @@
+-- The claims: what the three demands say of the four operations, over the definitions that their contracts cite. Each is
+-- proved in the file of proofs/ that is named with it. Assumes nothing.
+use Prim.Native.Nat.{ℕ, _+_, _-_, _*_, _<_, _≤_}
+use mathlib.Core.Path.{_≡_}
+use mathlib.Core.Logic.{_↔_}
+use mathlib.Core.Bool.{cond}
+use mathlib.Core.List.{List, [], _∷_, map, flatten, List·Memᴰ}
+use lib.ListN.{length, getD, take}
+use Rattle.words.specs.Lists.{count, listFrom}
+use Rattle.words.specs.Refusal.{Refusals, First, NoneHolds}
+use Rattle.words.specs.ExactlyOne.{ExactlyOne}
+use Rattle.words.specs.Postfix.{subtreeOf, childrenOf, depthOf}
+use Rattle.words.specs.Chapter.{symbolOf}
+use Rattle.language.specs.Expression.{ExpressionOf, SubjectOf}
+use Rattle.language.specs.Reading.{expressionOf}
+use Rattle.language.specs.Membership.{Member}
+use Rattle.automaton.specs.StateSet.{StateSet}
+use Rattle.words.specs.Answer.{Answer, refused, accepted}
+use Rattle.operations.specs.Compile.{compiledTable, compileRefusals, compileAnswer, compileExit}
+use Rattle.operations.specs.Marks.{sizeOf, nodeSet, ReachedSet, nodeSets, storedSet}
+use Rattle.operations.specs.Run.{runRefusals, runAnswer, runExit, cellsIn}
+use Rattle.operations.specs.Listing.{listRefusals, listAnswer, listExit, matchesOf}
+use Rattle.operations.specs.Exchange.{kept, recomputed, recomputedIn, rootSet}
+use Rattle.operations.specs.ExchangeCall.{ExchangeCall, usedIn, refusalsOf, storedIn, newTreeOf, outcomesOf, answeredBy, chapterAfter, marksAfter}
+use Rattle.operations.specs.Recomputation.{outcomeOf, setAfter, startIn, behindIn, oldNumber, newNumber, recomputes}
+use Rattle.operations.specs.History.{Call, Memory, exchanges, plains}
+
+-- ---- Demand 1 (Demand1): "Every accepted call ends with the one result that the written rules give, inside the memory lent to
+-- it. Every refused call returns the first applicable number of document 01 and changes no lent word."
+
+-- of each lent slice that a call may write: as it was, and at exit
+abbrev pub Unchanged : List (List ℕ × List ℕ) → Type 0
+Unchanged [] = Unit {0}
+Unchanged (s ∷ ss) = (s .1 ≡ s .0) × Unchanged ss
+
+abbrev pub SameLength : List (List ℕ × List ℕ) → Type 0
+SameLength [] = Unit {0}
+SameLength (s ∷ ss) = (length (s .1) ≡ length (s .0)) × SameLength ss
+
+-- a call with these refusals, this answer, the values of an accepted call, and these slices
+pub record Judged (rs : Refusals) (answer : Answer) (values : List ℕ) (slices : List (List ℕ × List ℕ)) : Type 0 where
+  pub refuses : (n : ℕ) → (answer ≡ refused n) ↔ First n rs
+  pub accepts : (answer ≡ accepted values) ↔ NoneHolds rs
+  pub unchanged : (n : ℕ) → answer ≡ refused n → Unchanged slices
+  pub lengths : SameLength slices
+
+pub record Demand1 : Type 0 where
+  pub compile : (alphabet rule slice : List ℕ)
+      → Judged (compileRefusals alphabet rule (length slice)) (compileAnswer alphabet rule slice)
+      (length (compiledTable alphabet rule) ∷ []) ((slice, compileExit alphabet rule slice) ∷ [])
+  pub run : (alphabet table chapter marks : List ℕ)
+      → Judged (runRefusals alphabet table chapter (length marks)) (runAnswer alphabet table chapter marks)
+      (length chapter ∷ cellsIn (flatten (nodeSets alphabet table chapter)) ∷ []) ((marks, runExit alphabet table chapter marks) ∷ [])
+  pub list : (alphabet table : List ℕ) (elements : ℕ) (marks slice : List ℕ)
+      → Judged (listRefusals alphabet table elements (length marks) (length slice)) (listAnswer alphabet table elements marks slice)
+      (length (matchesOf table elements marks) ∷ []) ((slice, listExit alphabet table elements marks slice) ∷ [])
+  pub exchange : (c : ExchangeCall)
+      → Judged (refusalsOf c) (answeredBy c) (length (newTreeOf c) ∷ recomputedIn (outcomesOf c) ∷ [])
+      ((c .chapter, chapterAfter c) ∷ (c .marks, marksAfter c) ∷ [])
+
+-- ---- Demand 2 (Demand2): "A rule that Compile accepts becomes exactly the numbered Thompson tree automaton of the rules.
+-- After an accepted Run with that table and its alphabet, an accepted List, given both, the element count and the marks Run
+-- left, names an element if and only if its subtree belongs to the rule's language, defined by substitution and iterated
+-- closure without automata."
+
+-- the three calls, one after the other: what is lent, and what each accepted call answers
+pub record Calls : Type 0 where
+  pub alphabet : List ℕ
+  pub rule : List ℕ
+  pub tableSlice : List ℕ
+  pub chapter : List ℕ
+  pub marksSlice : List ℕ
+  pub listSlice : List ℕ
+  -- Compile's word count; Run's element count and cells; List's number of hits
+  pub words : ℕ
+  pub elements : ℕ
+  pub cells : ℕ
+  pub hits : ℕ
+
+-- the table that Compile wrote, the marks that Run left, the numbers that List wrote
+abbrev pub tableOf : Calls → List ℕ
+tableOf c = take (c .words) (compileExit (c .alphabet) (c .rule) (c .tableSlice))
+
+abbrev pub marksOf : Calls → List ℕ
+marksOf c = runExit (c .alphabet) (tableOf c) (c .chapter) (c .marksSlice)
+
+abbrev pub namesOf : Calls → List ℕ
+namesOf c = take (c .hits) (listExit (c .alphabet) (tableOf c) (c .elements) (marksOf c) (c .listSlice))
+
+pub record AllAccepted (c : Calls) : Type 0 where
+  pub compiles : compileAnswer (c .alphabet) (c .rule) (c .tableSlice) ≡ accepted (c .words ∷ [])
+  pub runs : runAnswer (c .alphabet) (tableOf c) (c .chapter) (c .marksSlice) ≡ accepted (c .elements ∷ c .cells ∷ [])
+  pub lists : listAnswer (c .alphabet) (tableOf c) (c .elements) (marksOf c) (c .listSlice) ≡ accepted (c .hits ∷ [])
+
+pub record Named (c : Calls) : Type 0 where
+  -- "exactly the numbered Thompson tree automaton of the rules"
+  pub automaton : tableOf c ≡ compiledTable (c .alphabet) (c .rule)
+  -- the rule is the words of exactly one expression, which is the one that they are read as
+  pub expression : ExactlyOne (ExpressionOf (c .alphabet) (c .rule))
+  pub read : expressionOf (c .alphabet) (c .rule) ≡ expression .the
+  -- an element's subtree is the words of exactly one tree
+  pub subtrees : (i : ℕ) → i < length (c .chapter) → ExactlyOne (SubjectOf (c .alphabet) (subtreeOf (c .alphabet) (c .chapter) i))
+  -- every number that List writes is an element's
+  pub within : (i : ℕ) → List·Memᴰ i (namesOf c) → i < length (c .chapter)
+  -- "names an element if and only if its subtree belongs to the rule's language"
+  pub names : (i : ℕ) (l : i < length (c .chapter)) → List·Memᴰ i (namesOf c) ↔ Member (expression .the) (subtrees i l .the)
+
+abbrev pub Demand2 : Type 0
+Demand2 = (c : Calls) → AllAccepted c → Named c
+
+-- ---- Demand 3 (Demand3): "Take any accepted Run and any list of Exchange calls after it, accepted and refused, at whatever
+-- elements and with whatever replacements."
+
+-- "At the start the chapter slice begins with the elements that an accepted Run was given, and the marks slice is as that
+-- Run left it"; the count is the one that Run answered
+pub record Start (alphabet table chapter : List ℕ) (s : Memory) : Type 0 where
+  pub before : List ℕ
+  pub cells : ℕ
+  pub answer : runAnswer alphabet table chapter before ≡ accepted (s .count ∷ cells ∷ [])
+  pub marks : s .marks ≡ runExit alphabet table chapter before
+  pub begins : take (length chapter) (s .chapter) ≡ chapter
+
+-- a fresh Run on the plain chapter, on a marks slice of the same length
+pub record Fresh (alphabet table plain : List ℕ) (s : Memory) (slice : List ℕ) : Type 0 where
+  -- "A fresh Run on it .. is accepted"
+  pub cells : ℕ
+  pub answer : runAnswer alphabet table plain slice ≡ accepted (s .count ∷ cells ∷ [])
+  -- "the used marks (count × S words from the first) are those it writes"
+  pub marks : take (s .count * sizeOf table) (s .marks) ≡ take (s .count * sizeOf table) (runExit alphabet table plain slice)
+  -- "List .. answers and writes what it would with that Run's marks"
+  pub answers : (l : List ℕ) → listAnswer alphabet table (s .count) (s .marks) l ≡ listAnswer alphabet table (s .count) (runExit alphabet table plain slice) l
+  pub lists : (l : List ℕ) → listExit alphabet table (s .count) (s .marks) l ≡ listExit alphabet table (s .count) (runExit alphabet table plain slice) l
+
+-- the memory and the plain chapter behind the list
+pub record Faithful (alphabet table plain : List ℕ) (s : Memory) : Type 0 where
+  -- "the last element count is its length and the used elements are its words"
+  pub count : s .count ≡ length plain
+  pub elements : take (s .count) (s .chapter) ≡ plain
+  pub fresh : (slice : List ℕ) → length slice ≡ length (s .marks) → Fresh alphabet table plain s slice
+
+-- "This is one claim about the whole list and not one for each call."
+abbrev pub Demand3 : Type 0
+Demand3 =
+    (alphabet table chapter : List ℕ) (s : Memory) (calls : List Call) → Start alphabet table chapter s
+    → Faithful alphabet table (plains alphabet table (length (s .chapter)) (length (s .marks)) calls chapter) (exchanges alphabet table calls s)
+
+-- ---- Demand 3's second half (Recomputed): "Whatever marks it is lent, true or false, each accepted Exchange works out, by
+-- document 01's rule from the parts' marks as they stand, only the new subtree and, unless its root gets the old one's marks,
+-- the ancestors upwards to the first whose marks come out unchanged, or to the root; its reported count is exactly the new
+-- subtree's elements plus those ancestors, and every other element's marks are carried over."
+
+-- a call that answers these two numbers
+pub record RecomputesOnly (c : ExchangeCall) (elements workedOut : ℕ) : Type 0 where
+  -- "The answer is the new element count and the number worked out"
+  pub newCount : elements ≡ length (newTreeOf c)
+  pub counted : workedOut ≡ recomputedIn (outcomesOf c)
+  -- each node of the new tree has one outcome, and its words at exit are the outcome's
+  pub nodes : length (outcomesOf c) ≡ length (newTreeOf c)
+  pub written : (j : ℕ) → j < length (newTreeOf c) → storedSet (sizeOf (c .table)) (marksAfter c) j ≡ setAfter c j
+  -- the nodes before the replaced subtree keep their stored sets
+  pub before : (j : ℕ) → j < startIn c → outcomeOf c j ≡ kept (storedIn c j)
+  -- "Replacement elements are worked out"
+  pub replacement : (k : ℕ) → k < length (c .replacement)
+      → outcomeOf c (startIn c + k) ≡ recomputed (getD (nodeSets (c .alphabet) (c .table) (c .replacement)) k [])
+  pub root : setAfter c (startIn c + (length (c .replacement) - 1)) ≡ rootSet (c .alphabet) (c .table) (c .replacement)
+  -- "If the replacement root's marks equal the old element's, no ancestor is worked out; otherwise work ends after the first
+  -- ancestor whose marks are unchanged, or at the root": behind the replaced subtree the ancestors up to there are
+  -- recomputed, and every other node keeps its stored set
+  pub rest : (k : ℕ) → k < behindIn c
+      → outcomeOf c (newNumber c k) ≡ cond (recomputes c k) (recomputed (setAfter c (newNumber c k))) (kept (storedIn c (oldNumber c k)))
+  -- "each by the rule above from its parts' marks: those just worked out, otherwise those stored"
+  pub rule : (j : ℕ) (r : StateSet) → j < length (newTreeOf c) → outcomeOf c j ≡ recomputed r
+      → r ≡ nodeSet (c .table) (getD (newTreeOf c) j 0) (map (setAfter c) (childrenOf (c .alphabet) (newTreeOf c) j))
+  -- which is: its states are exactly those that are reached
+  pub reached : (j : ℕ) (r : StateSet) → j < length (newTreeOf c) → outcomeOf c j ≡ recomputed r
+      → ReachedSet (c .table) (symbolOf (getD (newTreeOf c) j 0)) (map (setAfter c) (childrenOf (c .alphabet) (newTreeOf c) j)) r
+  -- "which is the replacement's elements plus the ancestors worked out, the unchanged one included"
+  pub exact : workedOut ≡ length (c .replacement) + count (recomputes c) (listFrom (λ k. k) 0 (behindIn c))
+  -- "it is at most the replacement's elements plus the depth of the place"
+  pub most : workedOut ≤ length (c .replacement) + depthOf (c .alphabet) (usedIn c) (c .element)
+
+abbrev pub Demand3Recomputation : Type 0
+Demand3Recomputation = (c : ExchangeCall) (elements workedOut : ℕ) → answeredBy c ≡ accepted (elements ∷ workedOut ∷ []) → RecomputesOnly c elements workedOut

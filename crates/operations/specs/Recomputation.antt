@@ -1,0 +1,57 @@
+-- Which ancestors an accepted Exchange recomputes (document 01, "Marks"), said of the state sets as they come out, for the
+-- claim of demand 3's second half. The definition that works them out is `climb` in Exchange. Assumes nothing.
+use Prim.Native.Nat.{ℕ, _+_}
+use mathlib.Core.List.{List, []}
+use mathlib.Core.Bool.{Bool, not, _&&_}
+use lib.ListN.{length, getD, drop}
+use Rattle.words.specs.Lists.{all, listFrom}
+use Rattle.words.specs.Postfix.{startOf, isAncestor}
+use Rattle.automaton.specs.StateSet.{StateSet}
+use Rattle.operations.specs.Marks.{sameWords}
+use Rattle.operations.specs.Exchange.{Outcome, kept, setIn, rootSet}
+use Rattle.operations.specs.ExchangeCall.{ExchangeCall, usedIn, storedIn, outcomesOf}
+
+-- the outcome of a node by its number
+abbrev pub outcomeAt : List Outcome → ℕ → Outcome
+outcomeAt os j = getD os j (kept [])
+
+module _ (c : ExchangeCall) where
+  -- node j of the new tree: its outcome, and its state set at exit
+  abbrev pub outcomeOf : ℕ → Outcome
+  outcomeOf j = outcomeAt (outcomesOf c) j
+
+  abbrev pub setAfter : ℕ → StateSet
+  setAfter j = setIn (outcomeOf j)
+
+  -- the number of the first node of the replaced subtree, and of the replacement
+  abbrev pub startIn : ℕ
+  startIn = startOf (c .alphabet) (usedIn c) (c .element)
+
+  -- how many nodes stand behind the replaced subtree; node k of these by its number in the old tree and in the new one
+  abbrev pub behindIn : ℕ
+  behindIn = length (drop (c .element + 1) (usedIn c))
+
+  abbrev pub oldNumber : ℕ → ℕ
+  oldNumber k = c .element + 1 + k
+
+  abbrev pub newNumber : ℕ → ℕ
+  newNumber k = startIn + length (c .replacement) + k
+
+  -- it is an ancestor of the replaced element
+  abbrev pub ancestor : ℕ → Bool
+  ancestor k = isAncestor (c .alphabet) (usedIn c) (c .element) (oldNumber k)
+
+  -- it is an ancestor "whose marks are unchanged": work ends there
+  abbrev pub unchanged : ℕ → Bool
+  unchanged k = ancestor k && sameWords (setAfter (newNumber k)) (storedIn c (oldNumber k))
+
+  -- work goes on up to it: the replacement root's words are not those stored for the old element, and no nearer ancestor is
+  -- unchanged
+  abbrev pub goesOn : ℕ → Bool
+  goesOn k =
+      not (sameWords (rootSet (c .alphabet) (c .table) (c .replacement)) (storedIn c (c .element)))
+      && all (λ i. not (unchanged i)) (listFrom (λ i. i) 0 k)
+
+  -- it is an ancestor that is recomputed
+  abbrev pub recomputes : ℕ → Bool
+  recomputes k = goesOn k && ancestor k
