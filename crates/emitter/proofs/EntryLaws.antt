@@ -14,10 +14,12 @@ use Rattle.automaton.specs.Transition.{epsilon, transitionWords, transitionsWor
 use Rattle.automaton.specs.Numbering.{entryFor, epsilons, symbolTargets}
 use Rattle.automaton.proofs.TransitionLaws.{transitionsWords-append}
 use Rattle.emitter.specs.Writing.{Wrote}
+use Rattle.emitter.specs.declared.entries.Targets.{Targets}
+use Rattle.emitter.specs.declared.entries.Targets.the-variants.{Children, Product, Closure}
 use Rattle.ports.specs.declared.port.Entry.{Entry}
 use Rattle.ports.specs.declared.port.Entry.the-variants.{Missing, State}
 use Rattle.ports.specs.Ports.{portIn, portsIn, statesIn, Low, EntryOf}
-use Rattle.emitter.specs.Emission.{Emits, productEntries, closureEntries}
+use Rattle.emitter.specs.Emission.{Emits, productEntries, closureEntries, targetsIn}
 use Rattle.emitter.proofs.WritingLaws.{wrote-none, wrote-more, wrote-same}
 
 -- the words of the epsilon transitions from a state to states
@@ -131,3 +133,18 @@ module _ (cs ps : List ℕ) (from b c at : ℕ) (out out′ : List ℕ) (r : ℕ
   closure-other x n w =
       wrote-same 4 5 at r _ _ out out′ w (omega arith) (rw (ne-eqb b c n) (ap (epsilonWords from) (sym (append-nil
       (symbolTargets (portsIn cs ps) b)))))
+
+-- ---- any of the three
+
+module _ (cs ps : List ℕ) (x from b at : ℕ) (out out′ : List ℕ) (r : ℕ) (targets : Targets) where
+  pub targets-children : targets ≡ Children → Wrote 4 at (epsilonWords from (symbolTargets (portsIn cs ps) b)) out out′ r
+      → Wrote 5 at (epsilonWords from (targetsIn cs ps x targets b)) out out′ r
+  targets-children e w = rw e (wrote-same 4 5 at r _ _ out out′ w (omega arith) refl)
+
+  pub targets-product : (c : ℕ) → targets ≡ Product c → Wrote 5 at (epsilonWords from (productEntries cs ps c b)) out out′ r
+      → Wrote 5 at (epsilonWords from (targetsIn cs ps x targets b)) out out′ r
+  targets-product c e w = rw e w
+
+  pub targets-closure : (c : ℕ) → targets ≡ Closure c → Wrote 5 at (epsilonWords from (closureEntries cs ps c x b)) out out′ r
+      → Wrote 5 at (epsilonWords from (targetsIn cs ps x targets b)) out out′ r
+  targets-closure c e w = rw e w

@@ -10,6 +10,8 @@ use Rattle.words.specs.Word.{numberOf, lowByte}
 use Rattle.automaton.specs.Numbering.{symbolTargets}
 pub use Rattle.automaton.specs.Numbering.{constantTransitions}
 use Rattle.emitter.specs.Writing.{lastIndex}
+use Rattle.emitter.specs.declared.entries.Targets.{Targets}
+use Rattle.emitter.specs.declared.entries.Targets.the-variants.{Children, Product, Closure}
 use Rattle.ports.specs.Ports.{EachOnce, portsIn}
 
 -- The entry of a product over c for a constant leads to the children's entries, at c not to the first child's. This and the
@@ -21,6 +23,12 @@ productEntries cs ps c b = cond (eqb b c) (symbolTargets (portsIn cs (drop 1 ps)
 -- that of a closure over c with exit x, which is added at c
 abbrev pub closureEntries : List ℕ → List ℕ → ℕ → ℕ → ℕ → List ℕ
 closureEntries cs ps c x b = symbolTargets (portsIn cs ps) b ++ cond (eqb b c) (x ∷ []) []
+
+-- where the entry for a constant leads, by what is said of the word with exit x
+abbrev pub targetsIn : List ℕ → List ℕ → ℕ → Targets → ℕ → List ℕ
+targetsIn cs ps x Children b = symbolTargets (portsIn cs ps) b
+targetsIn cs ps x (Product c) b = productEntries cs ps c b
+targetsIn cs ps x (Closure c) b = closureEntries cs ps c x b
 
 -- the constants cs, a word's children with ports ps, its exit x, and an index from which on n words may be written
 pub record Emits (cs ps : List ℕ) (x at n : ℕ) : Type 0 where

@@ -5,10 +5,18 @@ ghost use Rattle.automaton.specs.Transition.{transitionsWords};
 ghost use Rattle.automaton.specs.Numbering.{numbered, epsilons, fan, symbolTargets};
 ghost use Rattle.emitter.specs.Writing.{Wrote, lastIndex};
 ghost use Rattle.ports.specs.Ports.{Low, statesIn, portsIn};
-ghost use Rattle.emitter.specs.Emission.{Emits, productEntries, closureEntries};
+ghost use Rattle.emitter.specs.Emission.{Emits, productEntries, closureEntries, targetsIn};
 use super::writer::push_epsilon;
 use ports::port::Entry;
 use ports::port::entry_at;
+
+// Where a word's entry for a constant leads: to the children's entries for it, in a product over c at c not to the first
+// child's, in a closure over c at c also to the word's own exit.
+pub enum Targets {
+    Children,
+    Product(u32),
+    Closure(u32),
+}
 
 // "A move that names a missing entry is omitted."
 pub(crate) fn push_to(out: &mut [u32], at: usize, from: u32, to: Entry) -> usize
@@ -101,79 +109,54 @@ fn push_closure_entry(
     next
 }
 
-// From each entry of a word with this exit to the children's entries.
+// From the entry for constant k.
+fn push_entry(
+    constants: &[u32],
+    ports: &[u32],
+    out: &mut [u32],
+    at: usize,
+    exit: u32,
+    targets: Targets,
+    k: usize,
+) -> usize
+    requires { ⌜ Emits (now constants) (now ports) exit at 5 ⌝ }
+    requires { ⌜ (k < length (now constants)) × (1 ≤ length (now ports)) ⌝ }
+    ensures { λ r. ⌜
+        Wrote 5 at
+        (transitionsWords (epsilons (exit + 1 + k)
+        (targetsIn (now (constants .entry)) (now (ports .entry)) exit targets (getD (now (constants .entry)) k 0))))
+        (now (out .entry)) (now (out .exit)) r
+        ⌝ }
+{
+    match targets {
+        Targets::Children => push_to_children(constants, ports, out, at, exit, k),
+        Targets::Product(c) => push_product_entry(constants, ports, out, at, exit, c, k),
+        Targets::Closure(c) => push_closure_entry(constants, ports, out, at, exit, c, k),
+    }
+}
+
+// From each entry of a word with this exit.
 pub(crate) fn push_entries(
     constants: &[u32],
     ports: &[u32],
     out: &mut [u32],
     at: usize,
     exit: u32,
-) -> usize
-    requires { ⌜ Emits (now constants) (now ports) exit at 80 ⌝ }
-    ensures { λ r. ⌜
-        Wrote 80 at
-        (transitionsWords (fan (numbered (suc exit) (now (constants .entry)))
-        (symbolTargets (portsIn (now (constants .entry)) (now (ports .entry))))))
-        (now (out .entry)) (now (out .exit)) r
-        ⌝ }
-{
-    let mut next = at;
-    let mut k = 0;
-    while k < constants.len() {
-        next = push_to_children(constants, ports, out, next, exit, k);
-        k += 1;
-    }
-    next
-}
-
-// The same for a product over c.
-pub(crate) fn push_product_entries(
-    constants: &[u32],
-    ports: &[u32],
-    out: &mut [u32],
-    at: usize,
-    exit: u32,
-    c: u32,
+    targets: Targets,
 ) -> usize
     requires { ⌜ Emits (now constants) (now ports) exit at 80 ⌝ }
     requires { ⌜ 1 ≤ length (now ports) ⌝ }
     ensures { λ r. ⌜
         Wrote 80 at
         (transitionsWords (fan (numbered (suc exit) (now (constants .entry)))
-        (productEntries (now (constants .entry)) (now (ports .entry)) c)))
+        (targetsIn (now (constants .entry)) (now (ports .entry)) exit targets)))
         (now (out .entry)) (now (out .exit)) r
         ⌝ }
 {
     let mut next = at;
     let mut k = 0;
     while k < constants.len() {
-        next = push_product_entry(constants, ports, out, next, exit, c, k);
-        k += 1;
-    }
-    next
-}
-
-// The same for a closure over c.
-pub(crate) fn push_closure_entries(
-    constants: &[u32],
-    ports: &[u32],
-    out: &mut [u32],
-    at: usize,
-    exit: u32,
-    c: u32,
-) -> usize
-    requires { ⌜ Emits (now constants) (now ports) exit at 80 ⌝ }
-    ensures { λ r. ⌜
-        Wrote 80 at
-        (transitionsWords (fan (numbered (suc exit) (now (constants .entry)))
-        (closureEntries (now (constants .entry)) (now (ports .entry)) c exit)))
-        (now (out .entry)) (now (out .exit)) r
-        ⌝ }
-{
-    let mut next = at;
-    let mut k = 0;
-    while k < constants.len() {
-        next = push_closure_entry(constants, ports, out, next, exit, c, k);
+        next = push_entry(constants, ports, out, next, exit, targets, k);
         k += 1;
     }
     next

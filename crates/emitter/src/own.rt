@@ -8,9 +8,8 @@ ghost use Rattle.automaton.specs.Numbering.{symbolTransitions, unionTransitions
 ghost use Rattle.emitter.specs.Writing.{Wrote, lastIndex};
 ghost use Rattle.ports.specs.Ports.{exitsIn, portIn, portsIn};
 ghost use Rattle.emitter.specs.Emission.{Emits, Listed, Takes};
-use super::entries::push_closure_entries;
+use super::entries::Targets;
 use super::entries::push_entries;
-use super::entries::push_product_entries;
 use super::entries::push_to;
 use super::writer::push;
 use super::writer::push_epsilon;
@@ -70,7 +69,7 @@ fn push_symbol(
     symbol: u32,
 ) -> usize
     requires { ⌜ Emits (now constants) (now ports) exit at 85 ⌝ }
-    requires { ⌜ symbol < 256 ⌝ }
+    requires { ⌜ (symbol < 256) × (1 ≤ length (now ports)) ⌝ }
     ensures { λ r. ⌜
         Wrote 85 at
         (transitionsWords (symbolTransitions symbol (fullPort (now (constants .entry)) exit)
@@ -80,7 +79,7 @@ fn push_symbol(
 {
     let sources = push_transition(out, at, symbol, exit);
     let next = push_sources(ports, out, sources);
-    push_entries(constants, ports, out, next, exit)
+    push_entries(constants, ports, out, next, exit, Targets::Children)
 }
 
 // From two states to one.
@@ -110,7 +109,7 @@ fn push_union(constants: &[u32], ports: &[u32], out: &mut [u32], at: usize, exit
     let first = exit_of(ports[0]);
     let second = exit_of(ports[1]);
     let next = push_both(out, at, first, second, exit);
-    push_entries(constants, ports, out, next, exit)
+    push_entries(constants, ports, out, next, exit, Targets::Children)
 }
 
 // A product over c.
@@ -134,7 +133,7 @@ fn push_product(
     let entry = entry_at(constants, ports[0], index_of(constants, c));
     let second = push_epsilon(out, at, exit_of(ports[0]), exit);
     let next = push_to(out, second, exit_of(ports[1]), entry);
-    push_product_entries(constants, ports, out, next, exit, c)
+    push_entries(constants, ports, out, next, exit, Targets::Product(c))
 }
 
 // A closure over c.
@@ -158,7 +157,7 @@ fn push_closure(
     let entry = entry_at(constants, ports[0], index_of(constants, c));
     let second = push_to(out, at, exit_of(ports[0]), entry);
     let next = push_epsilon(out, second, exit_of(ports[0]), exit);
-    push_closure_entries(constants, ports, out, next, exit, c)
+    push_entries(constants, ports, out, next, exit, Targets::Closure(c))
 }
 
 // The own transitions of word w with this exit over its children's ports.

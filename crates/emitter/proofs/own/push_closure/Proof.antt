@@ -35,13 +35,14 @@ exit-of-requires-2 c κs = search needs
 push-epsilon-requires : tie.Need-push-epsilon-requires
 push-epsilon-requires c κs = search needs
 
-push-closure-entries-requires : tie.Need-push-closure-entries-requires
-push-closure-entries-requires c κs =
-    emits-later _ _ _ _ _
-    (c .before .before .before .before .before .before .before .before .before .before .before .before .before .before .before .before .before .before .before .pre .0)
-    (let m = wrote-next _ _ _ _ _ _
-    (c .before .before .before .before .before .before .before .before .before .push-to .ensures) in let n = wrote-next _ _ _ _ _ _
-    (c .before .before .before .push-epsilon .ensures) in omega arith)
+push-entries-requires : tie.Need-push-entries-requires
+push-entries-requires c κs =
+    let p = c .before .before .before .before .before .before .before .before .before .before .before .before .before .before .before .before .before .before .before .pre in
+    let one = p .1 .0 in (
+      emits-later _ _ _ _ _ (p .0) (let m = wrote-next _ _ _ _ _ _ (c .before .before .before .before .before .before .before .before .before .push-to .ensures) in
+          let n = wrote-next _ _ _ _ _ _ (c .before .before .before .push-epsilon .ensures) in omega arith),
+      omega arith,
+    )
 
 same-length : tie.Need-same-length
 same-length c = search needs
@@ -58,7 +59,7 @@ returns c =
     (c .before .before .before .before .before .before .before .before .before .before .before .before .before .before .before .before .before .index-of .ensures .1)
     (c .before .before .before .before .before .before .before .before .before .before .before .before .push-to .ensures))
     (rw (y, ← x) at (c .before .before .before .before .before .before .push-epsilon .ensures))
-    (c .before .before .push-closure-entries .ensures)
+    (c .before .before .push-entries .ensures)
 
 pub push-closure-spec : {M : Type 1} → statement M
 push-closure-spec =
@@ -73,6 +74,6 @@ push-closure-spec =
     shared-slice-read-exit-of-2
     exit-of-requires-2
     push-epsilon-requires
-    push-closure-entries-requires
+    push-entries-requires
     same-length
     returns)

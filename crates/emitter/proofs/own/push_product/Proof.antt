@@ -40,8 +40,8 @@ push-to-requires c κs =
     let x = c .exit-of2 .ensures .1 in
     (omega arith, (omega arith, c .before .before .before .before .before .before .before .before .before .entry-at .ensures .low))
 
-push-product-entries-requires : tie.Need-push-product-entries-requires
-push-product-entries-requires c κs =
+push-entries-requires : tie.Need-push-entries-requires
+push-entries-requires c κs =
     let p = c .before .before .before .before .before .before .before .before .before .before .before .before .before .before .before .before .before .before .before .pre in
     let two = p .1 .0 in (
       emits-later _ _ _ _ _ (p .0) (let m = wrote-next _ _ _ _ _ _
@@ -65,7 +65,7 @@ returns c =
     (c .before .before .before .before .before .before .before .before .before .before .before .before .before .before .before .before .entry-at .ensures)
     (c .before .before .before .before .before .before .before .before .before .before .before .before .before .before .before .before .before .index-of .ensures .1)
     (c .before .before .before .before .before .before .push-to .ensures))
-    (c .before .before .push-product-entries .ensures)
+    (c .before .before .push-entries .ensures)
 
 pub push-product-spec : {M : Type 1} → statement M
 push-product-spec =
@@ -80,6 +80,6 @@ push-product-spec =
     shared-slice-read-exit-of-2
     exit-of-requires-2
     push-to-requires
-    push-product-entries-requires
+    push-entries-requires
     same-length
     returns)

@@ -1,6 +1,8 @@
 -- `emitter::own::push_symbol` meets its contract: its three writers leave the transitions of a symbol. Assumes nothing.
+use native.Mathlib.Omega.{arith}
 use borrow.Author.Needs.{needs}
-use Rattle.emitter.proofs.OwnLaws.{symbol-own}
+use Rattle.emitter.proofs.WritingLaws.{wrote-next}
+use Rattle.emitter.proofs.OwnLaws.{emits-later, symbol-own}
 use Rattle.emitter.proofs.own.push_symbol.Statement.{statement}
 use Rattle.emitter.proofs.own.push_symbol.Tie as tie
 
@@ -11,7 +13,12 @@ push-sources-requires : tie.Need-push-sources-requires
 push-sources-requires c κs = search needs
 
 push-entries-requires : tie.Need-push-entries-requires
-push-entries-requires c κs = search needs
+push-entries-requires c κs =
+    let p = c .before .before .before .before .before .before .before .before .before .before .before .before .pre in (
+      emits-later _ _ _ _ _ (p .0) (let m = wrote-next _ _ _ _ _ _ (c .before .before .before .before .before .before .before .push-transition .ensures) in
+          let n = wrote-next _ _ _ _ _ _ (c .before .before .before .push-sources .ensures) in omega arith),
+      p .1 .1,
+    )
 
 same-length : tie.Need-same-length
 same-length c = search needs
