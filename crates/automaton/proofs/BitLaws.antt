@@ -1,5 +1,5 @@
 -- Laws of state sets as words of bits: what `insert` adds and keeps, and that a set is determined by the states that it
--- contains. Assumes nothing.
+-- contains.
 use mathlib.Core.Path.{_≡_, refl, ap, _∙_, sym}
 use mathlib.Core.Logic.{_≢_}
 use mathlib.Core.Bool.{Bool, true, false, true≢false, false≢true}

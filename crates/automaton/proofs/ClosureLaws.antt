@@ -1,5 +1,4 @@
 -- A node's state set holds exactly the states that are reached there, and it is the only set of its size that does.
--- Assumes nothing.
 use mathlib.Core.Path.{_≡_, _∙_, sym}
 use mathlib.Core.Logic.{_↔_}
 use mathlib.Core.Bool.{true, false, true≢false}

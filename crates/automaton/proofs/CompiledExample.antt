@@ -1,4 +1,4 @@
--- The table of the source's own example, and of two small expressions, computed from the definitions. Assumes nothing.
+-- The table of the source's own example, and of two small expressions, computed from the definitions.
 use Prim.Native.Nat.{ℕ}
 use mathlib.Core.Path.{_≡_, refl}
 use mathlib.Core.List.{List, [], _∷_, flatMap}

@@ -1,5 +1,5 @@
 -- The compiled automaton of an accepted expression is an automaton over the alphabet: its symbols are known and stand over
--- as many states as their ranks, and every state is below the state count. Assumes nothing.
+-- as many states as their ranks, and every state is below the state count.
 use Prim.Native.Nat.{ℕ, suc, _+_, _<_, _≤_}
 use mathlib.Core.Path.{_≡_, _∙_, sym}
 use mathlib.Core.Bool.{true}
@@ -15,9 +15,9 @@ use Rattle.words.proofs.AllLaws.{All, all-append, all-map, all-both, all-self}
 use Rattle.words.proofs.AlphabetLaws.{constantsOf-isConstant, isConstant-zero}
 use Rattle.words.proofs.Ascending.{Ascending, end, next, ascending-le, ascending-append, ascending-one}
 use Rattle.automaton.specs.Transition.{Transition, onSymbol, epsilon}
-use Rattle.automaton.specs.Numbering.{Port, statesOf, portOf, entryFor, epsilons, fan, statesAfter, ownTransitions, transitionsFrom, constantTransitions, lastPort, compiled, symbolTargets, unionTargets, productTargets, closureTargets}
+use Rattle.automaton.specs.Numbering.{Port, statesOf, portOf, entryFor, epsilons, entryEpsilons, statesAfter, ownTransitions, transitionsFrom, constantTransitions, lastPort, compiled, symbolTargets, unionTargets, productTargets, closureTargets}
 use Rattle.automaton.specs.Table.{AllBelow, TransitionOver, TransitionsOver, AutomatonOver}
-use Rattle.automaton.proofs.EntryLaws.{to-epsilons, to-fan, to-constants, numbered-all}
+use Rattle.automaton.proofs.EntryLaws.{to-epsilons, to-entryEpsilons, to-constants, numbered-all}
 use Rattle.automaton.proofs.Ports.{statesIn, Entries, every, own, missing, PortIn, Children, noChild, child, children-le}
 use Rattle.automaton.proofs.OwnTransitions.{Own, leaf, ofSymbol, ofUnion, ofProduct, ofClosure}
 use Rattle.automaton.proofs.Reading.{Reading, ended, word, childrenOn, expression-reading}
@@ -57,10 +57,10 @@ module _ (a : List ℕ) where
   epsilons-over n p {qs} l s h =
       to-epsilons (TransitionOver a n) p qs (all-map (λ q. q < n) (λ q. TransitionOver a n (epsilon p q)) (λ q k. (l, k)) qs (below-of n s h))
 
-  fan-over : {lo hi l h : ℕ} (targets : ℕ → List ℕ) (es : List (ℕ × ℕ)) → Ascending lo hi (statesIn es)
-      → ((c : ℕ) → Ascending l h (targets c)) → h ≤ hi → All (TransitionOver a hi) (fan es targets)
-  fan-over {hi} targets es s t k =
-      to-fan (TransitionOver a hi) targets es
+  entryEpsilons-over : {lo hi l h : ℕ} (targets : ℕ → List ℕ) (es : List (ℕ × ℕ)) → Ascending lo hi (statesIn es)
+      → ((c : ℕ) → Ascending l h (targets c)) → h ≤ hi → All (TransitionOver a hi) (entryEpsilons es targets)
+  entryEpsilons-over {hi} targets es s t k =
+      to-entryEpsilons (TransitionOver a hi) targets es
       (all-map (λ e. e .1 < hi) (λ e. All (λ p. TransitionOver a hi (epsilon (e .1) p)) (targets (e .0)))
       (λ e m. all-map (λ q. q < hi) (λ q. (e .1 < hi) × (q < hi)) (λ q j. (m, j)) (targets (e .0)) (below-of hi (t (e .0)) k)) es (entries-below es s))
 
@@ -70,22 +70,22 @@ module _ (a : List ℕ) where
   own-over {hi} {E} x c (ofSymbol {P} {Ps} i f r) =
       let l = le-trans (x .from) (le-of-lt (x .below)) in (
         (f, r ∙ sym (length-map (P ∷ Ps) (λ Q. Q .exit)), exits-below hi c l, x .below),
-        fan-over (symbolTargets (P ∷ Ps)) (E .entries) (i .states) (symbol-ascending c) l,
+        entryEpsilons-over (symbolTargets (P ∷ Ps)) (E .entries) (i .states) (symbol-ascending c) l,
       )
   own-over {hi} {E} x (child p (child q (noChild l))) (ofUnion {F} {G} i) =
-      let ts = fan-over (unionTargets F G) (E .entries) (i .states) (union-ascending p q) (omega arith) in
+      let ts = entryEpsilons-over (unionTargets F G) (E .entries) (i .states) (union-ascending p q) (omega arith) in
       ((omega arith, x .below), ((omega arith, x .below), ts))
   own-over {hi} {w} {E} x (child p (child q (noChild l))) (ofProduct {F} {G} i) =
       let c = lowByte w in
       let us = epsilons-over hi (G .exit) (omega arith) (entryFor-ascending c F p) (omega arith) in
-      let ts = fan-over (productTargets c F G) (E .entries) (i .states) (product-ascending c p q) (omega arith) in
-      ((omega arith, x .below), all-append (TransitionOver a hi) (epsilons (G .exit) (entryFor F c)) (fan (E .entries) (productTargets c F G)) us ts)
+      let ts = entryEpsilons-over (productTargets c F G) (E .entries) (i .states) (product-ascending c p q) (omega arith) in
+      ((omega arith, x .below), all-append (TransitionOver a hi) (epsilons (G .exit) (entryFor F c)) (entryEpsilons (E .entries) (productTargets c F G)) us ts)
   own-over {hi} {w} {E} x (child p (noChild l)) (ofClosure {F} i) =
       let c = lowByte w in
       let qs = ascending-append (entryFor-ascending c F p) (ascending-one (le-trans l (x .from)) (x .below)) in
       let us = epsilons-over hi (F .exit) (omega arith) qs (le-refl hi) in
-      let ts = fan-over (closureTargets c (E .exit) F) (E .entries) (i .states) (closure-ascending c p (le-trans l (x .from))) (x .below) in
-      all-append (TransitionOver a hi) (epsilons (F .exit) (entryFor F c ++ (E .exit ∷ []))) (fan (E .entries) (closureTargets c (E .exit) F)) us ts
+      let ts = entryEpsilons-over (closureTargets c (E .exit) F) (E .entries) (i .states) (closure-ascending c p (le-trans l (x .from))) (x .below) in
+      all-append (TransitionOver a hi) (epsilons (F .exit) (entryFor F c ++ (E .exit ∷ []))) (entryEpsilons (E .entries) (closureTargets c (E .exit) F)) us ts
 
   -- ---- every word
 

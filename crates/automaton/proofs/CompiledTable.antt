@@ -1,5 +1,5 @@
 -- The compiled table of an accepted expression with at most 1,024 states has at most 1,147 words, and refusal 8 lets it
--- pass. Assumes nothing.
+-- pass.
 use Prim.Native.Nat.{ℕ, suc, _+_, _*_, _-_, _≤_}
 use mathlib.Core.Path.{_≡_, refl}
 use mathlib.Core.Bool.{Bool, true, false, not, cond}

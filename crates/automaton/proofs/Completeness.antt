@@ -1,5 +1,5 @@
 -- Every member of an expression's language reaches its exit: where the languages of σ reach the entries, the language
--- under σ reaches the exit. By induction on the expression, and for a closure on the step. Assumes nothing.
+-- under σ reaches the exit. By induction on the expression, and for a closure on the step.
 use Prim.Native.Nat.{ℕ, zero, suc}
 use mathlib.Core.Path.{_≡_, refl, subst}
 use mathlib.Core.Logic.{_⊎_, inl, inr}
@@ -13,7 +13,7 @@ use Rattle.language.specs.Expression.{Expression, Expressions, symbol, empty, u
 use Rattle.language.specs.Membership.{Language, Assignment, Substitution, Substitutions, atConstant, atSymbol, atNone, atMore, Product, Step, Member, Members}
 use Rattle.language.proofs.SubstitutionLaws.{assigned, Under, at-constant, constant-under, product-in}
 use Rattle.automaton.specs.Transition.{Transition}
-use Rattle.automaton.specs.Numbering.{numbered, epsilons, fan}
+use Rattle.automaton.specs.Numbering.{numbered, epsilons, entryEpsilons}
 use Rattle.automaton.specs.Reached.{Reaches, ReachesAll, onNode, onEpsilon, onNone, onMore}
 use Rattle.automaton.proofs.TreeNumbering.{next, nextAll, exitState, entryStates, entry, exits, childEntries, own, transitionsOf, transitionsOfAll, ConstantsListed, ConstantsListedAll}
 use Rattle.automaton.proofs.ReachedBy.{Present, ReachedBy, AllReachedBy, Entered, smaller, along, from-entries, entered, entered-assigned}
@@ -48,17 +48,17 @@ module _ (cs : List ℕ) (ts : List Transition) where
       but-c : ℕ → List ℕ
       but-c a = cond (eqb a c) [] (entry cs F n a)
 
-      fanned : List Transition
-      fanned = fan (numbered (suc (next cs G g)) cs) (λ a. but-c a ++ entry cs G g a)
+      entriesWritten : List Transition
+      entriesWritten = entryEpsilons (numbered (suc (next cs G g)) cs) (λ a. but-c a ++ entry cs G g a)
 
       each : (a : ℕ) → List·Memᴰ a cs → AllReachedBy ts (σ a) (but-c a ++ entry cs G g a)
-      each = from-entries cs ts σ (suc (next cs G g)) (λ a. but-c a ++ entry cs G g a) f (all-right (Present ts) (epsilons (exitState cs G g) (entry cs F n c)) fanned (h .1))
+      each = from-entries cs ts σ (suc (next cs G g)) (λ a. but-c a ++ entry cs G g a) f (all-right (Present ts) (epsilons (exitState cs G g) (entry cs F n c)) entriesWritten (h .1))
 
       out-of-G : ReachedBy ts L (exitState cs G g)
       out-of-G = iG σ (entered cs ts G g kG σ (λ a k. all-right (ReachedBy ts (σ a)) (but-c a) (entry cs G g a) (each a k)))
 
       into-F : AllReachedBy ts L (entry cs F n c)
-      into-F = along ts L (exitState cs G g) out-of-G (entry cs F n c) (all-left (Present ts) (epsilons (exitState cs G g) (entry cs F n c)) fanned (h .1))
+      into-F = along ts L (exitState cs G g) out-of-G (entry cs F n c) (all-left (Present ts) (epsilons (exitState cs G g) (entry cs F n c)) entriesWritten (h .1))
 
   complete-closure : (c : ℕ) (F : Expression) (n : ℕ) → List·Memᴰ c cs → ConstantsListed cs F → Complete F n → All (Present ts) (own cs (closure c F) n) → Complete (closure c F) n
   complete-closure c F n kc kF iF h σ f t (u, (k, s), p) = all-right (ReachedBy ts (steps k)) (entry cs F n c) (x ∷ []) (every-step k) .0 t (u, s, p)
@@ -73,8 +73,8 @@ module _ (cs : List ℕ) (ts : List Transition) where
       straight : ℕ → List ℕ
       straight a = cond (eqb a c) (x ∷ []) []
 
-      fanned : List Transition
-      fanned = fan (numbered (suc x) cs) (λ a. entry cs F n a ++ straight a)
+      entriesWritten : List Transition
+      entriesWritten = entryEpsilons (numbered (suc x) cs) (λ a. entry cs F n a ++ straight a)
 
       steps : ℕ → Language
       steps k = Under (Step c (Member F) k) σ
@@ -83,7 +83,7 @@ module _ (cs : List ℕ) (ts : List Transition) where
       turn k = Under (Product c (Member F) (Step c (Member F) k)) σ
 
       each : (a : ℕ) → List·Memᴰ a cs → AllReachedBy ts (σ a) (entry cs F n a ++ straight a)
-      each = from-entries cs ts σ (suc x) (λ a. entry cs F n a ++ straight a) f (all-right (Present ts) (epsilons (exitState cs F n) loop) fanned h)
+      each = from-entries cs ts σ (suc x) (λ a. entry cs F n a ++ straight a) f (all-right (Present ts) (epsilons (exitState cs F n) loop) entriesWritten h)
 
       each-F : (a : ℕ) → List·Memᴰ a cs → AllReachedBy ts (σ a) (entry cs F n a)
       each-F a k = all-left (ReachedBy ts (σ a)) (entry cs F n a) (straight a) (each a k)
@@ -104,7 +104,7 @@ module _ (cs : List ℕ) (ts : List Transition) where
       turned k g =
           along ts (turn k) (exitState cs F n)
           (λ r d. iF (assigned σ c (steps k)) (entered-assigned cs ts F n kF σ c (steps k) g (λ a m. but-c a (eqb a c) (each-F a m))) r (product-in c (Member F) (Step c (Member F) k) σ r d))
-          loop (all-left (Present ts) (epsilons (exitState cs F n) loop) fanned h)
+          loop (all-left (Present ts) (epsilons (exitState cs F n) loop) entriesWritten h)
 
       either : (k q : ℕ) → ReachedBy ts (steps k) q × ReachedBy ts (turn k) q → ReachedBy ts (steps (suc k)) q
       either k q b r (v, inl y, z) = b .0 r (v, y, z)

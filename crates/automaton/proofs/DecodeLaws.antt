@@ -1,4 +1,4 @@
--- The decoder of tables undoes the encoder: the automaton of an automaton's words is the automaton itself. Assumes nothing.
+-- The decoder of tables undoes the encoder: the automaton of an automaton's words is the automaton itself.
 use mathlib.Core.Path.{_≡_, refl, ap, _∙_}
 use mathlib.Core.Bool.{true, false}
 use mathlib.Core.List.{List, [], _∷_, _++_}

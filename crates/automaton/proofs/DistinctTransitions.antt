@@ -1,5 +1,5 @@
 -- No transition stands twice in a compiled automaton: an epsilon transition starts at an entry of its own word or at the
--- exit of a child, a word is the child of one other, and each symbol transition has a target of its own. Assumes nothing.
+-- exit of a child, a word is the child of one other, and each symbol transition has a target of its own.
 use Prim.Native.Nat.{ℕ, _+_, _≤_}
 use mathlib.Core.Path.{_≡_, refl}
 use mathlib.Core.List.{List, [], _∷_, List·Memᴰ, List·Memᴰ·head, List·Memᴰ·tail}

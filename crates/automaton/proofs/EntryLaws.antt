@@ -1,4 +1,4 @@
--- Properties of every entry, of every state found for a constant, and of every transition from entries. Assumes nothing.
+-- Properties of every entry, of every state found for a constant, and of every transition from entries.
 use Prim.Native.Nat.{ℕ, suc}
 use mathlib.Core.Path.{_≡_, refl, sym, subst}
 use mathlib.Core.Bool.{Bool, true, false, cond}
@@ -7,7 +7,7 @@ use lib.Dec.{eqb}
 use borrow.Author.Tests.{eqb-true, eqb-false}
 use Rattle.words.proofs.AllLaws.{All, all-append, all-left, all-right}
 use Rattle.automaton.specs.Transition.{Transition, onSymbol, epsilon}
-use Rattle.automaton.specs.Numbering.{numbered, lookup, epsilons, fan, constantTransitions}
+use Rattle.automaton.specs.Numbering.{numbered, lookup, epsilons, entryEpsilons, constantTransitions}
 
 -- a property of a constant and a state
 module _ (P : ℕ → ℕ → Type 0) where
@@ -58,17 +58,17 @@ module _ (C : Transition → Type 0) where
   of-epsilons q [] h = tt
   of-epsilons q (p ∷ ps) h = (h .0, of-epsilons q ps (h .1))
 
-  pub to-fan : (targets : ℕ → List ℕ) (es : List (ℕ × ℕ)) → All (λ e. All (λ p. C (epsilon (e .1) p)) (targets (e .0))) es → All C (fan es targets)
-  to-fan targets [] h = tt
-  to-fan targets (e ∷ es) h =
-      all-append C (epsilons (e .1) (targets (e .0))) (fan es targets)
-      (to-epsilons (e .1) (targets (e .0)) (h .0)) (to-fan targets es (h .1))
+  pub to-entryEpsilons : (targets : ℕ → List ℕ) (es : List (ℕ × ℕ)) → All (λ e. All (λ p. C (epsilon (e .1) p)) (targets (e .0))) es → All C (entryEpsilons es targets)
+  to-entryEpsilons targets [] h = tt
+  to-entryEpsilons targets (e ∷ es) h =
+      all-append C (epsilons (e .1) (targets (e .0))) (entryEpsilons es targets)
+      (to-epsilons (e .1) (targets (e .0)) (h .0)) (to-entryEpsilons targets es (h .1))
 
-  pub of-fan : (targets : ℕ → List ℕ) (es : List (ℕ × ℕ)) → All C (fan es targets) → All (λ e. All (λ p. C (epsilon (e .1) p)) (targets (e .0))) es
-  of-fan targets [] h = tt
-  of-fan targets (e ∷ es) h = (
-    of-epsilons (e .1) (targets (e .0)) (all-left C (epsilons (e .1) (targets (e .0))) (fan es targets) h),
-    of-fan targets es (all-right C (epsilons (e .1) (targets (e .0))) (fan es targets) h),
+  pub of-entryEpsilons : (targets : ℕ → List ℕ) (es : List (ℕ × ℕ)) → All C (entryEpsilons es targets) → All (λ e. All (λ p. C (epsilon (e .1) p)) (targets (e .0))) es
+  of-entryEpsilons targets [] h = tt
+  of-entryEpsilons targets (e ∷ es) h = (
+    of-epsilons (e .1) (targets (e .0)) (all-left C (epsilons (e .1) (targets (e .0))) (entryEpsilons es targets) h),
+    of-entryEpsilons targets es (all-right C (epsilons (e .1) (targets (e .0))) (entryEpsilons es targets) h),
   )
 
   pub to-constants : (es : List (ℕ × ℕ)) → All (λ e. C (onSymbol (e .0) [] (e .1))) es → All C (constantTransitions es)

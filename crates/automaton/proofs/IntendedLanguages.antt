@@ -1,5 +1,5 @@
 -- A language is intended for every state of an expression's automaton: for the exit the expression's language under an
--- assignment, for an entry what the assignment gives its constant. Assumes nothing.
+-- assignment, for an entry what the assignment gives its constant.
 use Prim.Native.Nat.{ℕ, zero, suc, _+_}
 use mathlib.Core.Path.{_≡_, refl, sym, _∙_, ap, subst}
 use mathlib.Core.Logic.{_↔_}

@@ -1,4 +1,4 @@
--- Transitions that keep to the languages intended for the states: what is reached is then intended. Assumes nothing.
+-- Transitions that keep to the languages intended for the states: what is reached is then intended.
 use Prim.Native.Nat.{ℕ}
 use mathlib.Core.Logic.{_↔_}
 use mathlib.Core.List.{List, [], _∷_, _++_, flatMap}
@@ -7,9 +7,9 @@ use Rattle.words.proofs.AllLaws.{All, all-append, all-at, all-map}
 use Rattle.language.specs.Expression.{Expression, Expressions, noneᵉ, moreᵉ}
 use Rattle.language.specs.Membership.{Assignment}
 use Rattle.automaton.specs.Transition.{Transition, onSymbol, epsilon}
-use Rattle.automaton.specs.Numbering.{fan}
+use Rattle.automaton.specs.Numbering.{entryEpsilons}
 use Rattle.automaton.specs.Reached.{Reaches, ReachesAll, onNode, onEpsilon, onNone, onMore}
-use Rattle.automaton.proofs.EntryLaws.{every-found, to-fan}
+use Rattle.automaton.proofs.EntryLaws.{every-found, to-entryEpsilons}
 use Rattle.automaton.proofs.TreeNumbering.{next, entryStates, entry, childEntries}
 use Rattle.automaton.proofs.IntendedLanguages.{Intended, Has, has-left, languages, languagesAll, behind-part, EntriesAre, entries-are}
 
@@ -57,7 +57,7 @@ module _ (cs : List ℕ) (I : Intended) where
       (into-entry e n σ (has-left I n (languages cs e σ) (languagesAll cs es σ) h) c q f)
       (into-children es (next cs e n) σ (behind-part cs I e n σ (languagesAll cs es σ) h) c q f)
 
-  pub keeps-fan : (σ : Assignment) (es : List (ℕ × ℕ)) (targets : ℕ → List ℕ) → EntriesAre cs I σ es → ((c q : ℕ) → ((t : Tree) → I q t → σ c t) → Into I q (targets c)) → All (Keeps I) (fan es targets)
-  keeps-fan σ es targets h f =
-      to-fan (Keeps I) targets es
+  pub keeps-entryEpsilons : (σ : Assignment) (es : List (ℕ × ℕ)) (targets : ℕ → List ℕ) → EntriesAre cs I σ es → ((c q : ℕ) → ((t : Tree) → I q t → σ c t) → Into I q (targets c)) → All (Keeps I) (entryEpsilons es targets)
+  keeps-entryEpsilons σ es targets h f =
+      to-entryEpsilons (Keeps I) targets es
       (all-map (λ e. (t : Tree) → I (e .1) t ↔ σ (e .0) t) (λ e. Into I (e .1) (targets (e .0))) (λ e x. f (e .0) (e .1) (λ t i. x t .0 i)) es h)

@@ -1,4 +1,4 @@
--- What one state more keeps of a state set, a pass over transitions keeps. Assumes nothing.
+-- What one state more keeps of a state set, a pass over transitions keeps.
 use mathlib.Core.Bool.{Bool, true, false, cond, _&&_}
 use mathlib.Core.List.{List, [], _∷_}
 use Prim.Native.Nat.{ℕ, zero, suc}

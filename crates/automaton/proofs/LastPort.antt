@@ -1,5 +1,4 @@
 -- The states of an accepted expression's last word: the compiled automaton's last states, with the constants in symbol order.
--- Assumes nothing.
 use Prim.Native.Nat.{ℕ, suc, _+_, _-_, _<_, _≤_}
 use mathlib.Core.Path.{_≡_, refl}
 use mathlib.Core.List.{List, [], _∷_}

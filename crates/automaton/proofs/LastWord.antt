@@ -1,5 +1,5 @@
 -- The last word of an expression over an alphabet: its arity, its states and its own transitions are those of the
--- expression numbered as a tree. Assumes nothing.
+-- expression numbered as a tree.
 use Prim.Native.Nat.{ℕ, suc, _+_, _<_, _≤_, _%_}
 use mathlib.Core.Path.{_≡_, refl, sym, _∙_, ap, ap₂}
 use mathlib.Core.Bool.{true, false, not, cond}

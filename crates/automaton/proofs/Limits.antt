@@ -1,5 +1,5 @@
 -- Document 01's limits on compiled automata are attained: an accepted expression with exactly 1,024 states and a table of
--- 1,147 words, and one with 1,038 states. Assumes nothing.
+-- 1,147 words, and one with 1,038 states.
 use Prim.Native.Nat.{ℕ}
 use mathlib.Core.Path.{_≡_, refl}
 use mathlib.Core.List.{List, [], _∷_, _++_, flatMap}
@@ -7,7 +7,7 @@ use lib.ListN.{length, replicate}
 use Rattle.words.specs.Word.{spareBitsClear, isOf, kindAt}
 use Rattle.words.specs.Alphabet.{isEntry, rankOf, isConstant, constantsFrom, constantsOf, noAlphabet, wrongConstants, alphabetFault}
 use Rattle.words.specs.Postfix.{arity, trees, notOneTree}
-use Rattle.words.specs.Expression.{isExpressionWord, wrongLength, noExpressionWords, expressionFault}
+use Rattle.words.specs.Expression.{isExpressionWord, wrongLength, notExpressionWords, expressionFault}
 use Rattle.automaton.specs.Transition.{tableWords}
 use Rattle.automaton.specs.Numbering.{hasEntries, statesOf, portOf, ownTransitions, portsFrom, statesAfter, transitionsFrom, compiled}
 
@@ -34,7 +34,7 @@ pub record Limits : Type 0 where
 pub limits : Limits
 unfolding
     kindAt spareBitsClear isOf isEntry rankOf isConstant constantsFrom constantsOf noAlphabet wrongConstants arity trees notOneTree
-    isExpressionWord wrongLength noExpressionWords hasEntries statesOf portOf ownTransitions portsFrom statesAfter transitionsFrom
+    isExpressionWord wrongLength notExpressionWords hasEntries statesOf portOf ownTransitions portsFrom statesAfter transitionsFrom
     compiled flatMap
 limits =
     record {

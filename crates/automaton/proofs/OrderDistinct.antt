@@ -1,4 +1,4 @@
--- Transitions that stand in order are distinct. Assumes nothing.
+-- Transitions that stand in order are distinct.
 use Prim.Native.Nat.{ℕ, _≤_}
 use mathlib.Core.Path.{_≡_}
 use mathlib.Core.List.{List, List·Memᴰ, List·Memᴰ·head, List·Memᴰ·tail}

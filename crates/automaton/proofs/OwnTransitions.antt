@@ -1,5 +1,4 @@
--- The own transitions of an expression word, by its kind, with what holds of its states: a view to branch on. Assumes
--- nothing.
+-- The own transitions of an expression word, by its kind, with what holds of its states: a view to branch on.
 use Prim.Native.Nat.{ℕ, suc, _+_, _<_, _≤_}
 use mathlib.Core.Path.{_≡_, ap, _∙_, sym}
 use mathlib.Core.Bool.{Bool, true, false, cond}

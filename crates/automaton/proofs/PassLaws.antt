@@ -1,5 +1,5 @@
 -- Laws of the passes that make a state set: what a pass keeps and adds, that it adds nothing else, and that as many passes
--- over the epsilon transitions as there are states leave a set that is closed under them. Assumes nothing.
+-- over the epsilon transitions as there are states leave a set that is closed under them.
 use mathlib.Core.Path.{_≡_, refl, ap, _∙_, sym, subst⁻¹}
 use mathlib.Core.Bool.{Bool, true, false, cond, _&&_}
 use mathlib.Core.List.{List, [], _∷_, List·Memᴰ, List·Memᴰ·head, List·Memᴰ·tail}

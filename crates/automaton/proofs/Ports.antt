@@ -1,5 +1,5 @@
 -- Ports: which states a word has, with which constants as entries, and how the ports on the stack and a word's children
--- lie one behind the other. Assumes nothing.
+-- lie one behind the other.
 use Prim.Native.Nat.{ℕ, zero, suc, _+_, _<_, _≤_}
 use mathlib.Core.Path.{_≡_, refl, ap, _∙_, sym}
 use mathlib.Core.Bool.{Bool, true, false, cond}

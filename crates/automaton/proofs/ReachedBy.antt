@@ -1,5 +1,5 @@
 -- States that every member of a language reaches: along epsilon transitions, and from a word's entries to those of its
--- parts. Assumes nothing.
+-- parts.
 use Prim.Native.Nat.{ℕ, suc}
 use mathlib.Core.Path.{_≡_, refl, sym, subst}
 use mathlib.Core.Logic.{inl, inr}
@@ -13,9 +13,9 @@ use Rattle.language.specs.Expression.{Expression, symbol, empty, union, product
 use Rattle.language.specs.Membership.{Language, Assignment}
 use Rattle.language.proofs.SubstitutionLaws.{assigned}
 use Rattle.automaton.specs.Transition.{Transition, epsilon}
-use Rattle.automaton.specs.Numbering.{numbered, epsilons, fan}
+use Rattle.automaton.specs.Numbering.{numbered, epsilons, entryEpsilons}
 use Rattle.automaton.specs.Reached.{Reaches, onEpsilon}
-use Rattle.automaton.proofs.EntryLaws.{EveryEntry, found-every, every-numbered, numbered-all, of-epsilons, of-fan}
+use Rattle.automaton.proofs.EntryLaws.{EveryEntry, found-every, every-numbered, numbered-all, of-epsilons, of-entryEpsilons}
 use Rattle.automaton.proofs.TreeNumbering.{nextAll, exitState, entryStates, entry, ConstantsListed}
 
 module _ (ts : List Transition) where
@@ -56,7 +56,7 @@ module _ (cs : List ℕ) where
   module _ (ts : List Transition) where
     -- along those from the entries of a word
     module _ (σ : Assignment) (n : ℕ) (targets : ℕ → List ℕ) where
-      pub from-entries : Entered ts σ (numbered n cs) → All (Present ts) (fan (numbered n cs) targets) → (c : ℕ) → List·Memᴰ c cs → AllReachedBy ts (σ c) (targets c)
+      pub from-entries : Entered ts σ (numbered n cs) → All (Present ts) (entryEpsilons (numbered n cs) targets) → (c : ℕ) → List·Memᴰ c cs → AllReachedBy ts (σ c) (targets c)
       from-entries f h c m = every-numbered (λ d q. AllReachedBy ts (σ d) (targets d)) c n cs m each .1
         where
           each : EveryEntry (λ d q. AllReachedBy ts (σ d) (targets d)) (numbered n cs)
@@ -64,7 +64,7 @@ module _ (cs : List ℕ) where
               all-map (λ e. ReachedBy ts (σ (e .0)) (e .1) × All (λ p. Present ts (epsilon (e .1) p)) (targets (e .0))) (λ e. AllReachedBy ts (σ (e .0)) (targets (e .0)))
               (λ e b. all-map (λ p. Present ts (epsilon (e .1) p)) (ReachedBy ts (σ (e .0))) (λ p j t s. onEpsilon j (b .0 t s)) (targets (e .0)) (b .1))
               (numbered n cs)
-              (all-both (λ e. ReachedBy ts (σ (e .0)) (e .1)) (λ e. All (λ p. Present ts (epsilon (e .1) p)) (targets (e .0))) (numbered n cs) f (of-fan (Present ts) targets (numbered n cs) h))
+              (all-both (λ e. ReachedBy ts (σ (e .0)) (e .1)) (λ e. All (λ p. Present ts (epsilon (e .1) p)) (targets (e .0))) (numbered n cs) f (of-entryEpsilons (Present ts) targets (numbered n cs) h))
 
     -- the entries of a part, from the listed constants
     module _ (E : Expression) (n : ℕ) (k : ConstantsListed cs E) where

@@ -1,5 +1,5 @@
 -- The words of an accepted expression, read one by one with the stack of ports: what holds at every word. Laws of the
--- compiled automaton are proved by going through such a reading. Assumes nothing.
+-- compiled automaton are proved by going through such a reading.
 use Prim.Native.Nat.{ℕ, suc, _+_, _-_, _<_, _≤_}
 use mathlib.Core.Path.{_≡_, refl, _∙_, subst}
 use mathlib.Core.Bool.{true}
@@ -12,7 +12,7 @@ use lib.Dec.{ltb, leb, eqb}
 use borrow.Author.Tests.{leb-true, ltb-false, eqb-false, not-false}
 use Rattle.words.specs.Lists.{all}
 use Rattle.words.specs.Postfix.{arity, trees, oneTree, notOneTree}
-use Rattle.words.specs.Expression.{isExpressionWord, wrongLength, noExpressionWords, expressionRefusals, expressionFault}
+use Rattle.words.specs.Expression.{isExpressionWord, wrongLength, notExpressionWords, expressionRefusals, expressionFault}
 use Rattle.words.proofs.TestLaws.{and-true, or-false, picked}
 use Rattle.words.proofs.RefusalLaws.{none-applies}
 use Rattle.automaton.specs.Numbering.{Port, statesOf, portOf, ownTransitions}
@@ -66,7 +66,7 @@ module _ (a : List ℕ) where
 
   -- the words of an accepted expression
   pub expression-reading : (e : List ℕ) → expressionFault a e ≡ 0 → Reading a 0 e []
-  unfolding noExpressionWords notOneTree
+  unfolding notExpressionWords notOneTree
   expression-reading e h =
       let words = not-false (all (isExpressionWord a) e) (none-applies (expressionRefusals a e) refl h 4) in
       let tree = not-false (oneTree a e) (none-applies (expressionRefusals a e) refl h 5) in

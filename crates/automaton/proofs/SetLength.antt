@@ -1,4 +1,4 @@
--- A state set keeps its number of words, which its automaton's state count gives. Assumes nothing.
+-- A state set keeps its number of words, which its automaton's state count gives.
 use mathlib.Core.Path.{_≡_, refl, _∙_}
 use mathlib.Core.List.{List}
 use Prim.Native.Nat.{ℕ}

@@ -1,5 +1,5 @@
 -- Every tree that reaches an expression's exit is a member of its language: no transition leaves the languages intended for
--- the states. Assumes nothing.
+-- the states.
 use Prim.Native.Nat.{ℕ}
 use mathlib.Core.Path.{_≡_, refl, subst}
 use mathlib.Core.Logic.{inl, inr, _↔_}
@@ -14,12 +14,12 @@ use Rattle.language.specs.Expression.{Expression, Expressions, symbol, empty, u
 use Rattle.language.specs.Membership.{Language, Assignment, constant, Substitutions, atSymbol, atNone, atMore, Member, Members}
 use Rattle.language.proofs.SubstitutionLaws.{itself, assigned, Under, product-out, closure-base, closure-step}
 use Rattle.automaton.specs.Transition.{Transition, onSymbol}
-use Rattle.automaton.specs.Numbering.{epsilons, fan, constantTransitions}
+use Rattle.automaton.specs.Numbering.{epsilons, entryEpsilons, constantTransitions}
 use Rattle.automaton.specs.Reached.{Reaches}
 use Rattle.automaton.proofs.EntryLaws.{to-epsilons, to-constants}
 use Rattle.automaton.proofs.TreeNumbering.{next, exitState, entryStates, entry, exits, childEntries, own, transitionsOf, transitionsOfAll, treeTransitions}
 use Rattle.automaton.proofs.IntendedLanguages.{Intended, Has, has-left, nth, has-nth, block, symbolBlock, languages, languagesAll, behind-part, exit-is, entries-are}
-use Rattle.automaton.proofs.IntendedTransitions.{Intend, Keeps, intended, Into, into-append, into-entry, into-children, keeps-fan}
+use Rattle.automaton.proofs.IntendedTransitions.{Intend, Keeps, intended, Into, into-append, into-entry, into-children, keeps-entryEpsilons}
 
 module _ (cs : List ℕ) (I : Intended) where
   -- ---- the own transitions of each word
@@ -29,7 +29,7 @@ module _ (cs : List ℕ) (I : Intended) where
     λ t i. let d = exit-is cs I F n σ hF t .0 i in out t (d .0, inl (d .1), d .2),
     (
       λ t i. let d = exit-is cs I G g σ hG t .0 i in out t (d .0, inr (d .1), d .2),
-      keeps-fan cs I σ (entryStates cs (union F G) n) (λ c. entry cs F n c ++ entry cs G g c) (entries-are cs I (union F G) n σ h)
+      keeps-entryEpsilons cs I σ (entryStates cs (union F G) n) (λ c. entry cs F n c ++ entry cs G g c) (entries-are cs I (union F G) n σ h)
           (λ c q f. into-append I q (entry cs F n c) (entry cs G g c) (into-entry cs I F n σ hF c q f) (into-entry cs I G g σ hG c q f)),
     ),
   )
@@ -52,9 +52,9 @@ module _ (cs : List ℕ) (I : Intended) where
   keeps-product : (c : ℕ) (F G : Expression) (n : ℕ) (σ : Assignment) → Has I n (languages cs (product c F G) σ) → All (Keeps I) (own cs (product c F G) n)
   keeps-product c F G n σ h = (
     λ t i. exit-is cs I (product c F G) n σ h t .1 (product-out c (Member F) (Member G) σ t (exit-is cs I F n τ hF t .0 i)),
-    all-append (Keeps I) (epsilons (exitState cs G g) (entry cs F n c)) (fan (entryStates cs (product c F G) n) (λ a. but-c a (eqb a c) ++ entry cs G g a))
+    all-append (Keeps I) (epsilons (exitState cs G g) (entry cs F n c)) (entryEpsilons (entryStates cs (product c F G) n) (λ a. but-c a (eqb a c) ++ entry cs G g a))
         (to-epsilons (Keeps I) (exitState cs G g) (entry cs F n c) (into-entry cs I F n τ hF c (exitState cs G g) (λ t i. inl (refl, exit-is cs I G g σ hG t .0 i))))
-        (keeps-fan cs I σ (entryStates cs (product c F G) n) (λ a. but-c a (eqb a c) ++ entry cs G g a) (entries-are cs I (product c F G) n σ h)
+        (keeps-entryEpsilons cs I σ (entryStates cs (product c F G) n) (λ a. but-c a (eqb a c) ++ entry cs G g a) (entries-are cs I (product c F G) n σ h)
         (λ a q f. into-append I q (but-c a (eqb a c)) (entry cs G g a) (into-F a q f (eqb a c) refl) (into-entry cs I G g σ hG a q f))),
   )
     where
@@ -82,10 +82,10 @@ module _ (cs : List ℕ) (I : Intended) where
 
   keeps-closure : (c : ℕ) (F : Expression) (n : ℕ) (σ : Assignment) → Has I n (languages cs (closure c F) σ) → All (Keeps I) (own cs (closure c F) n)
   keeps-closure c F n σ h =
-      all-append (Keeps I) (epsilons (exitState cs F n) (entry cs F n c ++ (x ∷ []))) (fan (entryStates cs (closure c F) n) (λ a. entry cs F n a ++ straight (eqb a c)))
+      all-append (Keeps I) (epsilons (exitState cs F n) (entry cs F n c ++ (x ∷ []))) (entryEpsilons (entryStates cs (closure c F) n) (λ a. entry cs F n a ++ straight (eqb a c)))
       (to-epsilons (Keeps I) (exitState cs F n) (entry cs F n c ++ (x ∷ []))
       (into-append I (exitState cs F n) (entry cs F n c) (x ∷ []) (into-entry cs I F n τ hF c (exitState cs F n) (λ t i. inl (refl, turn t i))) (λ t i. out t (turn t i), tt)))
-      (keeps-fan cs I σ (entryStates cs (closure c F) n) (λ a. entry cs F n a ++ straight (eqb a c)) (entries-are cs I (closure c F) n σ h)
+      (keeps-entryEpsilons cs I σ (entryStates cs (closure c F) n) (λ a. entry cs F n a ++ straight (eqb a c)) (entries-are cs I (closure c F) n σ h)
       (λ a q f. into-append I q (entry cs F n a) (straight (eqb a c)) (into-entry cs I F n τ hF a q (λ t i. widen a t (ℕ-discrete a c) (f t i))) (into-exit a q f (eqb a c) refl)))
     where
       x : ℕ
@@ -134,7 +134,7 @@ module _ (cs : List ℕ) (I : Intended) where
   keeps-symbol f noneᵉ n σ h = tt
   keeps-symbol f (moreᵉ e es) n σ h = (
     λ ts k. let d = children-members ds n σ hs ts k in exit-is cs I (symbol f ds) n σ h (node f ts) .1 (whole ts (d .0) (d .1) (d .2)),
-    keeps-fan cs I σ (entryStates cs (symbol f ds) n) (childEntries cs ds n) (entries-are cs I (symbol f ds) n σ h) (λ c q g. into-children cs I ds n σ hs c q g),
+    keeps-entryEpsilons cs I σ (entryStates cs (symbol f ds) n) (childEntries cs ds n) (entries-are cs I (symbol f ds) n σ h) (λ c q g. into-children cs I ds n σ hs c q g),
   )
     where
       ds : Expressions

@@ -1,5 +1,5 @@
 -- How many states a compiled automaton has: one for each constant or empty word, and for any other word one more than there
--- are constants. From it document 01's limits on expressions. Assumes nothing.
+-- are constants. From it document 01's limits on expressions.
 use Prim.Native.Nat.{ℕ, suc, _+_, _*_}
 use mathlib.Core.Path.{_≡_, refl, _∙_}
 use mathlib.Core.Bool.{Bool, true, false, not, cond}

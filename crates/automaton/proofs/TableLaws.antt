@@ -1,5 +1,4 @@
 -- The words that refusal 8 lets through are exactly the tables of automata over the alphabet, of at most 2,048 words.
--- Assumes nothing.
 use mathlib.Core.Path.{_≡_, ap, ap₂, _∙_, sym, subst}
 use mathlib.Core.Logic.{_↔_}
 use mathlib.Core.Bool.{true, _&&_, false≢true}

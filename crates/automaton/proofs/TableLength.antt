@@ -1,5 +1,5 @@
 -- How long a compiled table is. A word's own transitions take at most two table words more than its children have entries
--- and exits, and a word is the child of one other; so the table has few words more than states. Assumes nothing.
+-- and exits, and a word is the child of one other; so the table has few words more than states.
 use Prim.Native.Nat.{ℕ, zero, suc, _+_, _<_, _≤_}
 use mathlib.Core.Path.{_≡_, refl, ap, sym}
 use mathlib.Core.Bool.{cond}
@@ -13,7 +13,7 @@ use Rattle.words.specs.Lists.{count}
 use Rattle.words.specs.Postfix.{arity}
 use Rattle.words.specs.Expression.{expressionFault}
 use Rattle.automaton.specs.Transition.{Transition, onSymbol, transitionWords, transitionsWords, tableWords}
-use Rattle.automaton.specs.Numbering.{Port, hasEntries, statesOf, portOf, entryFor, epsilons, fan, statesAfter, ownTransitions, transitionsFrom, constantTransitions, lastPort, compiled, symbolTargets, unionTargets, productTargets, closureTargets}
+use Rattle.automaton.specs.Numbering.{Port, hasEntries, statesOf, portOf, entryFor, epsilons, entryEpsilons, statesAfter, ownTransitions, transitionsFrom, constantTransitions, lastPort, compiled, symbolTargets, unionTargets, productTargets, closureTargets}
 use Rattle.automaton.proofs.Ports.{constantsIn, PortIn, Children, child}
 use Rattle.automaton.proofs.OwnTransitions.{Own, leaf, ofSymbol, ofUnion, ofProduct, ofClosure}
 use Rattle.automaton.proofs.Reading.{WordRead, Reading, word, childrenOn, expression-reading, expression-length}
@@ -35,10 +35,10 @@ count-epsilons : (p : ℕ) (qs : List ℕ) → wordCount (epsilons p qs) ≡ len
 count-epsilons p [] = refl
 count-epsilons p (q ∷ qs) = ap suc (count-epsilons p qs)
 
-count-fan : (targets : ℕ → List ℕ) (es : List (ℕ × ℕ)) → wordCount (fan es targets) ≡ total targets (constantsIn es)
-count-fan targets [] = refl
-count-fan targets (e ∷ es) =
-    omega (arith, count-append (epsilons (e .1) (targets (e .0))) (fan es targets), count-epsilons (e .1) (targets (e .0)), count-fan targets es)
+count-entryEpsilons : (targets : ℕ → List ℕ) (es : List (ℕ × ℕ)) → wordCount (entryEpsilons es targets) ≡ total targets (constantsIn es)
+count-entryEpsilons targets [] = refl
+count-entryEpsilons targets (e ∷ es) =
+    omega (arith, count-append (epsilons (e .1) (targets (e .0))) (entryEpsilons es targets), count-epsilons (e .1) (targets (e .0)), count-entryEpsilons targets es)
 
 count-symbol : (f q : ℕ) (ps : List ℕ) (ts : List Transition) → wordCount (onSymbol f ps q ∷ ts) ≡ suc (length ps + wordCount ts)
 count-symbol f q ps ts =
@@ -64,24 +64,24 @@ own-length : {a : List ℕ} {hi w lo n : ℕ} {E : Port} {Ps : List Port} {ts : 
     → Own a hi w E Ps ts → wordCount ts + branch Ps + suc (length (E .entries)) + n ≤ weight Ps + hi + suc (inner Ps)
 own-length x c (leaf l) = omega (arith, x .from, l .states, l .entries)
 own-length {w} {E} x c (ofSymbol {P} {Ps} i f r) =
-    let e = count-symbol (lowByte w) (E .exit) (map (λ Q. Q .exit) (P ∷ Ps)) (fan (E .entries) (symbolTargets (P ∷ Ps))) in
-    omega (arith, e, length-map (P ∷ Ps) (λ Q. Q .exit), go Ps, x .from, i .last, count-fan (symbolTargets (P ∷ Ps)) (E .entries), total-symbol (x .constants) (P ∷ Ps))
+    let e = count-symbol (lowByte w) (E .exit) (map (λ Q. Q .exit) (P ∷ Ps)) (entryEpsilons (E .entries) (symbolTargets (P ∷ Ps))) in
+    omega (arith, e, length-map (P ∷ Ps) (λ Q. Q .exit), go Ps, x .from, i .last, count-entryEpsilons (symbolTargets (P ∷ Ps)) (E .entries), total-symbol (x .constants) (P ∷ Ps))
   where
     go : (Ps : List Port) → branch (P ∷ Ps) ≤ 1
     go [] = omega arith
     go (Q ∷ Ps) = omega arith
 own-length {E} x c (ofUnion {F} {G} i) =
-    omega (arith, x .from, i .last, count-fan (unionTargets F G) (E .entries), total-union (x .constants) F G)
+    omega (arith, x .from, i .last, count-entryEpsilons (unionTargets F G) (E .entries), total-union (x .constants) F G)
 own-length {w} {E} x (child p q) (ofProduct {F} {G} i) =
     let c = lowByte w in
-    let e = count-append (epsilons (G .exit) (entryFor F c)) (fan (E .entries) (productTargets c F G)) in
+    let e = count-append (epsilons (G .exit) (entryFor F c)) (entryEpsilons (E .entries) (productTargets c F G)) in
     let o = lookup-once (F .entries) c (p .constants) in
-    omega (arith, e, count-epsilons (G .exit) (entryFor F c), x .from, i .last, count-fan (productTargets c F G) (E .entries), total-product (x .constants) c F G)
+    omega (arith, e, count-epsilons (G .exit) (entryFor F c), x .from, i .last, count-entryEpsilons (productTargets c F G) (E .entries), total-product (x .constants) c F G)
 own-length {w} {E} x (child p q) (ofClosure {F} i) =
     let c = lowByte w in
-    let e = count-append (epsilons (F .exit) (entryFor F c ++ (E .exit ∷ []))) (fan (E .entries) (closureTargets c (E .exit) F)) in
+    let e = count-append (epsilons (F .exit) (entryFor F c ++ (E .exit ∷ []))) (entryEpsilons (E .entries) (closureTargets c (E .exit) F)) in
     let o = lookup-once (F .entries) c (p .constants) in
-    omega (arith, e, count-epsilons (F .exit) (entryFor F c ++ (E .exit ∷ [])), length-append (entryFor F c) (E .exit ∷ []), x .from, i .last, count-fan (closureTargets c (E .exit) F) (E .entries), total-closure (x .constants) c (E .exit) F)
+    omega (arith, e, count-epsilons (F .exit) (entryFor F c ++ (E .exit ∷ [])), length-append (entryFor F c) (E .exit ∷ []), x .from, i .last, count-entryEpsilons (closureTargets c (E .exit) F) (E .entries), total-closure (x .constants) c (E .exit) F)
 
 -- ---- every word
 

@@ -1,5 +1,5 @@
 -- How many epsilon transitions lead from a word's entries: at most one into each entry of a child, because the entries'
--- constants are distinct. Assumes nothing.
+-- constants are distinct.
 use Prim.Native.Nat.{ℕ, suc, _+_, _≤_}
 use mathlib.Core.Path.{_≡_, refl, _∙_, sym}
 use mathlib.Core.Bool.{Bool, true, false, cond}

@@ -1,5 +1,5 @@
 -- The targets of a word's entry for a constant: the states found for the constant in its children's entries, and how they
--- ascend. Assumes nothing.
+-- ascend.
 use Prim.Native.Nat.{ℕ, suc, _≤_}
 use mathlib.Core.Bool.{Bool, true, false, cond}
 use mathlib.Core.List.{List, [], _∷_, _++_, flatMap}

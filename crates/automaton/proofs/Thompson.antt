@@ -1,5 +1,5 @@
 -- Thompson's theorem for tree automata: the automaton of an expression reaches its final state exactly by the members of the
--- expression's language. Assumes nothing.
+-- expression's language.
 use Prim.Native.Nat.{ℕ, _<_, _≤_}
 use mathlib.Core.Path.{_≡_, sym, subst}
 use mathlib.Core.Logic.{_↔_}

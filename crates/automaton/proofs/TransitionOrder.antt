@@ -1,5 +1,5 @@
 -- Order in the table: behind its symbol transition, if it has one, the epsilon transitions of every word stand "ordered by
--- from and then by to". Assumes nothing.
+-- from and then by to".
 use Prim.Native.Nat.{ℕ, suc, _+_, _<_, _≤_, zero-le}
 use mathlib.Core.Path.{_≡_, subst}
 use mathlib.Core.List.{List, [], _∷_, _++_}
@@ -12,7 +12,7 @@ use Rattle.words.specs.Postfix.{arity}
 use Rattle.words.specs.Expression.{expressionFault}
 use Rattle.words.proofs.Ascending.{Ascending, end, next, ascending-append, ascending-one}
 use Rattle.automaton.specs.Transition.{Transition, onSymbol, epsilon}
-use Rattle.automaton.specs.Numbering.{Port, statesOf, portOf, epsilons, fan, ownTransitions, symbolTargets, unionTargets, productTargets, closureTargets}
+use Rattle.automaton.specs.Numbering.{Port, statesOf, portOf, epsilons, entryEpsilons, ownTransitions, symbolTargets, unionTargets, productTargets, closureTargets}
 use Rattle.automaton.proofs.Ports.{statesIn, Children, noChild, child}
 use Rattle.automaton.proofs.OwnTransitions.{Own, leaf, ofSymbol, ofUnion, ofProduct, ofClosure}
 use Rattle.automaton.proofs.Reading.{Reading, ended, word, childrenOn, expression-reading}
@@ -53,10 +53,10 @@ pub epsilons-ordered : {p lo hi : ℕ} {qs : List ℕ} {ts : List Transition} �
 epsilons-ordered (end h) o = from-earlier (omega arith) o
 epsilons-ordered (next h a) o = toLater h (epsilons-ordered a o)
 
-pub fan-ordered : {lo hi l h : ℕ} (targets : ℕ → List ℕ) (es : List (ℕ × ℕ)) → Ascending lo hi (statesIn es)
-    → ((c : ℕ) → Ascending l h (targets c)) → OrderedFrom lo 0 (fan es targets)
-fan-ordered targets [] s t = none
-fan-ordered {lo} targets (e ∷ es) (next k s) t = from-first lo k (epsilons-ordered (t (e .0)) (fan-ordered targets es s t))
+pub entryEpsilons-ordered : {lo hi l h : ℕ} (targets : ℕ → List ℕ) (es : List (ℕ × ℕ)) → Ascending lo hi (statesIn es)
+    → ((c : ℕ) → Ascending l h (targets c)) → OrderedFrom lo 0 (entryEpsilons es targets)
+entryEpsilons-ordered targets [] s t = none
+entryEpsilons-ordered {lo} targets (e ∷ es) (next k s) t = from-first lo k (epsilons-ordered (t (e .0)) (entryEpsilons-ordered targets es s t))
 
 -- ---- the own transitions of a word
 
@@ -64,23 +64,23 @@ pub own-ordered : {a : List ℕ} {hi w lo n : ℕ} {E : Port} {Ps : List Port} {
     → Children a lo n Ps → Own a hi w E Ps ts → InOrder ts
 own-ordered x c (leaf l) = withoutSymbol none
 own-ordered {E} x c (ofSymbol {P} {Ps} i f r) =
-    withSymbol (from-first 0 zero-le (fan-ordered (symbolTargets (P ∷ Ps)) (E .entries) (i .states) (symbol-ascending c)))
+    withSymbol (from-first 0 zero-le (entryEpsilons-ordered (symbolTargets (P ∷ Ps)) (E .entries) (i .states) (symbol-ascending c)))
 own-ordered {E} x (child p (child q (noChild l))) (ofUnion {F} {G} i) =
     let f : F .exit < G .exit = omega arith in
     let g : G .exit < suc (E .exit) = omega arith in
-    let ts = fan-ordered (unionTargets F G) (E .entries) (i .states) (union-ascending p q) in
+    let ts = entryEpsilons-ordered (unionTargets F G) (E .entries) (i .states) (union-ascending p q) in
     withoutSymbol (from-first 0 zero-le (toLater (le-refl (E .exit)) (fromLater f (from-earlier g ts))))
 own-ordered {w} {E} x (child p (child q (noChild l))) (ofProduct {F} {G} i) =
     let c = lowByte w in
     let f : F .exit < G .exit = omega arith in
     let g : suc (G .exit) ≤ suc (E .exit) = omega arith in
-    let ts = fan-ordered (productTargets c F G) (E .entries) (i .states) (product-ascending c p q) in
+    let ts = entryEpsilons-ordered (productTargets c F G) (E .entries) (i .states) (product-ascending c p q) in
     let us = epsilons-ordered (entryFor-ascending c F p) (from-first (suc (G .exit)) g ts) in
     withoutSymbol (from-first 0 zero-le (toLater (le-refl (E .exit)) (from-earlier f us)))
 own-ordered {w} {E} x (child p (noChild l)) (ofClosure {F} i) =
     let c = lowByte w in
     let g : suc (F .exit) ≤ suc (E .exit) = omega arith in
-    let ts = fan-ordered (closureTargets c (E .exit) F) (E .entries) (i .states) (closure-ascending c p (le-trans l x)) in
+    let ts = entryEpsilons-ordered (closureTargets c (E .exit) F) (E .entries) (i .states) (closure-ascending c p (le-trans l x)) in
     let qs = ascending-append (entryFor-ascending c F p) (ascending-one (le-trans l x) (le-refl (suc (E .exit)))) in
     withoutSymbol (from-first 0 zero-le (epsilons-ordered qs (from-first (suc (F .exit)) g ts)))
 

@@ -1,5 +1,5 @@
 -- Where the transitions of a word start and end: an epsilon transition at an entry of the word or at the exit of a child, a
--- symbol transition in the word's exit; and that no word behind it has such a transition. Assumes nothing.
+-- symbol transition in the word's exit; and that no word behind it has such a transition.
 use Prim.Native.Nat.{ℕ, zero, suc, _+_, _<_, _≤_}
 use mathlib.Core.Path.{refl}
 use mathlib.Core.Logic.{_⊎_, inl, inr}
@@ -11,8 +11,8 @@ use Rattle.words.specs.Postfix.{arity}
 use Rattle.words.proofs.AllLaws.{All, all-append}
 use Rattle.words.proofs.Ascending.{Ascending, next, ascending-le}
 use Rattle.automaton.specs.Transition.{Transition, onSymbol, epsilon}
-use Rattle.automaton.specs.Numbering.{Port, statesOf, portOf, entryFor, epsilons, fan, symbolTargets, unionTargets, productTargets, closureTargets}
-use Rattle.automaton.proofs.EntryLaws.{to-epsilons, to-fan}
+use Rattle.automaton.specs.Numbering.{Port, statesOf, portOf, entryFor, epsilons, entryEpsilons, symbolTargets, unionTargets, productTargets, closureTargets}
+use Rattle.automaton.proofs.EntryLaws.{to-epsilons, to-entryEpsilons}
 use Rattle.automaton.proofs.Ports.{statesIn, PortIn, Stack, push, Children, child, children-le}
 use Rattle.automaton.proofs.OwnTransitions.{Own, leaf, ofSymbol, ofUnion, ofProduct, ofClosure}
 use Rattle.automaton.proofs.Reading.{WordRead, childrenOn}
@@ -64,8 +64,8 @@ module _ (x m : ℕ) (Ps : List Port) where
   from-child : (p : ℕ) (qs : List ℕ) → List·Memᴰ p (exits Ps) → All (OfWord x m Ps) (epsilons p qs)
   from-child p qs k = to-epsilons (OfWord x m Ps) p qs (everywhere (λ q. OfWord x m Ps (epsilon p q)) (λ q. inr k) qs)
 
-  from-own : {lo : ℕ} (targets : ℕ → List ℕ) (es : List (ℕ × ℕ)) → x < lo → Ascending lo m (statesIn es) → All (OfWord x m Ps) (fan es targets)
-  from-own targets es h s = to-fan (OfWord x m Ps) targets es (go es h s)
+  from-own : {lo : ℕ} (targets : ℕ → List ℕ) (es : List (ℕ × ℕ)) → x < lo → Ascending lo m (statesIn es) → All (OfWord x m Ps) (entryEpsilons es targets)
+  from-own targets es h s = to-entryEpsilons (OfWord x m Ps) targets es (go es h s)
     where
       go : {lo : ℕ} (es : List (ℕ × ℕ)) → x < lo → Ascending lo m (statesIn es) → All (λ e. All (λ q. OfWord x m Ps (epsilon (e .1) q)) (targets (e .0))) es
       go [] h s = tt
@@ -86,14 +86,14 @@ own-of {hi} {w} {E} x (ofProduct {F} {G} i) =
     let Ps = F ∷ G ∷ [] in
     let us = from-child (E .exit) hi Ps (G .exit) (entryFor F c) (List·Memᴰ·tail (List·Memᴰ·head refl)) in
     let ts = from-own (E .exit) hi Ps (productTargets c F G) (E .entries) (omega arith) (i .states) in
-    (inr (List·Memᴰ·head refl), all-append (OfWord (E .exit) hi Ps) (epsilons (G .exit) (entryFor F c)) (fan (E .entries) (productTargets c F G)) us ts)
+    (inr (List·Memᴰ·head refl), all-append (OfWord (E .exit) hi Ps) (epsilons (G .exit) (entryFor F c)) (entryEpsilons (E .entries) (productTargets c F G)) us ts)
 own-of {hi} {w} {E} x (ofClosure {F} i) =
     let c = lowByte w in
     let Ps = F ∷ [] in
     let qs = entryFor F c ++ (E .exit ∷ []) in
     let us = from-child (E .exit) hi Ps (F .exit) qs (List·Memᴰ·head refl) in
     let ts = from-own (E .exit) hi Ps (closureTargets c (E .exit) F) (E .entries) (omega arith) (i .states) in
-    all-append (OfWord (E .exit) hi Ps) (epsilons (F .exit) qs) (fan (E .entries) (closureTargets c (E .exit) F)) us ts
+    all-append (OfWord (E .exit) hi Ps) (epsilons (F .exit) qs) (entryEpsilons (E .entries) (closureTargets c (E .exit) F)) us ts
 
 -- ---- every word
 

@@ -1,4 +1,4 @@
--- The words that may stand behind a table's head are exactly the words of transitions over the alphabet. Assumes nothing.
+-- The words that may stand behind a table's head are exactly the words of transitions over the alphabet.
 use mathlib.Core.Path.{_≡_, refl, ap, ap₂, _∙_, sym}
 use mathlib.Core.Logic.{_⊎_, inl, inr}
 use mathlib.Core.Bool.{Bool, true, _&&_, _||_, or-true as or-right}

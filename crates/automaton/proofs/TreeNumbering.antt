@@ -1,5 +1,5 @@
 -- The numbered automaton of an expression as a tree: the states and transitions of each part from its first free state n
--- on, over the constants cs. Assumes nothing.
+-- on, over the constants cs.
 use Prim.Native.Nat.{ℕ, suc, _+_}
 use mathlib.Core.List.{List, [], _∷_, _++_, map, List·Memᴰ}
 use lib.ListN.{length}

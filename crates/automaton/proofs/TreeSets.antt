@@ -1,5 +1,5 @@
 -- The state set that the nodes of a tree make bottom-up, each from its children's, holds exactly the states that the tree
--- reaches. Assumes nothing.
+-- reaches.
 use mathlib.Core.Path.{_≡_, refl}
 use mathlib.Core.Logic.{_↔_}
 use mathlib.Core.Bool.{true, false≢true}

@@ -1,5 +1,4 @@
 -- The automaton that `compiled` numbers word by word is the one numbered as a tree, for every expression over an alphabet.
--- Assumes nothing.
 use Prim.Native.Nat.{ℕ, suc, _+_, _-_, _≤_}
 use mathlib.Core.Path.{_≡_, refl, sym, _∙_, ap, ap₂}
 use mathlib.Core.List.{List, [], _∷_, _++_, reverseAux, append-assoc, append-nil}

@@ -1,5 +1,5 @@
 -- The numbered Thompson tree automaton of a rule, word by word (document 01, "Numbered automaton"; document 000, section
--- 3). Assumes nothing.
+-- 3).
 use Prim.Native.Nat.{ℕ, suc, _+_, _-_}
 use mathlib.Core.List.{List, [], _∷_, _++_, map, flatMap, reverse}
 use mathlib.Core.Bool.{Bool, not, cond}
@@ -56,9 +56,9 @@ abbrev pub epsilons : ℕ → List ℕ → List Transition
 epsilons p qs = map (λ q. epsilon p q) qs
 
 -- empty moves from each entry to the states that `targets` gives for its constant
-abbrev pub fan : List (ℕ × ℕ) → (ℕ → List ℕ) → List Transition
-fan [] targets = []
-fan (e ∷ es) targets = epsilons (e .1) (targets (e .0)) ++ fan es targets
+abbrev pub entryEpsilons : List (ℕ × ℕ) → (ℕ → List ℕ) → List Transition
+entryEpsilons [] targets = []
+entryEpsilons (e ∷ es) targets = epsilons (e .1) (targets (e .0)) ++ entryEpsilons es targets
 
 -- the transitions of a word with states E over its children's states, "ordered by from and then by to", and the states to
 -- which E's entry for a constant leads
@@ -68,14 +68,14 @@ abbrev pub symbolTargets : List Port → ℕ → List ℕ
 symbolTargets Ps b = flatMap (λ P. entryFor P b) Ps
 
 abbrev pub symbolTransitions : ℕ → Port → List Port → List Transition
-symbolTransitions f E Ps = onSymbol f (map (λ P. P .exit) Ps) (E .exit) ∷ fan (E .entries) (symbolTargets Ps)
+symbolTransitions f E Ps = onSymbol f (map (λ P. P .exit) Ps) (E .exit) ∷ entryEpsilons (E .entries) (symbolTargets Ps)
 
 -- "Union: the same to both parts; both exits to E's exit."
 abbrev pub unionTargets : Port → Port → ℕ → List ℕ
 unionTargets F G b = entryFor F b ++ entryFor G b
 
 abbrev pub unionTransitions : Port → Port → Port → List Transition
-unionTransitions E F G = epsilon (F .exit) (E .exit) ∷ epsilon (G .exit) (E .exit) ∷ fan (E .entries) (unionTargets F G)
+unionTransitions E F G = epsilon (F .exit) (E .exit) ∷ epsilon (G .exit) (E .exit) ∷ entryEpsilons (E .entries) (unionTargets F G)
 
 -- "Product: each entry to G's; each but c's to F's; G's exit to F's entry for c; F's exit to E's exit."
 abbrev pub productTargets : ℕ → Port → Port → ℕ → List ℕ
@@ -83,7 +83,7 @@ productTargets c F G b = cond (eqb b c) [] (entryFor F b) ++ entryFor G b
 
 abbrev pub productTransitions : ℕ → Port → Port → Port → List Transition
 productTransitions c E F G =
-    epsilon (F .exit) (E .exit) ∷ (epsilons (G .exit) (entryFor F c) ++ fan (E .entries) (productTargets c F G))
+    epsilon (F .exit) (E .exit) ∷ (epsilons (G .exit) (entryFor F c) ++ entryEpsilons (E .entries) (productTargets c F G))
 
 -- "Closure: each entry to F's; E's entry for c to E's exit; F's exit to F's entry for c and to E's exit."
 abbrev pub closureTargets : ℕ → ℕ → Port → ℕ → List ℕ
@@ -91,7 +91,7 @@ closureTargets c x F b = entryFor F b ++ cond (eqb b c) (x ∷ []) []
 
 abbrev pub closureTransitions : ℕ → Port → Port → List Transition
 closureTransitions c E F =
-    epsilons (F .exit) (entryFor F c ++ (E .exit ∷ [])) ++ fan (E .entries) (closureTargets c (E .exit) F)
+    epsilons (F .exit) (entryFor F c ++ (E .exit ∷ [])) ++ entryEpsilons (E .entries) (closureTargets c (E .exit) F)
 
 -- child i, where there is one
 abbrev pub childPort : List Port → ℕ → Port

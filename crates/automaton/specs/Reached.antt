@@ -1,5 +1,4 @@
 -- Which states are reached (document 01, "Marks"): at a node from its children's state sets, and by a whole tree.
--- Assumes nothing.
 use Prim.Native.Nat.{ℕ}
 use mathlib.Core.Path.{_≡_}
 use mathlib.Core.Bool.{true}

@@ -1,4 +1,4 @@
--- State sets (document 01's marks of one element): a node's set from its children's. Assumes nothing.
+-- State sets (document 01's marks of one element): a node's set from its children's.
 use Prim.Native.Nat.{ℕ, zero, suc, _+_, _/_, _%_, _^_}
 use mathlib.Core.List.{List, [], _∷_}
 use mathlib.Core.Bool.{Bool, true, false, not, cond, _&&_, _||_}

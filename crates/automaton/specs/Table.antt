@@ -1,4 +1,4 @@
--- Tables (document 01, kinds 8 to 11): which words are a table for an alphabet, refusal 8. Assumes nothing.
+-- Tables (document 01, kinds 8 to 11): which words are a table for an alphabet, refusal 8.
 use Prim.Native.Nat.{ℕ, zero, suc, _<_, _≤_}
 use mathlib.Core.Path.{_≡_}
 use mathlib.Core.List.{List, [], _∷_}

@@ -1,4 +1,4 @@
--- What holds of an alphabet and a rule that refusals 1 to 5 let pass. Assumes nothing.
+-- What holds of an alphabet and a rule that refusals 1 to 5 let pass.
 use mathlib.Core.Path.{_≡_, refl, ap, _∙_, sym}
 use mathlib.Core.Bool.{true, false}
 use mathlib.Core.List.{List, [], _∷_, _++_}
@@ -10,7 +10,7 @@ use borrow.Author.Tests.{not-false}
 use Rattle.words.specs.Lists.{all}
 use Rattle.words.specs.Alphabet.{constantsOf, alphabetFault}
 use Rattle.words.specs.Postfix.{oneTree, notOneTree}
-use Rattle.words.specs.Expression.{isExpressionWord, noExpressionWords, expressionRefusals, expressionFault}
+use Rattle.words.specs.Expression.{isExpressionWord, notExpressionWords, expressionRefusals, expressionFault}
 use Rattle.words.proofs.RefusalLaws.{conditionOf, none-applies}
 use Rattle.words.proofs.ListLaws.{sets-whole}
 use Rattle.words.proofs.AcceptedAlphabet.{alphabet-accepted}
@@ -24,7 +24,7 @@ pub record AcceptedExpression (a e : List ℕ) : Type 0 where
   pub shape : oneTree a e ≡ true
 
 pub expression-accepted : (a e : List ℕ) → expressionFault a e ≡ 0 → AcceptedExpression a e
-unfolding noExpressionWords notOneTree
+unfolding notExpressionWords notOneTree
 expression-accepted a e h =
     let not-so : (n : ℕ) → conditionOf n (expressionRefusals a e) ≡ false = none-applies (expressionRefusals a e) refl h in
     let l = expression-length a e h in

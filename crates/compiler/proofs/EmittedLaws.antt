@@ -1,5 +1,5 @@
 -- Laws of the loop that writes the own transitions of a rule's words: a stack of ports in an array, one word more, and the
--- whole rule. Assumes nothing.
+-- whole rule.
 use mathlib.Core.Path.{_≡_, refl, ap, ap₂, _∙_, sym, subst}
 use mathlib.Core.Bool.{true}
 use mathlib.Core.List.{List, [], _∷_, _++_, reverse, reverseAux, reverseAux-append, append-assoc, append-nil}

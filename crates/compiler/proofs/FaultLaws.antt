@@ -1,4 +1,4 @@
--- Compile's conditions 6 and 7 of what the code counts, and the answer and the table slice of a call. Assumes nothing.
+-- Compile's conditions 6 and 7 of what the code counts, and the answer and the table slice of a call.
 use mathlib.Core.Path.{_≡_, _∙_, sym}
 use mathlib.Core.Bool.{true, false}
 use mathlib.Core.List.{List, [], _∷_}

@@ -1,5 +1,5 @@
 -- What the emitter asks of the constants holds of an accepted alphabet's: each stands once, and the c of a rule word is one
--- of them. Assumes nothing.
+-- of them.
 use mathlib.Core.Path.{_≡_, refl, ap, _∙_, sym}
 use mathlib.Core.Bool.{true}
 use mathlib.Core.List.{List, [], _∷_, List·Memᴰ, List·Memᴰ·head, List·Memᴰ·tail}

@@ -1,5 +1,4 @@
 -- Laws of the states of rule words: how many each has, the loop that adds them, and a word's port as a number.
--- Assumes nothing.
 use mathlib.Core.Path.{_≡_, refl, ap, ap₂, _∙_, sym}
 use mathlib.Core.Bool.{Bool, true, false, cond}
 use mathlib.Core.List.{List, [], _∷_}

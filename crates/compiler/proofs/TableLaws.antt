@@ -1,4 +1,4 @@
--- Laws of a rule's table: the last word's states, and the table's words in three parts. Assumes nothing.
+-- Laws of a rule's table: the last word's states, and the table's words in three parts.
 use mathlib.Core.Path.{_≡_, refl, ap, ap₂, _∙_, sym, subst}
 use mathlib.Core.Bool.{true}
 use mathlib.Core.List.{List, [], _∷_, _++_}

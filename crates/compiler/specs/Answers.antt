@@ -1,4 +1,4 @@
--- Compile's answer as document 01 has it: a refusal's number, or the table's word count. Assumes nothing.
+-- Compile's answer as document 01 has it: a refusal's number, or the table's word count.
 use mathlib.Core.List.{[], _∷_}
 use Rattle.words.specs.Answer.{Answer, refused, accepted}
 use Rattle.compiler.specs.declared.Compiled.{Compiled}

@@ -1,4 +1,4 @@
--- What the compiler's inner functions are given. It serves these functions. Assumes nothing.
+-- What the compiler's inner functions are given. It serves these functions.
 use Prim.Native.Nat.{ℕ, _<_, _≤_}
 use mathlib.Core.Path.{_≡_}
 use mathlib.Core.Bool.{true}

@@ -1,4 +1,4 @@
--- Laws of the constants' symbol moves into entries, and of the loop that writes them. Assumes nothing.
+-- Laws of the constants' symbol moves into entries, and of the loop that writes them.
 use mathlib.Core.Path.{_≡_, refl, ap, _∙_, sym}
 use mathlib.Core.List.{List, [], _∷_, _++_}
 use Prim.Native.Nat.{ℕ, suc, _+_, _%_, _<_, _≤_}

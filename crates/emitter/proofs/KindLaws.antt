@@ -1,4 +1,4 @@
--- Which own transitions a word has, told by its kind number. Assumes nothing.
+-- Which own transitions a word has, told by its kind number.
 use mathlib.Core.Path.{_≡_, refl, ap, _∙_, sym}
 use mathlib.Core.List.{List, [], _∷_}
 use Prim.Native.Nat.{ℕ}

@@ -1,6 +1,6 @@
 pub mod WritingLaws
 pub mod EntryLaws
-pub mod FanLaws
+pub mod EntryEpsilonLaws
 pub mod OwnLaws
 pub mod SourceLaws
 pub mod ConstantLaws

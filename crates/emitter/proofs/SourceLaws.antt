@@ -1,4 +1,4 @@
--- Laws of the part states of a symbol move, and of the loop that writes them. Assumes nothing.
+-- Laws of the part states of a symbol move, and of the loop that writes them.
 use mathlib.Core.Path.{_≡_, refl, ap, _∙_, sym}
 use mathlib.Core.List.{List, [], _∷_, map}
 use Prim.Native.Nat.{ℕ, _+_, _<_, _≤_}

@@ -1,4 +1,4 @@
--- Laws of words written one after the other. Assumes nothing.
+-- Laws of words written one after the other.
 use mathlib.Core.Path.{_≡_, refl, _∙_, sym}
 use mathlib.Core.List.{List, [], _∷_, _++_}
 use Prim.Native.Nat.{ℕ, _+_, _≤_}

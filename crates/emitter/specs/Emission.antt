@@ -1,5 +1,4 @@
 -- What the emitter's inner functions write for one constant, and what they are given. It serves these functions.
--- Assumes nothing.
 use Prim.Native.Nat.{ℕ, _+_, _<_, _≤_}
 use mathlib.Core.Path.{_≡_}
 use mathlib.Core.List.{List, [], _∷_, _++_}

@@ -1,5 +1,4 @@
 -- Words written one after the other into a slice, as far as it reaches. It serves the inner functions that write a table.
--- Assumes nothing.
 use Prim.Native.Nat.{ℕ, _+_, _≤_}
 use mathlib.Core.Path.{_≡_}
 use mathlib.Core.List.{List}

@@ -2,7 +2,7 @@
 ghost use Prim.Native.Nat.{suc, _+_, _≤_, _<_};
 ghost use lib.ListN.{length, getD};
 ghost use Rattle.automaton.specs.Transition.{transitionsWords};
-ghost use Rattle.automaton.specs.Numbering.{numbered, epsilons, fan, symbolTargets};
+ghost use Rattle.automaton.specs.Numbering.{numbered, epsilons, entryEpsilons, symbolTargets};
 ghost use Rattle.emitter.specs.Writing.{Wrote, lastIndex};
 ghost use Rattle.ports.specs.Ports.{Low, statesIn, portsIn};
 ghost use Rattle.emitter.specs.Emission.{Emits, productEntries, closureEntries, targetsIn};
@@ -148,7 +148,7 @@ pub(crate) fn push_entries(
     requires { ⌜ 1 ≤ length (now ports) ⌝ }
     ensures { λ r. ⌜
         Wrote 80 at
-        (transitionsWords (fan (numbered (suc exit) (now (constants .entry)))
+        (transitionsWords (entryEpsilons (numbered (suc exit) (now (constants .entry)))
         (targetsIn (now (constants .entry)) (now (ports .entry)) exit targets)))
         (now (out .entry)) (now (out .exit)) r
         ⌝ }

@@ -1,4 +1,4 @@
--- Laws of numbers in decimal: a number of one digit, one of several, and how many digits there are. Assumes nothing.
+-- Laws of numbers in decimal: a number of one digit, one of several, and how many digits there are.
 use mathlib.Core.Path.{_≡_, refl, ap, _∙_, sym}
 use mathlib.Core.Bool.{Bool, true, false, cond}
 use mathlib.Core.List.{List, [], _∷_, _++_}

@@ -1,5 +1,4 @@
--- Laws of words in bytes, of the loop that keeps them as far as a slice reaches, and of bytes that come in parts. Assumes
--- nothing.
+-- Laws of words in bytes, of the loop that keeps them as far as a slice reaches, and of bytes that come in parts.
 use mathlib.Core.Path.{_≡_, refl, ap, ap₂, _∙_, sym}
 use mathlib.Core.List.{List, [], _∷_, _++_}
 use mathlib.Core.Bool.{true}

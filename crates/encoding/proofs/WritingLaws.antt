@@ -1,4 +1,4 @@
--- Laws of bytes written one after the other. Assumes nothing.
+-- Laws of bytes written one after the other.
 use mathlib.Core.Path.{_≡_, refl, ap, _∙_, sym}
 use mathlib.Core.List.{List, [], _∷_, _++_}
 use Prim.Native.Nat.{ℕ, _+_, _<_, _≤_}

@@ -1,4 +1,4 @@
--- Numbers in decimal, without leading zeros, as bytes. Assumes nothing.
+-- Numbers in decimal, without leading zeros, as bytes.
 use Prim.Native.Nat.{ℕ, zero, suc, _+_, _/_, _%_}
 use mathlib.Core.List.{List, [], _∷_, _++_}
 use mathlib.Core.Bool.{cond}

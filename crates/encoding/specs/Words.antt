@@ -1,4 +1,4 @@
--- Words in bytes, low byte first. Assumes nothing.
+-- Words in bytes, low byte first.
 use Prim.Native.Nat.{ℕ, _+_, _*_, _/_}
 use mathlib.Core.List.{List}
 use mathlib.Core.Bool.{Bool}

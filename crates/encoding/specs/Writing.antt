@@ -1,4 +1,4 @@
--- Bytes written one after the other into a slice that has room for them. It serves the inner functions. Assumes nothing.
+-- Bytes written one after the other into a slice that has room for them. It serves the inner functions.
 use Prim.Native.Nat.{ℕ, _+_, _≤_}
 use mathlib.Core.Path.{_≡_}
 use mathlib.Core.List.{List}

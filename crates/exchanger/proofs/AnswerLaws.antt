@@ -1,5 +1,4 @@
 -- The answer and both slices of a call: as they were where it is refused, and otherwise what the new tree and its outcomes give.
--- Assumes nothing.
 use mathlib.Core.Path.{_≡_, _∙_, sym}
 use mathlib.Core.List.{List, [], _∷_, flatten, map}
 use Prim.Native.Nat.{ℕ, _*_}

@@ -1,5 +1,5 @@
 -- What is known of the numbers of an accepted call: where the element's subtree begins, the result's length, and that everything
--- lies inside the two slices. Assumes nothing.
+-- lies inside the two slices.
 use mathlib.Core.Path.{_≡_, ap, _∙_, sym}
 use mathlib.Core.Bool.{true}
 use mathlib.Core.List.{List, _++_}

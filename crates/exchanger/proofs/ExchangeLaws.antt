@@ -1,5 +1,5 @@
 -- The loops of an accepted Exchange leave the state sets of the outcomes in the marks and answer how many are recomputed,
--- whatever the stored marks are; and the words of the chapter are those of the new tree. Assumes nothing.
+-- whatever the stored marks are; and the words of the chapter are those of the new tree.
 use mathlib.Core.Path.{_≡_, refl, ap, ap₂, _∙_, sym, subst}
 use mathlib.Core.Bool.{Bool, true, false, not, cond}
 use mathlib.Core.List.{List, [], _∷_, _++_, flatten, map}
@@ -26,11 +26,11 @@ use Rattle.exchanger.proofs.UpwardLoop.{upwards}
 use Rattle.exchanger.proofs.ExchangeLoops.{movedSets, replacedSets, exchangedSets, exchangedSets-outcomes, length-movedSets, length-replacedSets, words-behind}
 use Rattle.nodes.specs.Nodes.{setFrom, markedFrom}
 use Rattle.nodes.proofs.MarkLaws.{Holding, holding-set, setFrom-rows, markedAt-rows}
-use Rattle.exchanger.specs.declared.climb.Rise.{Rise}
-use Rattle.exchanger.specs.Climbing.{climbStep, climbFrom, foot}
+use Rattle.exchanger.specs.declared.propagate.Progress.{Progress}
+use Rattle.exchanger.specs.Propagation.{propagateStep, propagateFrom, initial}
 use Rattle.exchanger.specs.Exchanging.{exchangedFrom}
-use Rattle.exchanger.proofs.ClimbLaws.{recomputed-is, step-ancestor, climb-goes, climb-stops}
-use Rattle.exchanger.proofs.UpwardLaws.{Upward, Same, climb-upwards}
+use Rattle.exchanger.proofs.PropagateLaws.{recomputed-is, step-ancestor, propagate-continues, propagate-stops}
+use Rattle.exchanger.proofs.UpwardLaws.{Upward, Same, propagate-upwards}
 use Rattle.exchanger.proofs.TailLaws.{tail-filled}
 use Rattle.exchanger.proofs.CallLaws.{Numbers, numbers, accepted-call, length-used, chapter-fits}
 use Rattle.exchanger.proofs.MovedLaws.{gapSets, behindUse}
@@ -169,9 +169,9 @@ module _ (a table chapter marks : List ℕ) (n e : ℕ) (xs : List ℕ) (ok : fa
     tests : sameWords (setAt rows (s + length xs - 1)) (stored e) ≡ sameWords new old
     tests = ap₂ sameWords (root-is ∙ sym new-is) (sym old-is)
 
-    behind : (t : Rise) → t .reach ≡ 1 → t .recomputed ≡ length xs
+    behind : (t : Progress) → t .reach ≡ 1 → t .recomputed ≡ length xs
         → Same a table tree used e rest above
-        (climbFrom a table tree (suc (s + m)) left work t) (upwards a table tree above (s + length xs) left rows (length xs))
+        (propagateFrom a table tree (suc (s + m)) left work t) (upwards a table tree above (s + length xs) left rows (length xs))
     behind t r c =
         let g = accepted-call a table chapter marks n e xs ok in
         let at : Upward a table tree used e rest above (s + length xs) (e + 1) 0 left work rows = record {
@@ -189,30 +189,30 @@ module _ (a table chapter marks : List ℕ) (n e : ℕ) (xs : List ℕ) (ok : fa
         let first : suc (s + m) ≡ s + length xs = omega (arith, some) in
         rw first
         (subst
-        (λ (i : ℕ). Same a table tree used e rest above (climbFrom a table tree (s + length xs) left work t)
+        (λ (i : ℕ). Same a table tree used e rest above (propagateFrom a table tree (s + length xs) left work t)
         (upwards a table tree above (s + length xs) left rows i))
-        c (climb-upwards a table tree used e rest above left (s + length xs) (e + 1) 0 work rows t r at))
+        c (propagate-upwards a table tree used e rest above left (s + length xs) (e + 1) 0 work rows t r at))
 
     -- ---- both loops
 
-    abbrev climbed : List ℕ × ℕ
-    climbed = climbFrom a table tree (s + m) (suc left) before (foot m)
+    abbrev propagated : List ℕ × ℕ
+    propagated = propagateFrom a table tree (s + m) (suc left) before (initial m)
 
-    climbed-is : exchangedFrom a table tree s (s + length xs - 1) moved ≡ climbed
+    propagateed-is : exchangedFrom a table tree s (s + length xs - 1) moved ≡ propagated
     unfolding exchangedFrom
-    climbed-is =
+    propagateed-is =
         let at : s + length xs - 1 ≡ s + m = omega (arith, some) in
         let count : s + length xs - 1 - s ≡ m = omega (arith, some) in
         let more : length tree - (s + m) ≡ suc left = omega (arith, some, length-tree) in
-        ap₂ (λ (i c : ℕ). climbFrom a table tree i (length tree - i) (markedFrom a table tree s c moved) (foot c)) at count
-        ∙ ap (λ (i : ℕ). climbFrom a table tree (s + m) i before (foot m)) more
+        ap₂ (λ (i c : ℕ). propagateFrom a table tree i (length tree - i) (markedFrom a table tree s c moved) (initial c)) at count
+        ∙ ap (λ (i : ℕ). propagateFrom a table tree (s + m) i before (initial m)) more
 
     -- the root is worked out, and the loop is behind it
     step-root : (b : Bool) → sameWords new old ≡ b
-        → (work, record { reach = 1; recomputed = m + 1; goes = not b }) ≡ climbStep a table tree (s + m) before (foot m)
+        → (work, record { reach = 1; recomputed = m + 1; active = not b }) ≡ propagateStep a table tree (s + m) before (initial m)
     unfolding markedFrom
     step-root b h =
-        step-ancestor a table tree (s + m) before (foot m) _ refl (omega arith) (work, not b) (recomputed-is a table tree (s + m) before b h)
+        step-ancestor a table tree (s + m) before (initial m) _ refl (omega arith) (work, not b) (recomputed-is a table tree (s + m) before b h)
 
     abbrev up : List StateSet × ℕ
     up = upwards a table tree above (s + length xs) left rows (length xs)
@@ -227,16 +227,16 @@ module _ (a table chapter marks : List ℕ) (n e : ℕ) (xs : List ℕ) (ok : fa
         ∙ ap (λ (b : Bool). cond b (rows, length xs) up) tests
 
     exchanged : Same a table tree used e rest above (exchangedFrom a table tree s (s + length xs - 1) moved) (exchangedSets a table stored used e xs gap)
-    exchanged = rw (climbed-is, sets-is) (go (tested (sameWords new old)))
+    exchanged = rw (propagateed-is, sets-is) (go (tested (sameWords new old)))
       where
         count : m + 1 ≡ length xs
         count = omega (arith, some)
 
-        go : Tested (sameWords new old) → Same a table tree used e rest above climbed (cond (sameWords new old) (rows, length xs) up)
+        go : Tested (sameWords new old) → Same a table tree used e rest above propagated (cond (sameWords new old) (rows, length xs) up)
         go (holds b) =
-            rw (climb-stops a table tree (s + m) before (foot m) left work _ (step-root true b) refl, b) (record { sets = work-holds; count = count })
+            rw (propagate-stops a table tree (s + m) before (initial m) left work _ (step-root true b) refl, b) (record { sets = work-holds; count = count })
         go (fails b) =
-            rw (climb-goes a table tree (s + m) before (foot m) left work _ (step-root false b) refl, b) (behind _ refl count)
+            rw (propagate-continues a table tree (s + m) before (initial m) left work _ (step-root false b) refl, b) (behind _ refl count)
 
     pub left-outcomes : (marks′ : List ℕ) (count : ℕ)
         → (marks′, count) ≡ exchangedFrom a table (splice a (take n chapter) e xs) (startOf a (take n chapter) e) (startOf a (take n chapter) e + length xs - 1) moved

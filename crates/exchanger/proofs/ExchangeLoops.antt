@@ -1,6 +1,6 @@
 -- What the loops of Exchange do, over the list of state sets: the sets move, those of the replacement are recomputed node by
 -- node, its root is compared with the old element's set as it was stored, and the loop behind goes upwards. The sets are then those of
--- the outcomes, and the count is theirs, whatever the stored sets are. Assumes nothing.
+-- the outcomes, and the count is theirs, whatever the stored sets are.
 use mathlib.Core.Path.{_≡_, refl, ap, ap₂, _∙_, sym, subst}
 use mathlib.Core.Bool.{true, cond}
 use mathlib.Core.List.{List, [], _∷_, _++_, map, append-assoc, head-eq-of-cons-eq}
@@ -18,8 +18,8 @@ use Rattle.words.proofs.StackLaws.{read, Read, length-values}
 use Rattle.words.proofs.ChildLaws.{numbers, numbers-more, stack-below, stack-numbers}
 use Rattle.automaton.specs.StateSet.{StateSet}
 use Rattle.operations.specs.Marks.{nodeSet, nodeSets, sameWords}
-use Rattle.operations.specs.Exchange.{Outcome, recomputed, setIn, recomputedIn, keptFrom, climb, rootSet, outcomesBehind, outcomesAfter}
-use Rattle.operations.proofs.ClimbLaws.{sets-kept, count-kept}
+use Rattle.operations.specs.Exchange.{Outcome, recomputed, setIn, recomputedIn, keptFrom, propagate, rootSet, outcomesBehind, outcomesAfter}
+use Rattle.operations.proofs.PropagateLaws.{sets-kept, count-kept}
 use Rattle.operations.proofs.OutcomeLaws.{sets-recomputed, root-read}
 use Rattle.operations.proofs.OutcomeParts.{recomputed-parts}
 use Rattle.nodes.proofs.LoopLaws.{setAt, setFrom, Recomputing, recomputing-none, recomputing-more}
@@ -192,4 +192,4 @@ module _ (a table : List ℕ) (stored : ℕ → StateSet) (ch : List ℕ) (e : �
             (ap (take (s + length x)) replacedSets-are ∙ take-at head (listFrom stored (e + 1) (length behind)) (s + length x) length-head))
           where
             up : List Outcome
-            up = climb a table stored (isAncestor a ch e) (e + 1) behind (rootSet a table x ∷ σ)
+            up = propagate a table stored (isAncestor a ch e) (e + 1) behind (rootSet a table x ∷ σ)

@@ -1,8 +1,8 @@
 pub mod UpwardLoop
 pub mod ExchangeLoops
 pub mod TailLaws
-pub mod ClimbLaws
-pub mod RiseLaws
+pub mod PropagateLaws
+pub mod ProgressLaws
 pub mod UpwardLaws
 pub mod CallLaws
 pub mod MovedLaws

@@ -1,5 +1,5 @@
 -- The marks whose tail has moved hold the state sets that the loops of Exchange begin with: those before the place, whatever
--- stands in the gap, the old element's at its end, and those behind. Assumes nothing.
+-- stands in the gap, the old element's at its end, and those behind.
 use mathlib.Core.Path.{_≡_, refl, ap, ap₂, _∙_, sym}
 use mathlib.Core.List.{List, [], _∷_, _++_, flatten, append-assoc}
 use Prim.Native.Nat.{ℕ, suc, _+_, _-_, _*_, max}

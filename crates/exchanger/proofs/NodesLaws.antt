@@ -1,5 +1,5 @@
 -- Laws of the steps that recompute nodes behind an exchange: what each step asks, shown of what the first one asks, and what
--- they give together. Assumes nothing.
+-- they give together.
 use mathlib.Core.Path.{_≡_, refl, ap, _∙_}
 use mathlib.Core.List.{List, reverse}
 use Prim.Native.Nat.{ℕ, _-_, _≤_}
@@ -10,7 +10,7 @@ use Rattle.nodes.specs.Nodes.{rootsOf, Held, Stackable, markedFrom}
 use Rattle.nodes.specs.Marking.{Prepared, AtNodes}
 use Rattle.nodes.proofs.WorkableLaws.{table-few, workable-long}
 use Rattle.nodes.proofs.NodesLaws.{nothing-prepared}
-use Rattle.exchanger.specs.Climbing.{climbFrom, foot, ClimbStart}
+use Rattle.exchanger.specs.Propagation.{propagateFrom, initial, PropagationStart}
 use Rattle.exchanger.specs.Exchanging.{exchangedFrom, Exchangeable}
 
 module _ {a table ch : List ℕ} {start root : ℕ} {marks : List ℕ} (g : Exchangeable a table ch start root marks) where
@@ -37,10 +37,10 @@ module _ {a table ch : List ℕ} {start root : ℕ} {marks : List ℕ} (g : Exch
         prepared = nothing-prepared (l ∙ length-replicate {A = ℕ} 4100 0) (omega arith) s;
       }
 
-  pub nodes-climb : {index : List ℕ} → index ≡ indexOf table → {marks′ array : List ℕ} {height : ℕ} {keys known places owners rows pending : List ℕ}
+  pub nodes-propagate : {index : List ℕ} → index ≡ indexOf table → {marks′ array : List ℕ} {height : ℕ} {keys known places owners rows pending : List ℕ}
       → length marks′ ≡ length marks → Prepared a table ch root marks′ array height keys known places owners rows pending
-      → ClimbStart a table index ch root marks′ array height (root - start) keys known places owners rows pending
-  nodes-climb q m p =
+      → PropagationStart a table index ch root marks′ array height (root - start) keys known places owners rows pending
+  nodes-propagate q m p =
       let inside = g .inside in
       let few = g .workable .tree .few in
       record {
@@ -55,7 +55,7 @@ module _ {a table ch : List ℕ} {start root : ℕ} {marks : List ℕ} (g : Exch
       }
 
 pub nodes-exchanged : (a table ch : List ℕ) (start root : ℕ) (marks work : List ℕ) → work ≡ markedFrom a table ch start (root - start) marks
-    → (r : List ℕ × ℕ) → r ≡ climbFrom a table ch root (length ch - root) work (foot (root - start)) → r ≡ exchangedFrom a table ch start root marks
+    → (r : List ℕ × ℕ) → r ≡ propagateFrom a table ch root (length ch - root) work (initial (root - start)) → r ≡ exchangedFrom a table ch start root marks
 unfolding exchangedFrom
 nodes-exchanged a table ch start root marks work w r p =
-    p ∙ ap (λ (m : List ℕ). climbFrom a table ch root (length ch - root) m (foot (root - start))) w
+    p ∙ ap (λ (m : List ℕ). propagateFrom a table ch root (length ch - root) m (initial (root - start))) w

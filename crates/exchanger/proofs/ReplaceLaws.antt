@@ -1,5 +1,5 @@
 -- The steps of an accepted Exchange, with the numbers that the code works out: what each step asks, and what both slices and the
--- answer are in the end. Assumes nothing.
+-- answer are in the end.
 use mathlib.Core.Path.{_≡_, ap, ap₂, _∙_, sym}
 use mathlib.Core.List.{List, _++_}
 use Prim.Native.Nat.{ℕ, _+_, _-_, _*_}

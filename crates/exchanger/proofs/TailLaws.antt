@@ -1,5 +1,4 @@
 -- Laws of a slice whose tail moves: what the move and the zeros leave, and what stands there once the gap is filled.
--- Assumes nothing.
 use mathlib.Core.Path.{_≡_, ap, ap₂, _∙_, sym}
 use mathlib.Core.List.{List, _++_, append-assoc}
 use Prim.Native.Nat.{ℕ, _+_, _-_, max}

@@ -1,5 +1,5 @@
 -- The loop behind a replaced subtree works in the marks and tells ancestors by a counter. It does what the loop over the list of
--- state sets does, which asks who is an ancestor. Assumes nothing.
+-- state sets does, which asks who is an ancestor.
 use mathlib.Core.Path.{_≡_, refl, ap, ap₂, _∙_, sym, subst}
 use mathlib.Core.Bool.{Bool, true, false}
 use mathlib.Core.List.{List}
@@ -18,9 +18,9 @@ use Rattle.nodes.proofs.LoopLaws as loops
 use Rattle.exchanger.proofs.UpwardLoop.{upwards, upwards-beside, upwards-last, upwards-onward}
 use Rattle.nodes.specs.Nodes.{setFrom, markedAt}
 use Rattle.nodes.proofs.MarkLaws.{Holding, holding-set, setFrom-rows, markedAt-rows}
-use Rattle.exchanger.specs.declared.climb.Rise.{Rise}
-use Rattle.exchanger.specs.Climbing.{climbFrom}
-use Rattle.exchanger.proofs.ClimbLaws.{recomputed-is, recomputed-same, step-beside, step-ancestor, climb-goes, climb-stops}
+use Rattle.exchanger.specs.declared.propagate.Progress.{Progress}
+use Rattle.exchanger.specs.Propagation.{propagateFrom}
+use Rattle.exchanger.proofs.PropagateLaws.{recomputed-is, recomputed-same, step-beside, step-ancestor, propagate-continues, propagate-stops}
 
 -- two functions that agree from i and from j on
 module _ {A : Type 0} (f g : ℕ → A) (i j : ℕ) (h : (t : ℕ) → f (i + t) ≡ g (j + t)) where
@@ -48,18 +48,18 @@ module _ (a table ch used : List ℕ) (e : ℕ) (rest : List ℕ) (above : ℕ �
     pub sets : Holding (sizeOf table) (c .0) (u .0) rest
     pub count : c .1 ≡ u .1
 
-  abbrev climbs : ℕ → ℕ → List ℕ → Rise → List ℕ × ℕ
-  climbs = climbFrom a table ch
+  abbrev propagates : ℕ → ℕ → List ℕ → Progress → List ℕ × ℕ
+  propagates = propagateFrom a table ch
 
   abbrev ups : ℕ → ℕ → List StateSet → ℕ → List StateSet × ℕ
   ups = upwards a table ch above
 
   abbrev Goal : ℕ → Type 0
   Goal n =
-      (i j d : ℕ) (marks : List ℕ) (rows : List StateSet) (t : Rise) → t .reach ≡ suc d → Upward i j d n marks rows
-      → Same (climbs i n marks t) (ups i n rows (t .recomputed))
+      (i j d : ℕ) (marks : List ℕ) (rows : List StateSet) (t : Progress) → t .reach ≡ suc d → Upward i j d n marks rows
+      → Same (propagates i n marks t) (ups i n rows (t .recomputed))
 
-  module _ (n : ℕ) (ih : Goal n) (i j d : ℕ) (marks : List ℕ) (rows : List StateSet) (t : Rise) (reached : t .reach ≡ suc d)
+  module _ (n : ℕ) (ih : Goal n) (i j d : ℕ) (marks : List ℕ) (rows : List StateSet) (t : Progress) (reached : t .reach ≡ suc d)
       (g : Upward i j d (suc n) marks rows) where
     abbrev r : ℕ
     r = arity a (getD ch i 0)
@@ -85,19 +85,19 @@ module _ (a table ch used : List ℕ) (e : ℕ) (rest : List ℕ) (above : ℕ �
           sets = s;
         }
 
-    beside : r ≤ d → Same (climbs i (suc n) marks t) (ups i (suc n) rows (t .recomputed))
+    beside : r ≤ d → Same (propagates i (suc n) marks t) (ups i (suc n) rows (t .recomputed))
     beside l =
         let l′ : arity a (getD used j 0) ≤ d = rw word l in
         let y : HoldingTree a used e (suc j) (d - r + 1) =
         subst (λ (k : ℕ). HoldingTree a used e (suc j) (d - k + 1)) word (holding-others a used e j d (g .holding) l′) in
-        let t′ : Rise = record { reach = t .reach - r + 1; recomputed = t .recomputed; goes = true } in
-        let p : climbs i (suc n) marks t ≡ climbs (suc i) n marks t′ =
-        climb-goes a table ch i marks t n marks t′ (step-beside a table ch i marks t r refl (omega arith)) refl in
+        let t′ : Progress = record { reach = t .reach - r + 1; recomputed = t .recomputed; active = true } in
+        let p : propagates i (suc n) marks t ≡ propagates (suc i) n marks t′ =
+        propagate-continues a table ch i marks t n marks t′ (step-beside a table ch i marks t r refl (omega arith)) refl in
         let q : ups i (suc n) rows (t .recomputed) ≡ ups (suc i) n rows (t .recomputed) =
         upwards-beside a table ch above i n rows (t .recomputed) (above-here ∙ takes-others a used e j d (g .holding) l′) in
         rw (p, q) (ih (suc i) (suc j) (d - r + 1) marks rows t′ (omega arith) (next (d - r + 1) marks rows y refl (g .sets)))
 
-    ancestor : d < r → Same (climbs i (suc n) marks t) (ups i (suc n) rows (t .recomputed))
+    ancestor : d < r → Same (propagates i (suc n) marks t) (ups i (suc n) rows (t .recomputed))
     ancestor l = go (tested (sameWords new old))
       where
         new : StateSet
@@ -124,21 +124,21 @@ module _ (a table ch used : List ℕ) (e : ℕ) (rest : List ℕ) (above : ℕ �
             (sym (setFrom-rows a table ch marks rows rest i (g .sets) (omega (arith, inside-rows)) inside))
             (sym (holding-set size marks rows rest i (g .sets) inside-rows))
 
-        go : Tested (sameWords new old) → Same (climbs i (suc n) marks t) (ups i (suc n) rows (t .recomputed))
+        go : Tested (sameWords new old) → Same (propagates i (suc n) marks t) (ups i (suc n) rows (t .recomputed))
         go (holds b) =
-            let t′ : Rise = record { reach = 1; recomputed = t .recomputed + 1; goes = false } in
-            let p : climbs i (suc n) marks t ≡ (marks, t .recomputed + 1) =
-            climb-stops a table ch i marks t n marks t′
+            let t′ : Progress = record { reach = 1; recomputed = t .recomputed + 1; active = false } in
+            let p : propagates i (suc n) marks t ≡ (marks, t .recomputed + 1) =
+            propagate-stops a table ch i marks t n marks t′
             (step-ancestor a table ch i marks t r refl (omega arith) (marks, false) (recomputed-same a table ch i marks b)) refl in
             let q : ups i (suc n) rows (t .recomputed) ≡ (rows, t .recomputed + 1) =
             upwards-last a table ch above i n rows (t .recomputed) up (tests ∙ b) in
             rw (p, q) (record { sets = g .sets; count = refl })
         go (fails b) =
-            let t′ : Rise = record { reach = 1; recomputed = t .recomputed + 1; goes = true } in
+            let t′ : Progress = record { reach = 1; recomputed = t .recomputed + 1; active = true } in
             let marks′ = markedAt a table ch i marks in
             let rows′ = set rows i (loops.setFrom a table ch i rows) in
-            let p : climbs i (suc n) marks t ≡ climbs (suc i) n marks′ t′ =
-            climb-goes a table ch i marks t n marks′ t′
+            let p : propagates i (suc n) marks t ≡ propagates (suc i) n marks′ t′ =
+            propagate-continues a table ch i marks t n marks′ t′
             (step-ancestor a table ch i marks t r refl (omega arith) (marks′, true) (recomputed-is a table ch i marks false b)) refl in
             let q : ups i (suc n) rows (t .recomputed) ≡ ups (suc i) n rows′ (t .recomputed + 1) =
             upwards-onward a table ch above i n rows (t .recomputed) up (tests ∙ b) in
@@ -147,11 +147,11 @@ module _ (a table ch used : List ℕ) (e : ℕ) (rest : List ℕ) (above : ℕ �
             (next 0 marks′ rows′ (holding-ancestor a used e j d (g .holding) l′) (length-set rows i _)
             (markedAt-rows a table ch marks rows rest i (g .sets) inside-rows inside)))
 
-  pub climb-upwards : (n : ℕ) → Goal n
-  unfolding climbFrom upwards
-  climb-upwards zero i j d marks rows t reached g = record { sets = g .sets; count = refl }
-  climb-upwards (suc n) i j d marks rows t reached g = choose (decLe (arity a (getD ch i 0)) d) (climb-upwards n)
+  pub propagate-upwards : (n : ℕ) → Goal n
+  unfolding propagateFrom upwards
+  propagate-upwards zero i j d marks rows t reached g = record { sets = g .sets; count = refl }
+  propagate-upwards (suc n) i j d marks rows t reached g = choose (decLe (arity a (getD ch i 0)) d) (propagate-upwards n)
     where
-      choose : Dec (arity a (getD ch i 0) ≤ d) → Goal n → Same (climbs i (suc n) marks t) (ups i (suc n) rows (t .recomputed))
+      choose : Dec (arity a (getD ch i 0) ≤ d) → Goal n → Same (propagates i (suc n) marks t) (ups i (suc n) rows (t .recomputed))
       choose (yes l) ih = beside n ih i j d marks rows t reached g l
       choose (no l) ih = ancestor n ih i j d marks rows t reached g (omega arith)

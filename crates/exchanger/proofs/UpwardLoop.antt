@@ -1,5 +1,5 @@
 -- What Exchange's loop over the nodes behind the replaced subtree does, over a list of state sets, and that it is what the
--- definition `climb` says. Assumes nothing.
+-- definition `propagate` says.
 use mathlib.Core.Path.{_≡_, ap, ap₂, _∙_, sym}
 use mathlib.Core.Bool.{Bool, true, false, cond}
 use mathlib.Core.List.{List, [], _∷_, _++_, map, append-assoc}
@@ -15,9 +15,9 @@ use Rattle.words.proofs.TestLaws.{Tested, holds, fails, tested}
 use Rattle.words.proofs.ChildLaws.{numbers}
 use Rattle.automaton.specs.StateSet.{StateSet}
 use Rattle.operations.specs.Marks.{nodeSet, sameWords}
-use Rattle.operations.specs.Exchange.{Outcome, kept, recomputed, setIn, recomputedIn, climb}
+use Rattle.operations.specs.Exchange.{Outcome, kept, recomputed, setIn, recomputedIn, propagate}
 use Rattle.operations.proofs.MarksLaws.{same-words}
-use Rattle.operations.proofs.ClimbLaws.{climb-beside, climb-last, climb-onward, sets-kept, count-kept}
+use Rattle.operations.proofs.PropagateLaws.{propagate-beside, propagate-last, propagate-onward, sets-kept, count-kept}
 use Rattle.nodes.proofs.LoopLaws.{setAt, setFrom, set-of, stack-push, stack-pass}
 
 module _ (a table ch : List ℕ) where
@@ -53,8 +53,8 @@ module _ (a table ch : List ℕ) where
   pub upwards-is : (stored : ℕ → StateSet) (above above′ : ℕ → Bool) (ws : List ℕ) (i j : ℕ) (sets : List StateSet) (count : ℕ) (stack : List StateSet)
       → drop i ch ≡ ws → ((t : ℕ) → above (i + t) ≡ above′ (j + t)) → i ≤ length sets → drop i sets ≡ listFrom stored j (length ws)
       → map (setAt sets) (numbers a ch i) ≡ stack
-      → upwards above i (length ws) sets count ≡ ended i sets count (climb a table stored above′ j ws stack)
-  unfolding upwards climb recomputedIn
+      → upwards above i (length ws) sets count ≡ ended i sets count (propagate a table stored above′ j ws stack)
+  unfolding upwards propagate recomputedIn
   upwards-is stored above above′ [] i j sets count stack q same l r e =
       ap₂ (λ (x : List StateSet) (y : ℕ). (x, y))
       (sym (ap (λ (t : List StateSet). take i sets ++ t) (sym r) ∙ take-append-drop i sets)) (sym (add-zero count))
@@ -100,7 +100,7 @@ module _ (a table ch : List ℕ) where
       Ih sets′ count′ stack′ =
           drop (suc i) ch ≡ ws → ((t : ℕ) → above (suc i + t) ≡ above′ (suc j + t)) → suc i ≤ length sets′
           → drop (suc i) sets′ ≡ listFrom stored (suc j) (length ws) → map (setAt sets′) (numbers a ch (suc i)) ≡ stack′
-          → upwards above (suc i) (length ws) sets′ count′ ≡ ended (suc i) sets′ count′ (climb a table stored above′ (suc j) ws stack′)
+          → upwards above (suc i) (length ws) sets′ count′ ≡ ended (suc i) sets′ count′ (propagate a table stored above′ (suc j) ws stack′)
 
       -- one outcome more
       kept-more : (os : List Outcome) → ended (suc i) sets count os ≡ ended i sets count (kept (stored j) ∷ os)
@@ -118,13 +118,13 @@ module _ (a table ch : List ℕ) where
           (add-assoc count 1 (recomputedIn os))
 
       go : Tested (above′ j) → Tested (sameWords new (stored j)) → Ih sets count (stored j ∷ rest) → Ih (set sets i new) (count + 1) (new ∷ rest)
-          → upwards above i (suc (length ws)) sets count ≡ ended i sets count (climb a table stored above′ j (w ∷ ws) stack)
+          → upwards above i (suc (length ws)) sets count ≡ ended i sets count (propagate a table stored above′ j (w ∷ ws) stack)
       go (fails b) c ih₁ ih₂ =
           upwards-beside above i (length ws) sets count (above-here ∙ b)
           ∙ ih₁ words above-later insideSets later
           (stack-pass a table ch i sets stack inside e ∙ ap₂ (λ (x : StateSet) (v : ℕ). x ∷ drop (arity a v) stack) here word)
-          ∙ kept-more (climb a table stored above′ (suc j) ws (stored j ∷ rest))
-          ∙ ap (ended i sets count) (sym (climb-beside a table stored above′ j w ws stack b))
+          ∙ kept-more (propagate a table stored above′ (suc j) ws (stored j ∷ rest))
+          ∙ ap (ended i sets count) (sym (propagate-beside a table stored above′ j w ws stack b))
       go (holds b) (holds c) ih₁ ih₂ =
           upwards-last above i (length ws) sets count (above-here ∙ b) (ap₂ sameWords recomputes here ∙ c)
           ∙ ap₂ (λ (x : List StateSet) (y : ℕ). (x, count + y))
@@ -132,11 +132,11 @@ module _ (a table ch : List ℕ) where
           ∙ ap (λ (t : List StateSet). take i sets ++ t)
           (r ∙ ap₂ (λ (x : StateSet) (t : List StateSet). x ∷ t) (sym (same-words new (stored j) c)) (sym (sets-kept stored (length ws) (suc j)))))
           (sym (ap (λ (x : ℕ). 1 + x) (count-kept stored (length ws) (suc j))))
-          ∙ ap (ended i sets count) (sym (climb-last a table stored above′ j w ws stack b c))
+          ∙ ap (ended i sets count) (sym (propagate-last a table stored above′ j w ws stack b c))
       go (holds b) (fails c) ih₁ ih₂ =
           upwards-onward above i (length ws) sets count (above-here ∙ b) (ap₂ sameWords recomputes here ∙ c)
           ∙ ap (λ (x : StateSet). upwards above (suc i) (length ws) (set sets i x) (count + 1)) recomputes
           ∙ ih₂ words above-later (lt-length-set sets i new insideSets) (drop-set-lt (suc i) sets i new (omega arith) ∙ later)
           (stack-push a table ch i sets stack new inside insideSets e ∙ ap (λ (v : ℕ). new ∷ drop (arity a v) stack) word)
-          ∙ recomputed-more (climb a table stored above′ (suc j) ws (new ∷ rest))
-          ∙ ap (ended i sets count) (sym (climb-onward a table stored above′ j w ws stack b c))
+          ∙ recomputed-more (propagate a table stored above′ (suc j) ws (new ∷ rest))
+          ∙ ap (ended i sets count) (sym (propagate-onward a table stored above′ j w ws stack b c))

@@ -1,5 +1,4 @@
--- Exchange's answer as document 01 has it: a refusal's number, or the new element count and the number worked out. Assumes
--- nothing.
+-- Exchange's answer as document 01 has it: a refusal's number, or the new element count and the number worked out.
 use mathlib.Core.List.{[], _∷_}
 use Rattle.words.specs.Answer.{Answer, refused, accepted}
 use Rattle.exchanger.specs.declared.Exchanged.{Exchanged}

@@ -1,16 +1,15 @@
--- What the loops of an accepted Exchange do in the marks, and what they ask. These definitions serve inner functions. Assumes
--- nothing.
+-- What the loops of an accepted Exchange do in the marks, and what they ask. These definitions serve inner functions.
 use Prim.Native.Nat.{ℕ, _-_, _<_, _≤_}
 use mathlib.Core.List.{List}
 use lib.ListN.{length}
 use Rattle.nodes.specs.Nodes.{markedFrom, Workable}
-use Rattle.exchanger.specs.Climbing.{climbFrom, foot}
+use Rattle.exchanger.specs.Propagation.{propagateFrom, initial}
 
 -- The nodes from `start` up to `root` are the replacement's: they are worked out. At the root's place are the old element's
 -- words: if the root's are the same, that is all; otherwise the ancestors follow. The count is that of the nodes worked out.
 unfoldable pub exchangedFrom : List ℕ → List ℕ → List ℕ → ℕ → ℕ → List ℕ → List ℕ × ℕ
 exchangedFrom a table ch start root marks =
-    climbFrom a table ch root (length ch - root) (markedFrom a table ch start (root - start) marks) (foot (root - start))
+    propagateFrom a table ch root (length ch - root) (markedFrom a table ch start (root - start) marks) (initial (root - start))
 
 pub record Exchangeable (a table ch : List ℕ) (start root : ℕ) (marks : List ℕ) : Type 0 where
   pub workable : Workable a table ch (length marks)

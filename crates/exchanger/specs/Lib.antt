@@ -1,4 +1,4 @@
 pub mod Tail
-pub mod Climbing
+pub mod Propagation
 pub mod Exchanging
 pub mod Answers

@@ -10,7 +10,7 @@ ghost use Rattle.operations.specs.Exchange.{setIn, recomputedIn, fault as Excha
 ghost use Rattle.exchanger.specs.Exchanging.{exchangedFrom, Exchangeable};
 ghost use Rattle.exchanger.specs.Answers.{answerIn};
 use super::Exchanged;
-use super::climb::climb;
+use super::propagate::propagate;
 use super::replace::move_tail;
 use nodes::marking::mark_nodes;
 use nodes::stack::stack_nodes;
@@ -64,7 +64,7 @@ fn recompute_nodes(
         &mut rows,
         &mut pending,
     );
-    climb(
+    propagate(
         alphabet,
         table,
         &index,

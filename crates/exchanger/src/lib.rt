@@ -1,6 +1,6 @@
 // Exchange: one subtree of a marked chapter gives way to a replacement.
-mod climb;
 pub mod exchange;
+mod propagate;
 mod replace;
 
 // The answer: the new element count and the number of nodes worked out, or document 01's number of a refusal.

@@ -1,5 +1,5 @@
 -- What a caller gets of the four operations, by the cases of their answers: the status, what the slices are left as (s, t), and
--- the out-parameters. Assumes nothing.
+-- the out-parameters.
 use mathlib.Core.Path.{_≡_}
 use mathlib.Core.List.{List, [], _∷_}
 use Prim.Native.Nat.{ℕ}

@@ -1,4 +1,4 @@
--- Every value of an answer fits 32 bits: what the answer's number and values are is given by its definition. Assumes nothing.
+-- Every value of an answer fits 32 bits: what the answer's number and values are is given by its definition.
 use mathlib.Core.Path.{_≡_}
 use mathlib.Core.List.{List}
 use Prim.Native.Nat.{ℕ, _^_, _<_}

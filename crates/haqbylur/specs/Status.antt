@@ -1,4 +1,4 @@
--- What a C caller gets of an answer: a status, and the values through its out-parameters. Assumes nothing.
+-- What a C caller gets of an answer: a status, and the values through its out-parameters.
 use Prim.Native.Nat.{ℕ}
 use lib.ListN.{getD}
 use Rattle.words.specs.Answer.{Answer, refused, accepted}

@@ -1,5 +1,5 @@
 -- What refusals 4 and 5, and 10 and 11, leave: over an alphabet that 1 does not refuse, words pass them exactly if they are
--- the words of exactly one expression, or of exactly one subject tree. Assumes nothing.
+-- the words of exactly one expression, or of exactly one subject tree.
 use mathlib.Core.Path.{_≡_, refl}
 use mathlib.Core.Logic.{_↔_}
 use mathlib.Core.Bool.{true, false, not}
@@ -10,8 +10,8 @@ use borrow.Author.Tests.{not-false}
 use Rattle.words.specs.Lists.{all}
 use Rattle.words.specs.Alphabet.{noAlphabet}
 use Rattle.words.specs.Postfix.{oneTree, notOneTree}
-use Rattle.words.specs.Chapter.{isNode, noNodes, treeRefusals, treeFault}
-use Rattle.words.specs.Expression.{isExpressionWord, noExpressionWords}
+use Rattle.words.specs.Chapter.{isNode, notNodes, treeRefusals, treeFault}
+use Rattle.words.specs.Expression.{isExpressionWord, notExpressionWords}
 use Rattle.words.proofs.RefusalLaws.{none-refusal, none-applies}
 use Rattle.words.proofs.AlphabetLaws.{alphabet-most}
 use Rattle.words.specs.ExactlyOne.{ExactlyOne}
@@ -25,7 +25,7 @@ module _ (a : List ℕ) (h : noAlphabet a ≡ false) where
 
   -- 10 and 11
   pub chapter-accepted : (ch : List ℕ) → (treeFault a ch ≡ 0) ↔ ExactlyOne (SubjectOf a ch)
-  unfolding noNodes notOneTree
+  unfolding notNodes notOneTree
   chapter-accepted ch = (to, from)
     where
       to : treeFault a ch ≡ 0 → ExactlyOne (SubjectOf a ch)
@@ -42,8 +42,8 @@ module _ (a : List ℕ) (h : noAlphabet a ≡ false) where
           none-refusal (treeRefusals a ch) (rw n, (rw o, tt))
 
   -- 4 and 5; 3 asks for the number of words alone
-  pub expression-accepted : (e : List ℕ) → ((noExpressionWords a e ≡ false) × (notOneTree a e ≡ false)) ↔ ExactlyOne (ExpressionOf a e)
-  unfolding noExpressionWords notOneTree
+  pub expression-accepted : (e : List ℕ) → ((notExpressionWords a e ≡ false) × (notOneTree a e ≡ false)) ↔ ExactlyOne (ExpressionOf a e)
+  unfolding notExpressionWords notOneTree
   expression-accepted e = (to, from)
     where
       to : (not (all (isExpressionWord a) e) ≡ false) × (not (oneTree a e) ≡ false) → ExactlyOne (ExpressionOf a e)

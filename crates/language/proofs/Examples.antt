@@ -1,5 +1,4 @@
--- Document 01's marked examples that speak of the language of a rule alone, over a, b, c, d and f, numbered 0 to 4. Assumes
--- nothing.
+-- Document 01's marked examples that speak of the language of a rule alone, over a, b, c, d and f, numbered 0 to 4.
 use Prim.Native.Nat.{ℕ, zero, suc}
 use mathlib.Core.Path.{_≡_, refl, sym}
 use mathlib.Core.Logic.{inl, inr, _↔_}

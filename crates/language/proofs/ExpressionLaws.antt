@@ -1,5 +1,5 @@
 -- Words that are expression words and make one tree are the words of exactly one expression over the alphabet, and the
--- words of every expression over the alphabet are expression words that make one tree; the reading finds it. Assumes nothing.
+-- words of every expression over the alphabet are expression words that make one tree; the reading finds it.
 use mathlib.Core.Path.{_≡_, refl, ap, _∙_, sym}
 use mathlib.Core.Bool.{true}
 use mathlib.Core.List.{List, [], _∷_, _++_}

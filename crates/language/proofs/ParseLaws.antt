@@ -1,5 +1,5 @@
 -- A tree of expression words is read as an expression over the alphabet whose syntax tree it is, and the syntax tree of an
--- expression over the alphabet is read as that expression. Assumes nothing.
+-- expression over the alphabet is read as that expression.
 use mathlib.Core.Path.{_≡_, refl, ap, ap₂, _∙_, sym, subst}
 use mathlib.Core.Bool.{true}
 use mathlib.Core.List.{List, [], _∷_}

@@ -1,5 +1,5 @@
 -- Words that are nodes and make one tree are the words of exactly one tree over the alphabet, and the words of every tree
--- over the alphabet are nodes that make one tree. Assumes nothing.
+-- over the alphabet are nodes that make one tree.
 use mathlib.Core.Path.{_≡_, refl, ap, ap₂, _∙_, sym}
 use mathlib.Core.Bool.{true}
 use mathlib.Core.List.{List, [], _∷_, map}

@@ -1,5 +1,5 @@
 -- Laws of simultaneous substitution: it composes, and a product or a closure under an assignment is its first language
--- under the assignment with another language for c. Assumes nothing.
+-- under the assignment with another language for c.
 use Prim.Native.Nat.{ℕ, suc, _≤_, max}
 use mathlib.Core.Path.{_≡_, refl, sym, ap₂, subst}
 use mathlib.Core.Logic.{_⊎_, inl, inr}

@@ -1,5 +1,5 @@
 -- A node's subtree in an accepted chapter is the words of exactly one tree over the alphabet, and a value that looks only
--- at symbols is the fold of that tree. Assumes nothing.
+-- at symbols is the fold of that tree.
 use mathlib.Core.Path.{_≡_, refl, ap₂, _∙_}
 use mathlib.Core.Bool.{true}
 use mathlib.Core.List.{List, [], _∷_}

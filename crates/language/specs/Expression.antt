@@ -1,4 +1,4 @@
--- Regular tree expressions (document 01's rules), and expressions and subject trees as postfix words. Assumes nothing.
+-- Regular tree expressions (document 01's rules), and expressions and subject trees as postfix words.
 use Prim.Native.Nat.{ℕ, suc, _<_}
 use mathlib.Core.Path.{_≡_}
 use mathlib.Core.Bool.{true}

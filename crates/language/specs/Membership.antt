@@ -1,5 +1,5 @@
 -- The language of an expression (document 01, "Meaning of a rule"; document 000, section 2): by substitution and iterated
--- closure, without automata. Assumes nothing.
+-- closure, without automata.
 use Prim.Native.Nat.{ℕ, zero, suc}
 use mathlib.Core.Path.{_≡_}
 use mathlib.Core.Logic.{_⊎_}

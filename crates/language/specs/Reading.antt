@@ -1,5 +1,5 @@
 -- The expression of a rule's words, read in postfix order with a stack. Of words that 4 or 5 refuses it is some expression, of
--- accepted ones the only one whose words they are. Assumes nothing.
+-- accepted ones the only one whose words they are.
 use Prim.Native.Nat.{ℕ}
 use mathlib.Core.List.{List, [], _∷_}
 use lib.ListN.{getD}

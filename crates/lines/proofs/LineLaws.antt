@@ -1,4 +1,4 @@
--- Laws of lines written part after part, and of the loop over the hits. Assumes nothing.
+-- Laws of lines written part after part, and of the loop over the hits.
 use mathlib.Core.Path.{_≡_, refl, ap, _∙_, sym}
 use mathlib.Core.List.{List, [], _∷_, _++_, append-nil, append-assoc}
 use Prim.Native.Nat.{ℕ, _+_, _-_, _<_, _≤_}

@@ -1,4 +1,4 @@
--- The lines that `marklist` prints, as bytes (document 01, "The source's own example"). Assumes nothing.
+-- The lines that `marklist` prints, as bytes (document 01, "The source's own example").
 use Prim.Native.Nat.{ℕ, _+_, _-_}
 use mathlib.Core.List.{List, [], _∷_, _++_}
 use lib.ListN.{getD}

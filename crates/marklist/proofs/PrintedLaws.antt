@@ -1,4 +1,4 @@
--- The words that were read and kept give the output of the bytes that they came from. Assumes nothing.
+-- The words that were read and kept give the output of the bytes that they came from.
 use mathlib.Core.Path.{_≡_, refl, ap, ap₂, _∙_, sym}
 use mathlib.Core.Bool.{Bool, true, false}
 use mathlib.Core.List.{List, [], _∷_, _++_, append-nil}

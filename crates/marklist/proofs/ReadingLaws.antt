@@ -1,4 +1,4 @@
--- Laws of the loop that reads words part after part. Assumes nothing.
+-- Laws of the loop that reads words part after part.
 use mathlib.Core.Path.{_≡_, refl, ap, _∙_, sym}
 use mathlib.Core.List.{List, [], _++_}
 use Prim.Native.Nat.{ℕ, _+_, _*_, _-_, _/_, _<_, _≤_, min}

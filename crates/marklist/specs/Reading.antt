@@ -1,5 +1,5 @@
 -- What the functions that read leave. A contract cannot say which bytes a call of the C library gives, so these are some
--- bytes, as many as asked for. It serves inner functions. Assumes nothing.
+-- bytes, as many as asked for. It serves inner functions.
 use Prim.Native.Nat.{ℕ, _*_}
 use mathlib.Core.Path.{_≡_}
 use mathlib.Core.Bool.{Bool, true}

@@ -1,4 +1,4 @@
--- What the loops of Run and List ask of a call that is not refused. Assumes nothing.
+-- What the loops of Run and List ask of a call that is not refused.
 use mathlib.Core.Path.{_≡_}
 use mathlib.Core.List.{List}
 use Prim.Native.Nat.{ℕ, _+_, _*_, _<_, _≤_}

@@ -1,4 +1,4 @@
--- Laws of the matches found one node after the other. Assumes nothing.
+-- Laws of the matches found one node after the other.
 use mathlib.Core.Path.{_≡_, refl, ap, ap₂, _∙_, sym}
 use mathlib.Core.Bool.{Bool, true, false, cond}
 use mathlib.Core.List.{List, [], _∷_, _++_}

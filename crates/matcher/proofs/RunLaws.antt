@@ -1,4 +1,4 @@
--- Run's accepted calls: what its parts ask, and that the marks and the cells are those of the definition. Assumes nothing.
+-- Run's accepted calls: what its parts ask, and that the marks and the cells are those of the definition.
 use mathlib.Core.Path.{_≡_, refl, ap, ap₂, _∙_}
 use mathlib.Core.List.{List, [], _∷_, _++_, flatten, append-nil}
 use Prim.Native.Nat.{ℕ, _+_, _-_, _*_, _≤_}

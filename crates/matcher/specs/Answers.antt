@@ -1,4 +1,4 @@
--- What the answers of Run and List say: document 01's refusal number, or its values, for each case. Assumes nothing.
+-- What the answers of Run and List say: document 01's refusal number, or its values, for each case.
 use mathlib.Core.List.{[], _∷_}
 use Rattle.words.specs.Answer.{Answer, refused, accepted}
 use Rattle.matcher.specs.declared.Ran.{Ran}

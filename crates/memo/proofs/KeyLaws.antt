@@ -1,4 +1,4 @@
--- Laws of keys: they fit into 64 bits, they are not 0, and different steps have different keys. Assumes nothing.
+-- Laws of keys: they fit into 64 bits, they are not 0, and different steps have different keys.
 use mathlib.Core.Path.{_≡_, refl, ap, ap₂, _∙_, sym}
 use mathlib.Core.List.{List, [], _∷_}
 use Prim.Native.Nat.{ℕ, zero, suc, _+_, _-_, _*_, _/_, _^_, _<_, _≤_}

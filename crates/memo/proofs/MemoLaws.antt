@@ -1,4 +1,4 @@
--- The memo: an empty one, what a slot with the key says, and that it stays right when node i is marked. Assumes nothing.
+-- The memo: an empty one, what a slot with the key says, and that it stays right when node i is marked.
 use mathlib.Core.Path.{_≡_, refl, ap, ap₂, _∙_, sym, subst}
 use mathlib.Core.List.{List, [], _∷_}
 use Prim.Native.Nat.{ℕ, suc, _+_, _-_, _*_, _<_, _≤_}

@@ -1,4 +1,4 @@
--- The representative that is found has the words. Assumes nothing.
+-- The representative that is found has the words.
 use mathlib.Core.Path.{_≡_, ap, _∙_, sym}
 use mathlib.Core.Bool.{Bool, true}
 use mathlib.Core.List.{List}

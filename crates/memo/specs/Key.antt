@@ -1,4 +1,4 @@
--- The key of a node step: one number for a symbol and a list of nodes. It serves inner functions. Assumes nothing.
+-- The key of a node step: one number for a symbol and a list of nodes. It serves inner functions.
 use Prim.Native.Nat.{ℕ, _+_, _*_, _<_, _≤_}
 use mathlib.Core.Path.{_≡_}
 use mathlib.Core.List.{List, [], _∷_}

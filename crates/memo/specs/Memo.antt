@@ -1,5 +1,4 @@
 -- What a memo of node steps holds, and what marking a node by it asks and leaves. These definitions serve inner functions.
--- Assumes nothing.
 use Prim.Native.Nat.{ℕ, _+_, _-_, _*_, _<_, _≤_}
 use mathlib.Core.Path.{_≡_}
 use mathlib.Core.List.{List}

@@ -1,6 +1,5 @@
 -- What the loops of Run and Exchange do, over a list of state sets and the stack of node numbers, and that it is what the
 -- definitions say. `Recomputing` is the invariant of Run's loop (from node 0) and of Exchange's over the replacement.
--- Assumes nothing.
 use mathlib.Core.Path.{_≡_, ap, ap₂, _∙_, sym}
 use mathlib.Core.List.{List, [], _∷_, _++_, map, append-assoc, append-nil}
 use Prim.Native.Nat.{ℕ, suc, _+_, _<_}

@@ -1,4 +1,4 @@
--- State sets that are worked out in the marks are those worked out over a list of state sets. Assumes nothing.
+-- State sets that are worked out in the marks are those worked out over a list of state sets.
 use mathlib.Core.Path.{_≡_, refl, ap, ap₂, _∙_, sym}
 use mathlib.Core.List.{List, [], _++_, flatten, append-nil}
 use Prim.Native.Nat.{ℕ, zero, suc, _+_, _*_, _<_, _≤_}

@@ -1,5 +1,5 @@
 -- One node marked by the memo: the children's representatives are on top of the stack, node i gets the state set that it has over its
--- children, and the stack and the memo are then those before the next node. Assumes nothing.
+-- children, and the stack and the memo are then those before the next node.
 use mathlib.Core.Path.{_≡_, ap, ap₂, _∙_, sym}
 use mathlib.Core.List.{List, [], _∷_, _++_, reverse, map}
 use Prim.Native.Nat.{ℕ, _+_, _-_, _*_, _<_, _≤_}

@@ -1,4 +1,4 @@
--- Nodes marked one after the other: before node i those from `from` up to i are marked. Assumes nothing.
+-- Nodes marked one after the other: before node i those from `from` up to i are marked.
 use mathlib.Core.Path.{_≡_, refl, ap, ap₂, _∙_, sym}
 use mathlib.Core.List.{List, reverse}
 use Prim.Native.Nat.{ℕ, suc, _+_, _-_, _<_, _≤_}

@@ -1,5 +1,5 @@
 -- The roots of the trees that the first nodes make: no node lacks children, children are earlier nodes, and there are no more roots than
--- nodes. Assumes nothing.
+-- nodes.
 use mathlib.Core.Path.{_≡_, refl, ap, ap₂, _∙_, sym, subst}
 use mathlib.Core.Bool.{true}
 use mathlib.Core.List.{List, [], _∷_, _++_, reverse, reverseAux, reverse-append, reverse-cons}

@@ -1,4 +1,4 @@
--- The stack of roots in an array: what a pop and a push do, and its room. Assumes nothing.
+-- The stack of roots in an array: what a pop and a push do, and its room.
 use mathlib.Core.Path.{_≡_, refl, ap, ap₂, _∙_, sym, subst}
 use mathlib.Core.List.{List, [], _∷_, _++_, reverse, map, reverse-cons, append-assoc}
 use Prim.Native.Nat.{ℕ, suc, _+_, _-_, _<_, _≤_}

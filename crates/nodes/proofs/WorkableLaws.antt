@@ -1,4 +1,4 @@
--- What a table and a tree over the alphabet give: their sizes, and each word's kind. Assumes nothing.
+-- What a table and a tree over the alphabet give: their sizes, and each word's kind.
 use mathlib.Core.Path.{_≡_, subst}
 use mathlib.Core.Bool.{true}
 use mathlib.Core.List.{List, _∷_}

@@ -1,4 +1,4 @@
--- Nodes worked out one after the other, from node i on, over a list of state sets as they stand. Assumes nothing.
+-- Nodes worked out one after the other, from node i on, over a list of state sets as they stand.
 use mathlib.Core.Path.{_≡_, refl, _∙_}
 use mathlib.Core.List.{List, map}
 use Prim.Native.Nat.{ℕ, zero, suc, _+_, _≤_}

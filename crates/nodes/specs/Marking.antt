@@ -1,5 +1,4 @@
 -- Marking nodes by a memo, with a stack of representatives: what it asks and leaves. These definitions serve inner functions.
--- Assumes nothing.
 use Prim.Native.Nat.{ℕ, _<_, _≤_}
 use mathlib.Core.Path.{_≡_}
 use mathlib.Core.List.{List, reverse, map}

@@ -1,5 +1,5 @@
 -- Nodes that are worked out one after the other from the marks as they stand, and the stack of roots in an array. These
--- definitions serve inner functions. Assumes nothing.
+-- definitions serve inner functions.
 use Prim.Native.Nat.{ℕ, zero, suc, _+_, _*_, _<_, _≤_}
 use mathlib.Core.Path.{_≡_}
 use mathlib.Core.Bool.{true}

@@ -1,5 +1,5 @@
 -- What is known of a call that is not refused: for each operation one record, a field for each number, and for Run and List
--- back. Assumes nothing.
+-- back.
 use mathlib.Core.Path.{_≡_, refl}
 use mathlib.Core.Bool.{true, false, not, _&&_, _||_}
 use mathlib.Core.List.{List, [], _∷_}
@@ -11,8 +11,8 @@ use borrow.Author.Tests.{eqb-true, eqb-false, ne-eqb, ltb-true, ltb-false, le-lt
 use Rattle.words.specs.Lists.{all}
 use Rattle.words.specs.Refusal.{refusal}
 use Rattle.words.specs.Alphabet.{noAlphabet, wrongConstants, alphabetRefusals, alphabetFault}
-use Rattle.words.specs.Expression.{wrongLength, noExpressionWords, expressionRefusals, expressionFault}
-use Rattle.words.specs.Chapter.{isNode, noNodes}
+use Rattle.words.specs.Expression.{wrongLength, notExpressionWords, expressionRefusals, expressionFault}
+use Rattle.words.specs.Chapter.{isNode, notNodes}
 use Rattle.words.specs.Postfix.{oneTree, notOneTree, splice}
 use Rattle.words.proofs.TestLaws.{Tested, holds, fails, tested, and-true, or-false, false-or}
 use Rattle.words.proofs.RefusalLaws.{none-refusal, conditionOf, none-applies, parts-pass}
@@ -21,9 +21,9 @@ use Rattle.automaton.specs.Numbering.{compiled}
 use Rattle.words.specs.Answer.{refused, accepted, answerOf}
 use Rattle.operations.specs.Compile.{compiledTable, tooManyStates, tableTooLong, ruleRefusals, compileFault}
 use Rattle.operations.specs.Marks.{sizeOf}
-use Rattle.operations.specs.Run.{wrongCount, fewMarks, runRefusals, runFault}
+use Rattle.operations.specs.Run.{wrongCount, marksTooShort, runRefusals, runFault}
 use Rattle.operations.specs.Listing.{listTooShort, listRefusals, listFault}
-use Rattle.operations.specs.Exchange.{wrongUse, noElement, noReplacement, resultTooLong, exchangeRefusals, exchangeFault}
+use Rattle.operations.specs.Exchange.{wrongUsedCount, noElement, noReplacement, resultTooLong, exchangeRefusals, exchangeFault}
 
 -- an accepted answer is that of a call without a refusal, and has its values
 pub accepted-values : (f : ℕ) (vs us : List ℕ) → answerOf f vs ≡ accepted us → (f ≡ 0) × (vs ≡ us)
@@ -61,19 +61,19 @@ pub record Used (n treeRoom : ℕ) : Type 0 where
   pub counted : Counted n
   pub within : n ≤ treeRoom
 
-pub use-right : (n treeRoom : ℕ) → wrongUse n treeRoom ≡ false → Used n treeRoom
-unfolding wrongUse
+pub use-right : (n treeRoom : ℕ) → wrongUsedCount n treeRoom ≡ false → Used n treeRoom
+unfolding wrongUsedCount
 use-right n treeRoom h =
     let p = or-false (wrongCount n) (ltb treeRoom n) h in
     record { counted = count-right n (p .0); within = ltb-false treeRoom n (p .1) }
 
 -- 10 and 11
-pub nodes-right : (a ch : List ℕ) → noNodes a ch ≡ false → all (isNode a) ch ≡ true
-unfolding noNodes
+pub nodes-right : (a ch : List ℕ) → notNodes a ch ≡ false → all (isNode a) ch ≡ true
+unfolding notNodes
 nodes-right a ch h = not-false (all (isNode a) ch) h
 
-pub right-nodes : (a ch : List ℕ) → all (isNode a) ch ≡ true → noNodes a ch ≡ false
-unfolding noNodes
+pub right-nodes : (a ch : List ℕ) → all (isNode a) ch ≡ true → notNodes a ch ≡ false
+unfolding notNodes
 right-nodes a ch h = rw h
 
 pub tree-right : (a ch : List ℕ) → notOneTree a ch ≡ false → oneTree a ch ≡ true
@@ -85,12 +85,12 @@ unfolding notOneTree
 right-tree a ch h = rw h
 
 -- 12
-pub marks-fit : (table : List ℕ) (n room : ℕ) → fewMarks table n room ≡ false → n * sizeOf table ≤ room
-unfolding fewMarks
+pub marks-fit : (table : List ℕ) (n room : ℕ) → marksTooShort table n room ≡ false → n * sizeOf table ≤ room
+unfolding marksTooShort
 marks-fit table n room h = ltb-false room (n * sizeOf table) h
 
-pub fit-marks : (table : List ℕ) (n room : ℕ) → n * sizeOf table ≤ room → fewMarks table n room ≡ false
-unfolding fewMarks
+pub fit-marks : (table : List ℕ) (n room : ℕ) → n * sizeOf table ≤ room → marksTooShort table n room ≡ false
+unfolding marksTooShort
 fit-marks table n room h = le-ltb room (n * sizeOf table) h
 
 -- 15
@@ -116,7 +116,7 @@ pub result-right : (table : List ℕ) (n treeRoom marksRoom : ℕ) → resultToo
     → ResultFits table n treeRoom marksRoom
 unfolding resultTooLong
 result-right table n treeRoom marksRoom h =
-    let p = or-false (ltb 4096 n || ltb treeRoom n) (fewMarks table n marksRoom) h in
+    let p = or-false (ltb 4096 n || ltb treeRoom n) (marksTooShort table n marksRoom) h in
     let q = or-false (ltb 4096 n) (ltb treeRoom n) (p .0) in
     record {
       few = ltb-false 4096 n (q .0);
@@ -135,7 +135,7 @@ pub record RuleAccepted (a e : List ℕ) : Type 0 where
   -- 3
   pub few : wrongLength e ≡ false
   -- 4
-  pub words : noExpressionWords a e ≡ false
+  pub words : notExpressionWords a e ≡ false
   -- 5
   pub tree : notOneTree a e ≡ false
   -- 6

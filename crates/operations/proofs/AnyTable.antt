@@ -1,6 +1,5 @@
 -- Run with any table that 8 lets pass, compiled or not: a bit of the marks is set exactly if its state is reached, at an
--- element from its children's marks, and by the tree of its subtree. A table that Compile writes is such a table. Assumes
--- nothing.
+-- element from its children's marks, and by the tree of its subtree. A table that Compile writes is such a table.
 use Prim.Native.Nat.{ℕ, _*_, _<_, _≤_}
 use mathlib.Core.Path.{_≡_, sym, ap, _∙_, subst}
 use mathlib.Core.Logic.{_↔_}

@@ -1,5 +1,5 @@
 -- Demand 1: each refusal number of each operation is the answer of some call, also where conditions of later numbers hold:
--- one table of rows, one theorem. Assumes nothing.
+-- one table of rows, one theorem.
 use Prim.Native.Nat.{ℕ}
 use mathlib.Core.Path.{_≡_, refl}
 use mathlib.Core.List.{List, [], _∷_}
@@ -7,8 +7,8 @@ use lib.ListN.{replicate}
 use Rattle.words.specs.Word.{kindAt, spareBitsClear, isOf}
 use Rattle.words.specs.Alphabet.{isEntry, rankOf, isConstant, constantsFrom, constantsOf, noAlphabet, wrongConstants}
 use Rattle.words.specs.Postfix.{arity, trees, notOneTree, startFrom, splice}
-use Rattle.words.specs.Expression.{isExpressionWord, wrongLength, noExpressionWords}
-use Rattle.words.specs.Chapter.{isNode, noNodes}
+use Rattle.words.specs.Expression.{isExpressionWord, wrongLength, notExpressionWords}
+use Rattle.words.specs.Chapter.{isNode, notNodes}
 use Rattle.automaton.specs.Transition.{automatonOf}
 use Rattle.automaton.specs.Numbering.{hasEntries, statesOf, portOf, ownTransitions, portsFrom, statesAfter, transitionsFrom, compiled}
 use Rattle.automaton.specs.Table.{isHead, isTableWord, sourcesLeft, areTransitions, isTable, noTable}
@@ -16,9 +16,9 @@ use Rattle.automaton.specs.StateSet.{sizeFor}
 use Rattle.words.specs.Answer.{Answer, refused}
 use Rattle.operations.specs.Compile.{tooManyStates, tableTooLong, compileAnswer}
 use Rattle.operations.specs.Marks.{sizeOf}
-use Rattle.operations.specs.Run.{wrongCount, fewMarks, runAnswer}
+use Rattle.operations.specs.Run.{wrongCount, marksTooShort, runAnswer}
 use Rattle.operations.specs.Listing.{listTooShort, listAnswer}
-use Rattle.operations.specs.Exchange.{wrongUse, noElement, noReplacement, resultTooLong, fault, exchangeAnswer}
+use Rattle.operations.specs.Exchange.{wrongUsedCount, noElement, noReplacement, resultTooLong, fault, exchangeAnswer}
 
 -- a call of an operation, with all that is lent
 pub data Called : Type 0 where
@@ -94,7 +94,7 @@ calls =
 
 pub attained : Refuse calls
 unfolding kindAt spareBitsClear isOf isEntry rankOf isConstant constantsFrom constantsOf noAlphabet wrongConstants arity trees notOneTree startFrom splice
-    isExpressionWord wrongLength noExpressionWords isNode noNodes automatonOf hasEntries statesOf portOf ownTransitions portsFrom statesAfter transitionsFrom
-    compiled isHead isTableWord sourcesLeft areTransitions isTable noTable sizeFor tooManyStates tableTooLong compileAnswer sizeOf wrongCount fewMarks
-    runAnswer listTooShort listAnswer wrongUse noElement noReplacement resultTooLong fault exchangeAnswer
+    isExpressionWord wrongLength notExpressionWords isNode notNodes automatonOf hasEntries statesOf portOf ownTransitions portsFrom statesAfter transitionsFrom
+    compiled isHead isTableWord sourcesLeft areTransitions isTable noTable sizeFor tooManyStates tableTooLong compileAnswer sizeOf wrongCount marksTooShort
+    runAnswer listTooShort listAnswer wrongUsedCount noElement noReplacement resultTooLong fault exchangeAnswer
 attained = (refl, (refl, (refl, (refl, (refl, (refl, (refl, (refl, (refl, (refl, (refl, (refl, (refl, (refl, (refl, (refl, (refl, (refl, (refl, (refl, (refl, (refl, (refl, (refl, (refl, (refl, (refl, (refl, (refl, (refl, tt))))))))))))))))))))))))))))))

@@ -1,5 +1,5 @@
 -- Which nodes behind a replaced subtree are recomputed, whatever the stored state sets are: the ancestors, nearest first,
--- as long as work goes on; all others keep their stored sets. Assumes nothing.
+-- as long as work goes on; all others keep their stored sets.
 use mathlib.Core.Path.{_≡_, refl, ap, ap₂, _∙_, sym, subst}
 use mathlib.Core.Bool.{Bool, true, false, not, cond, _&&_}
 use mathlib.Core.List.{List, [], _∷_}
@@ -13,9 +13,9 @@ use Rattle.words.proofs.TestLaws.{Tested, holds, fails, tested}
 use Rattle.words.proofs.ListLaws.{listFrom-shift, map-listFrom, all-map, count-map}
 use Rattle.automaton.specs.StateSet.{StateSet}
 use Rattle.operations.specs.Marks.{nodeSet, sameWords}
-use Rattle.operations.specs.Exchange.{Outcome, kept, recomputed, setIn, isRecomputed, recomputedIn, keptFrom, climb, rootSet, outcomesBehind}
+use Rattle.operations.specs.Exchange.{Outcome, kept, recomputed, setIn, isRecomputed, recomputedIn, keptFrom, propagate, rootSet, outcomesBehind}
 use Rattle.operations.specs.Recomputation.{outcomeAt}
-use Rattle.operations.proofs.ClimbLaws.{climb-beside, climb-last, climb-onward}
+use Rattle.operations.proofs.PropagateLaws.{propagate-beside, propagate-last, propagate-onward}
 
 module _ (stored : ℕ → StateSet) (above : ℕ → Bool) where
   -- work ends at node j with this outcome: it is an ancestor, and its words are as stored
@@ -35,11 +35,11 @@ module _ (stored : ℕ → StateSet) (above : ℕ → Bool) where
   chosen-kept zero j = tt
   chosen-kept (suc n) j = (refl, chosen-kept n (suc j))
 
-  pub chosen-climb : (a table ws : List ℕ) (j : ℕ) (stack : List StateSet) → Chosen j true (climb a table stored above j ws stack)
-  unfolding climb
-  chosen-climb a table [] j stack = tt
-  chosen-climb a table (w ∷ ws) j stack =
-      go (tested (above j)) (tested (sameWords new (stored j))) (chosen-climb a table ws (suc j) (stored j ∷ rest)) (chosen-climb a table ws (suc j) (new ∷ rest))
+  pub chosen-propagate : (a table ws : List ℕ) (j : ℕ) (stack : List StateSet) → Chosen j true (propagate a table stored above j ws stack)
+  unfolding propagate
+  chosen-propagate a table [] j stack = tt
+  chosen-propagate a table (w ∷ ws) j stack =
+      go (tested (above j)) (tested (sameWords new (stored j))) (chosen-propagate a table ws (suc j) (stored j ∷ rest)) (chosen-propagate a table ws (suc j) (new ∷ rest))
     where
       new : StateSet
       new = valueOn a (nodeSet table) w stack
@@ -47,13 +47,13 @@ module _ (stored : ℕ → StateSet) (above : ℕ → Bool) where
       rest : List StateSet
       rest = drop (arity a w) stack
 
-      go : Tested (above j) → Tested (sameWords new (stored j)) → Chosen (suc j) true (climb a table stored above (suc j) ws (stored j ∷ rest))
-          → Chosen (suc j) true (climb a table stored above (suc j) ws (new ∷ rest)) → Chosen j true (climb a table stored above j (w ∷ ws) stack)
-      go (fails x) y l m = subst (Chosen j true) (sym (climb-beside a table stored above j w ws stack x)) (rw x, rw x l)
+      go : Tested (above j) → Tested (sameWords new (stored j)) → Chosen (suc j) true (propagate a table stored above (suc j) ws (stored j ∷ rest))
+          → Chosen (suc j) true (propagate a table stored above (suc j) ws (new ∷ rest)) → Chosen j true (propagate a table stored above j (w ∷ ws) stack)
+      go (fails x) y l m = subst (Chosen j true) (sym (propagate-beside a table stored above j w ws stack x)) (rw x, rw x l)
       go (holds x) (holds y) l m =
-          subst (Chosen j true) (sym (climb-last a table stored above j w ws stack x y)) (rw x, rw (x, y) (chosen-kept (length ws) (suc j)))
+          subst (Chosen j true) (sym (propagate-last a table stored above j w ws stack x y)) (rw x, rw (x, y) (chosen-kept (length ws) (suc j)))
       go (holds x) (fails y) l m =
-          subst (Chosen j true) (sym (climb-onward a table stored above j w ws stack x y)) (rw x, rw (x, y) m)
+          subst (Chosen j true) (sym (propagate-onward a table stored above j w ws stack x y)) (rw x, rw (x, y) m)
 
   -- the same by number: work goes on up to the node k places behind j if it goes on at j and ends at none between
   abbrev pub goesOnFrom : ℕ → Bool → List Outcome → ℕ → Bool
@@ -67,9 +67,9 @@ module _ (stored : ℕ → StateSet) (above : ℕ → Bool) where
   and-assoc true c d = refl
   and-assoc false c d = refl
 
-  goes-more : (j : ℕ) (on : Bool) (o : Outcome) (os : List Outcome) (k : ℕ)
+  continues-more : (j : ℕ) (on : Bool) (o : Outcome) (os : List Outcome) (k : ℕ)
       → goesOnFrom j on (o ∷ os) (suc k) ≡ goesOnFrom (suc j) (on && not (endsAt j o)) os k
-  goes-more j on o os k =
+  continues-more j on o os k =
       ap (λ (i : ℕ). on && (not (endsAt i o) && all P (listFrom (λ i. i) 1 k))) (add-zero j)
       ∙ and-assoc on (not (endsAt j o)) (all P (listFrom (λ i. i) 1 k))
       ∙ ap (λ (b : Bool). on && not (endsAt j o) && b) shifted
@@ -86,7 +86,7 @@ module _ (stored : ℕ → StateSet) (above : ℕ → Bool) where
       → outcomeAt os k ≡ chosen (j + k) (goesOnFrom j on os k) (outcomeAt os k)
   chosen-at [] j on k h l = absurd (omega arith)
   chosen-at (o ∷ os) j on zero h l = rw (and-same on, add-zero j) (h .0)
-  chosen-at (o ∷ os) j on (suc k) h l = rw (goes-more j on o os k, add-suc, ← suc-add) (chosen-at os (suc j) (on && not (endsAt j o)) k (h .1) (omega arith))
+  chosen-at (o ∷ os) j on (suc k) h l = rw (continues-more j on o os k, add-suc, ← suc-add) (chosen-at os (suc j) (on && not (endsAt j o)) k (h .1) (omega arith))
 
 -- ---- how many are recomputed
 
@@ -121,4 +121,4 @@ module _ (a table : List ℕ) (stored : ℕ → StateSet) (used : List ℕ) (e :
     where
       go : Tested (sameWords (rootSet a table xs) (stored e)) → Chosen stored (isAncestor a used e) (e + 1) changed (outcomesBehind a table stored used e xs)
       go (holds b) = rw b (chosen-kept stored (isAncestor a used e) (length behind) (e + 1))
-      go (fails b) = rw b (chosen-climb stored (isAncestor a used e) a table behind (e + 1) _)
+      go (fails b) = rw b (chosen-propagate stored (isAncestor a used e) a table behind (e + 1) _)

@@ -1,4 +1,4 @@
--- The ones in a list of words: of a list behind a list, and how many there are at most. Assumes nothing.
+-- The ones in a list of words: of a list behind a list, and how many there are at most.
 use mathlib.Core.Path.{_≡_, ap, _∙_, sym}
 use mathlib.Core.List.{List, [], _∷_, _++_, flatten}
 use Prim.Native.Nat.{ℕ, suc, _+_, _*_, _≤_}

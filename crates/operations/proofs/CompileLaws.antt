@@ -1,5 +1,5 @@
 -- What is known of an accepted Compile: the table slice begins with the table of the numbered automaton, which is one over
--- the alphabet, and the decoder reads that automaton back. Assumes nothing.
+-- the alphabet, and the decoder reads that automaton back.
 use Prim.Native.Nat.{ℕ, _≤_}
 use mathlib.Core.Path.{_≡_, sym}
 use mathlib.Core.Bool.{false}

@@ -1,5 +1,5 @@
 -- Demand 1 holds: a call's answer is made of the first of its refusals whose condition holds, and so are its slices at exit. That
--- each number is attained is shown in Attained. Assumes nothing.
+-- each number is attained is shown in Attained.
 use Prim.Native.Nat.{ℕ, zero, suc, _<_, _*_}
 use mathlib.Core.Path.{_≡_, refl}
 use mathlib.Core.Bool.{true}

@@ -1,5 +1,5 @@
 -- Demand 2 holds: List writes the nodes whose state sets hold the final state, a node's set holds the states that its subtree's
--- tree reaches, and by Thompson's theorem the final one is reached by the members of the rule's language. Assumes nothing.
+-- tree reaches, and by Thompson's theorem the final one is reached by the members of the rule's language.
 use Prim.Native.Nat.{ℕ, _<_, _≤_}
 use mathlib.Core.Path.{_≡_, sym, _∙_, ap, ap₂, subst}
 use mathlib.Core.Logic.{_↔_}

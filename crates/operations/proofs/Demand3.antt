@@ -1,6 +1,6 @@
 -- Demand 3: behind any list of Exchange calls, accepted and refused in any order, the memory is faithful to the plain
 -- chapter. The memory and the plain chapter are related (`Related`) at the start and behind each call; by recursion over the
--- list they are behind all of them, and all that is claimed follows. Assumes nothing.
+-- list they are behind all of them, and all that is claimed follows.
 use mathlib.Core.Path.{_≡_, refl, ap, ap₂, _∙_, sym}
 use mathlib.Core.Bool.{true}
 use mathlib.Core.List.{List, [], _∷_, _++_, map, flatten, head-eq-of-cons-eq}

@@ -1,5 +1,5 @@
 -- The marked examples of document 01, with the source's own example and rows beside them that a wrong Exchange would fail:
--- one table of rows, one theorem. Assumes nothing.
+-- one table of rows, one theorem.
 use Prim.Native.Nat.{ℕ, _+_, _-_, _<_}
 use mathlib.Core.Path.{_≡_, refl, sym}
 use mathlib.Core.Logic.{_↔_}
@@ -10,8 +10,8 @@ use lib.Count.{ones, onesIn}
 use Rattle.words.specs.Word.{kindAt, spareBitsClear, isOf}
 use Rattle.words.specs.Alphabet.{isEntry, rankOf, isConstant, constantsFrom, constantsOf, noAlphabet, wrongConstants}
 use Rattle.words.specs.Postfix.{arity, trees, notOneTree, startFrom, startOf, isAncestor, splice, valueOn, values, stackAfter, stackGiven}
-use Rattle.words.specs.Expression.{isExpressionWord, wrongLength, noExpressionWords}
-use Rattle.words.specs.Chapter.{symbolOf, isNode, noNodes}
+use Rattle.words.specs.Expression.{isExpressionWord, wrongLength, notExpressionWords}
+use Rattle.words.specs.Chapter.{symbolOf, isNode, notNodes}
 use Rattle.words.specs.Tree.{Tree}
 use Rattle.language.specs.Expression.{Expression, empty, union, product, closure}
 use Rattle.language.specs.Membership.{constant, Member}
@@ -24,11 +24,11 @@ use Rattle.automaton.specs.StateSet.{sizeFor, contains, insert, allContained, s
 use Rattle.words.specs.Answer.{Answer, refused, accepted, firstValue}
 use Rattle.operations.specs.Compile.{compiledTable, compileFault, tooManyStates, tableTooLong}
 use Rattle.operations.specs.Marks.{sizeOf, finalOf, nodeSet, nodeSets, storedSet, sameWords, refit}
-use Rattle.operations.specs.Run.{wrongCount, fewMarks, runFault, runMarks, cellsIn, runAnswer, runExit}
+use Rattle.operations.specs.Run.{wrongCount, marksTooShort, runFault, runMarks, cellsIn, runAnswer, runExit}
 use Rattle.operations.specs.Listing.{matchesIn, matchesOf}
 use Rattle.operations.specs.Demands.{Calls, AllAccepted, namesOf}
 use Rattle.operations.proofs.Demand2.{demand2, demand2-of}
-use Rattle.operations.specs.Exchange.{wrongUse, noElement, noReplacement, resultTooLong, recomputedIn, climb, rootSet, outcomesBehind, outcomesAfter, fault, newTree, outcomes, exchangeAnswer, exchangeChapter, exchangeMarks}
+use Rattle.operations.specs.Exchange.{wrongUsedCount, noElement, noReplacement, resultTooLong, recomputedIn, propagate, rootSet, outcomesBehind, outcomesAfter, fault, newTree, outcomes, exchangeAnswer, exchangeChapter, exchangeMarks}
 
 -- nodes
 abbrev a : ℕ
@@ -213,10 +213,10 @@ two-cells = refl
 
 pub examples : AllHold rows
 unfolding kindAt spareBitsClear isOf isEntry rankOf isConstant constantsFrom constantsOf noAlphabet wrongConstants arity trees
-    notOneTree isExpressionWord wrongLength noExpressionWords hasEntries statesOf portOf ownTransitions portsFrom statesAfter transitionsFrom compiled
-    tooManyStates tableTooLong flatMap flatten isNode noNodes isHead isTableWord sourcesLeft areTransitions isTable noTable wrongCount fewMarks transitionsAt
+    notOneTree isExpressionWord wrongLength notExpressionWords hasEntries statesOf portOf ownTransitions portsFrom statesAfter transitionsFrom compiled
+    tooManyStates tableTooLong flatMap flatten isNode notNodes isHead isTableWord sourcesLeft areTransitions isTable noTable wrongCount marksTooShort transitionsAt
     automatonOf sizeFor contains insert allContained symbolPass epsilonPass epsilonClosure stateSet sizeOf finalOf nodeSet nodeSets values valueOn runMarks cellsIn runAnswer runExit storedSet startFrom
-    matchesIn matchesOf splice isAncestor stackAfter stackGiven sameWords refit wrongUse noElement noReplacement resultTooLong recomputedIn climb rootSet
+    matchesIn matchesOf splice isAncestor stackAfter stackGiven sameWords refit wrongUsedCount noElement noReplacement resultTooLong recomputedIn propagate rootSet
     outcomesBehind outcomesAfter fault newTree outcomes exchangeAnswer exchangeChapter exchangeMarks
 examples = (
   record { compiles = refl; stateCount = refl; wordCount = refl; headIs = refl; runs = refl; hits = refl },

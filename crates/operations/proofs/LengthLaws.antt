@@ -1,5 +1,5 @@
 -- Every call, accepted or refused, leaves each lent slice as long as it was. What an accepted call writes fits the slice: the
--- table by 7, the state sets by 12 and 16, the matches by 13, since there are at most as many as elements. Assumes nothing.
+-- table by 7, the state sets by 12 and 16, the matches by 13, since there are at most as many as elements.
 use Prim.Native.Nat.{ℕ, suc, _*_, _<_, _≤_}
 use mathlib.Core.Path.{_≡_, ap, _∙_}
 use mathlib.Core.List.{List, [], _∷_, _++_, map, flatten}

@@ -3,7 +3,7 @@ pub mod Attained
 pub mod Demand1
 pub mod MatchLaws
 pub mod MarksLaws
-pub mod ClimbLaws
+pub mod PropagateLaws
 pub mod OutcomeLaws
 pub mod AcceptedLaws
 pub mod RunLaws

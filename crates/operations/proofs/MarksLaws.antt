@@ -1,5 +1,4 @@
 -- Laws of state sets in a slice: each has its size, is read back, equal words are told, and what stands behind a change.
--- Assumes nothing.
 use mathlib.Core.Path.{_≡_, refl, ap, ap₂, _∙_, sym}
 use mathlib.Core.Bool.{true, false≢true}
 use mathlib.Core.List.{List, [], _∷_, _++_, flatten, append-assoc}

@@ -1,5 +1,4 @@
--- Which nodes List names: those whose state set holds the final state; and that they are no more than the nodes. Assumes
--- nothing.
+-- Which nodes List names: those whose state set holds the final state; and that they are no more than the nodes.
 use Prim.Native.Nat.{ℕ, zero, suc, _+_, _<_, _≤_}
 use mathlib.Core.Path.{_≡_, refl}
 use mathlib.Core.Bool.{Bool, true, false, cond}

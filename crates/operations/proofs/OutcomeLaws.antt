@@ -1,4 +1,4 @@
--- One exchange: where the stored state sets are those of the old tree, the outcomes have those of the new tree. Assumes nothing.
+-- One exchange: where the stored state sets are those of the old tree, the outcomes have those of the new tree.
 use mathlib.Core.Path.{_≡_, refl, ap, ap₂, _∙_, sym, subst}
 use mathlib.Core.Bool.{true}
 use mathlib.Core.List.{List, [], _∷_, _++_, map}
@@ -19,7 +19,7 @@ use Rattle.automaton.specs.StateSet.{StateSet}
 use Rattle.operations.specs.Marks.{nodeSet, nodeSets, sameWords}
 use Rattle.operations.specs.Exchange.{recomputed, setIn, keptFrom, rootSet, outcomesBehind, outcomesAfter}
 use Rattle.operations.proofs.MarksLaws.{same-words}
-use Rattle.operations.proofs.ClimbLaws.{sets-kept, climb-right}
+use Rattle.operations.proofs.PropagateLaws.{sets-kept, propagate-right}
 
 pub sets-recomputed : (rs : List StateSet) → map setIn (map recomputed rs) ≡ rs
 sets-recomputed [] = refl
@@ -105,7 +105,7 @@ module _ (a table : List ℕ) (stored : ℕ → StateSet) (used : List ℕ) (e :
           ∙ ap (λ (r : StateSet). values a rule behind (r ∷ σ)) q)
       go (fails other) =
           rw (other, right-stack a rule stored front 0 [] right-front, root)
-          (climb-right a table used e stored behind (e + 1) [] σ (old-tree .root) (new-tree .root) refl (holding-first a used e) right-behind)
+          (propagate-right a table used e stored behind (e + 1) [] σ (old-tree .root) (new-tree .root) refl (holding-first a used e) right-behind)
 
   pub outcomes-right : map setIn (outcomesAfter a table stored used e xs) ≡ nodeSets a table (splice a used e xs)
   unfolding outcomesAfter nodeSets splice front behind σ

@@ -1,5 +1,5 @@
 -- The outcomes of an exchange by node number, whatever the stored state sets are: those before the replaced subtree, those of
--- the replacement, those behind; and how many are recomputed. Assumes nothing.
+-- the replacement, those behind; and how many are recomputed.
 use mathlib.Core.Path.{_≡_, refl, ap, ap₂, _∙_, sym, subst}
 use mathlib.Core.Bool.{Bool, true, not, cond}
 use mathlib.Core.List.{List, [], _∷_, _++_, map}
@@ -18,9 +18,9 @@ use Rattle.automaton.specs.StateSet.{StateSet}
 use Rattle.operations.specs.Marks.{nodeSet, nodeSets, sameWords}
 use Rattle.operations.specs.Exchange.{Outcome, kept, recomputed, isRecomputed, recomputedIn, keptFrom, rootSet, outcomesBehind, outcomesAfter, outcomes}
 use Rattle.operations.specs.ExchangeCall.{ExchangeCall, usedIn, storedIn}
-use Rattle.operations.specs.Recomputation.{outcomeAt, outcomeOf, setAfter, behindIn, oldNumber, newNumber, ancestor, goesOn, recomputes}
+use Rattle.operations.specs.Recomputation.{outcomeAt, outcomeOf, setAfter, behindIn, oldNumber, newNumber, ancestor, continues, recomputes}
 use Rattle.operations.proofs.MarksLaws.{length-nodeSets}
-use Rattle.operations.proofs.ClimbLaws.{count-kept}
+use Rattle.operations.proofs.PropagateLaws.{count-kept}
 use Rattle.operations.proofs.OutcomeLaws.{root-read}
 use Rattle.operations.proofs.BehindLaws.{chosen-at, chosen-behind, recomputed-count, is-chosen}
 use Rattle.operations.proofs.RuleLaws.{length-behind}
@@ -164,7 +164,7 @@ module _ (c : ExchangeCall) (he : c .element < length (usedIn c)) (hx : oneTree 
   pub count-most : recomputedIn behind ≤ depthOf (c .alphabet) (usedIn c) (c .element)
   unfolding depthOf
   count-most =
-      let w = count-wider (recomputes c) (ancestor c) (λ k h. and-true (goesOn c k) (ancestor c k) h .1) (listFrom (λ i. i) 0 m) in
+      let w = count-wider (recomputes c) (ancestor c) (λ k h. and-true (continues c k) (ancestor c k) h .1) (listFrom (λ i. i) 0 m) in
       omega (arith, count-rest, shifted, parts)
     where
       above : ℕ → Bool

@@ -1,5 +1,5 @@
 -- The outcomes of an exchange are whole state sets where the stored ones are: a recomputed set has the size of a state set, and
--- a kept one is a stored one. Assumes nothing.
+-- a kept one is a stored one.
 use Prim.Native.Nat.{ℕ, zero, suc, _+_, _<_, _≤_}
 use mathlib.Core.Path.{_≡_}
 use mathlib.Core.Bool.{Bool, true, false, cond}
@@ -11,7 +11,7 @@ use Rattle.words.proofs.ListLaws.{map-append}
 use Rattle.words.proofs.PostfixLaws.{start-le}
 use Rattle.automaton.specs.StateSet.{StateSet}
 use Rattle.operations.specs.Marks.{sizeOf, nodeSet, nodeSets, sameWords}
-use Rattle.operations.specs.Exchange.{Outcome, kept, recomputed, setIn, keptFrom, climb, rootSet, outcomesBehind, outcomesAfter}
+use Rattle.operations.specs.Exchange.{Outcome, kept, recomputed, setIn, keptFrom, propagate, rootSet, outcomesBehind, outcomesAfter}
 use Rattle.operations.proofs.MarksLaws.{Sized, sized-append, sized-nodeSets, length-nodeSet}
 use Rattle.operations.proofs.OutcomeLaws.{sets-recomputed}
 
@@ -23,20 +23,20 @@ module _ (a table : List ℕ) (stored : ℕ → StateSet) (n : ℕ) (whole : (i 
   whole-kept zero j h = tt
   whole-kept (suc m) j h = (whole j (omega arith), whole-kept m (suc j) (omega arith))
 
-  whole-climb : (above : ℕ → Bool) (ws : List ℕ) (j : ℕ) (s : List StateSet) → j + length ws ≤ n → Whole (climb a table stored above j ws s)
-  unfolding climb valueOn
-  whole-climb above [] j s h = tt
-  whole-climb above (w ∷ ws) j s h =
-      go (above j) (sameWords new (stored j)) (whole-climb above ws (suc j) (stored j ∷ drop (arity a w) s) (omega arith))
-      (whole-climb above ws (suc j) (new ∷ drop (arity a w) s) (omega arith))
+  whole-propagate : (above : ℕ → Bool) (ws : List ℕ) (j : ℕ) (s : List StateSet) → j + length ws ≤ n → Whole (propagate a table stored above j ws s)
+  unfolding propagate valueOn
+  whole-propagate above [] j s h = tt
+  whole-propagate above (w ∷ ws) j s h =
+      go (above j) (sameWords new (stored j)) (whole-propagate above ws (suc j) (stored j ∷ drop (arity a w) s) (omega arith))
+      (whole-propagate above ws (suc j) (new ∷ drop (arity a w) s) (omega arith))
     where
       new : StateSet
       new = valueOn a (nodeSet table) w s
 
-      go : (b c : Bool) → Whole (climb a table stored above (suc j) ws (stored j ∷ drop (arity a w) s))
-          → Whole (climb a table stored above (suc j) ws (new ∷ drop (arity a w) s))
-          → Whole (cond b (cond c (recomputed new ∷ keptFrom stored (suc j) (length ws)) (recomputed new ∷ climb a table stored above (suc j) ws (new ∷ drop (arity a w) s)))
-          (kept (stored j) ∷ climb a table stored above (suc j) ws (stored j ∷ drop (arity a w) s)))
+      go : (b c : Bool) → Whole (propagate a table stored above (suc j) ws (stored j ∷ drop (arity a w) s))
+          → Whole (propagate a table stored above (suc j) ws (new ∷ drop (arity a w) s))
+          → Whole (cond b (cond c (recomputed new ∷ keptFrom stored (suc j) (length ws)) (recomputed new ∷ propagate a table stored above (suc j) ws (new ∷ drop (arity a w) s)))
+          (kept (stored j) ∷ propagate a table stored above (suc j) ws (stored j ∷ drop (arity a w) s)))
       go false c beside onward = (whole j (omega arith), beside)
       go true true beside onward = (length-nodeSet table w _, whole-kept (length ws) (suc j) (omega arith))
       go true false beside onward = (length-nodeSet table w _, onward)
@@ -54,9 +54,9 @@ module _ (a table : List ℕ) (stored : ℕ → StateSet) (n : ℕ) (whole : (i 
       fits : e + 1 + length rest ≤ n
       fits = rw (length-drop (e + 1) used) (omega arith)
 
-      go : (b : Bool) → Whole (cond b (keptFrom stored (e + 1) (length rest)) (climb a table stored (isAncestor a used e) (e + 1) rest stack))
+      go : (b : Bool) → Whole (cond b (keptFrom stored (e + 1) (length rest)) (propagate a table stored (isAncestor a used e) (e + 1) rest stack))
       go true = whole-kept (length rest) (e + 1) fits
-      go false = whole-climb (isAncestor a used e) rest (e + 1) stack fits
+      go false = whole-propagate (isAncestor a used e) rest (e + 1) stack fits
 
   pub whole-outcomes : (used : List ℕ) (e : ℕ) (xs : List ℕ) → e < length used → length used ≤ n → Whole (outcomesAfter a table stored used e xs)
   unfolding outcomesAfter

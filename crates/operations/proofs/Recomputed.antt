@@ -1,5 +1,5 @@
 -- The second half of demand 3 holds of every accepted Exchange: the laws of the outcomes by node number, of the nodes behind
--- and of the rule, put together. Assumes nothing.
+-- and of the rule, put together.
 use mathlib.Core.Path.{_≡_, ap, _∙_, sym, subst}
 use mathlib.Core.List.{List, [], _∷_, map, flatten}
 use Prim.Native.Nat.{ℕ, _+_, _-_, _*_, _<_}

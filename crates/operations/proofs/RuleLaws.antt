@@ -1,5 +1,5 @@
 -- Every recomputed node's state set comes from its children's as they stand in the outcomes: those just recomputed,
--- otherwise those stored, whatever the stored sets are. Assumes nothing.
+-- otherwise those stored, whatever the stored sets are.
 use mathlib.Core.Path.{_≡_, refl, ap, _∙_, sym, subst}
 use mathlib.Core.Bool.{Bool, true}
 use mathlib.Core.List.{List, [], _∷_, _++_, map}
@@ -15,8 +15,8 @@ use Rattle.words.proofs.StackLaws.{read}
 use Rattle.words.proofs.ChildLaws.{numbers, numbers-more, children-value}
 use Rattle.automaton.specs.StateSet.{StateSet}
 use Rattle.operations.specs.Marks.{nodeSet, nodeSets, sameWords}
-use Rattle.operations.specs.Exchange.{Outcome, kept, recomputed, setIn, keptFrom, climb, rootSet, outcomesBehind, outcomesAfter}
-use Rattle.operations.proofs.ClimbLaws.{climb-beside, climb-last, climb-onward}
+use Rattle.operations.specs.Exchange.{Outcome, kept, recomputed, setIn, keptFrom, propagate, rootSet, outcomesBehind, outcomesAfter}
+use Rattle.operations.proofs.PropagateLaws.{propagate-beside, propagate-last, propagate-onward}
 use Rattle.operations.proofs.OutcomeLaws.{root-read}
 use Rattle.operations.specs.Recomputation.{outcomeAt}
 
@@ -68,11 +68,11 @@ module _ (a table : List ℕ) where
     stack-kept [] j s = refl
     stack-kept (w ∷ ws) j s = stack-kept ws (suc j) (stored j ∷ drop (arity a w) s)
 
-    follows-climb : (above : ℕ → Bool) (ws : List ℕ) (j : ℕ) (s : List StateSet) → Follows ws s (climb a table stored above j ws s)
-    unfolding climb
-    follows-climb above [] j s = tt
-    follows-climb above (w ∷ ws) j s =
-        go (tested (above j)) (tested (sameWords new (stored j))) (follows-climb above ws (suc j) (stored j ∷ rest)) (follows-climb above ws (suc j) (new ∷ rest))
+    follows-propagate : (above : ℕ → Bool) (ws : List ℕ) (j : ℕ) (s : List StateSet) → Follows ws s (propagate a table stored above j ws s)
+    unfolding propagate
+    follows-propagate above [] j s = tt
+    follows-propagate above (w ∷ ws) j s =
+        go (tested (above j)) (tested (sameWords new (stored j))) (follows-propagate above ws (suc j) (stored j ∷ rest)) (follows-propagate above ws (suc j) (new ∷ rest))
       where
         new : StateSet
         new = on w s
@@ -80,11 +80,11 @@ module _ (a table : List ℕ) where
         rest : List StateSet
         rest = drop (arity a w) s
 
-        go : Tested (above j) → Tested (sameWords new (stored j)) → Follows ws (stored j ∷ rest) (climb a table stored above (suc j) ws (stored j ∷ rest))
-            → Follows ws (new ∷ rest) (climb a table stored above (suc j) ws (new ∷ rest)) → Follows (w ∷ ws) s (climb a table stored above j (w ∷ ws) s)
-        go (fails x) y l m = subst (Follows (w ∷ ws) s) (sym (climb-beside a table stored above j w ws s x)) (tt, l)
-        go (holds x) (holds y) l m = subst (Follows (w ∷ ws) s) (sym (climb-last a table stored above j w ws s x y)) (refl, follows-kept ws (suc j) (new ∷ rest))
-        go (holds x) (fails y) l m = subst (Follows (w ∷ ws) s) (sym (climb-onward a table stored above j w ws s x y)) (refl, m)
+        go : Tested (above j) → Tested (sameWords new (stored j)) → Follows ws (stored j ∷ rest) (propagate a table stored above (suc j) ws (stored j ∷ rest))
+            → Follows ws (new ∷ rest) (propagate a table stored above (suc j) ws (new ∷ rest)) → Follows (w ∷ ws) s (propagate a table stored above j (w ∷ ws) s)
+        go (fails x) y l m = subst (Follows (w ∷ ws) s) (sym (propagate-beside a table stored above j w ws s x)) (tt, l)
+        go (holds x) (holds y) l m = subst (Follows (w ∷ ws) s) (sym (propagate-last a table stored above j w ws s x y)) (refl, follows-kept ws (suc j) (new ∷ rest))
+        go (holds x) (fails y) l m = subst (Follows (w ∷ ws) s) (sym (propagate-onward a table stored above j w ws s x y)) (refl, m)
 
   follows-values : (ws : List ℕ) (s : List StateSet) → Follows ws s (map recomputed (values a (nodeSet table) ws s))
   unfolding values
@@ -118,7 +118,7 @@ module _ (a table : List ℕ) where
       where
         go : Tested (sameWords (rootSet a table xs) (stored e)) → Follows (drop (e + 1) used) (rootSet a table xs ∷ σ) (outcomesBehind a table stored used e xs)
         go (holds b) = rw b (follows-kept stored (drop (e + 1) used) (e + 1) (rootSet a table xs ∷ σ))
-        go (fails b) = rw b (follows-climb stored (isAncestor a used e) (drop (e + 1) used) (e + 1) (rootSet a table xs ∷ σ))
+        go (fails b) = rw b (follows-propagate stored (isAncestor a used e) (drop (e + 1) used) (e + 1) (rootSet a table xs ∷ σ))
 
     pub length-behind : length (outcomesBehind a table stored used e xs) ≡ length (drop (e + 1) used)
     length-behind = follows-length (drop (e + 1) used) (rootSet a table xs ∷ σ) (outcomesBehind a table stored used e xs) follows-behind

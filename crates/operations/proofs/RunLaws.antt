@@ -1,5 +1,5 @@
 -- What an accepted Run leaves: the state sets of the tree, in a slice of the same length; and a node's state set is that of its
--- subtree's tree. Assumes nothing.
+-- subtree's tree.
 use mathlib.Core.Path.{_≡_, ap, _∙_}
 use mathlib.Core.List.{List, [], flatten}
 use Prim.Native.Nat.{ℕ, _*_, _<_, _≤_}

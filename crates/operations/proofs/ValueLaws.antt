@@ -1,4 +1,4 @@
--- Every value of an accepted call fits 32 bits. Assumes nothing.
+-- Every value of an accepted call fits 32 bits.
 use mathlib.Core.Path.{_≡_, refl, sym}
 use mathlib.Core.List.{List, [], _∷_, flatten, head-eq-of-cons-eq}
 use Prim.Native.Nat.{ℕ, _*_, _^_, _<_, _≤_}

@@ -1,4 +1,4 @@
--- Compile: refusals 1 to 7, the answer, and the table slice at exit. Assumes nothing.
+-- Compile: refusals 1 to 7, the answer, and the table slice at exit.
 use Prim.Native.Nat.{ℕ}
 use mathlib.Core.List.{List, [], _∷_, _++_}
 use mathlib.Core.Bool.{Bool}
@@ -19,19 +19,19 @@ compiledTable a e = tableWords (compiled a e)
 unfoldable pub tooManyStates : List ℕ → List ℕ → Bool
 tooManyStates a e = ltb 1024 (compiled a e .states)
 
--- 7: "table slice shorter than the table"; `room` is the slice's length
+-- 7: "table slice shorter than the table"; `tableLength` is the slice's length
 unfoldable pub tableTooLong : List ℕ → List ℕ → ℕ → Bool
-tableTooLong a e room = ltb room (length (compiledTable a e))
+tableTooLong a e tableLength = ltb tableLength (length (compiledTable a e))
 
 -- 1 2 3 4 5 6, of an alphabet and a rule
 abbrev pub ruleRefusals : List ℕ → List ℕ → Refusals
 ruleRefusals a e = alphabetRefusals a ++ (expressionRefusals a e ++ ((6, tooManyStates a e) ∷ []))
 
 abbrev pub compileRefusals : List ℕ → List ℕ → ℕ → Refusals
-compileRefusals a e room = ruleRefusals a e ++ ((7, tableTooLong a e room) ∷ [])
+compileRefusals a e tableLength = ruleRefusals a e ++ ((7, tableTooLong a e tableLength) ∷ [])
 
 abbrev pub compileFault : List ℕ → List ℕ → ℕ → ℕ
-compileFault a e room = refusal (compileRefusals a e room)
+compileFault a e tableLength = refusal (compileRefusals a e tableLength)
 
 -- Compile "answers its word count"
 unfoldable pub compileAnswer : List ℕ → List ℕ → List ℕ → Answer

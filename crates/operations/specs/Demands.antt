@@ -1,5 +1,5 @@
 -- The claims: what the three demands say of the four operations, over the definitions that their contracts cite. Each is
--- proved in the file of proofs/ that is named with it. Assumes nothing.
+-- proved in the file of proofs/ that is named with it.
 use Prim.Native.Nat.{ℕ, _+_, _-_, _*_, _<_, _≤_}
 use mathlib.Core.Path.{_≡_}
 use mathlib.Core.Logic.{_↔_}

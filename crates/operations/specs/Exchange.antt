@@ -12,15 +12,15 @@ use Rattle.words.specs.Postfix.{arity, oneTree, startOf, isAncestor, splice, va
 use Rattle.automaton.specs.StateSet.{StateSet}
 use Rattle.words.specs.Answer.{Answer, answerOf, exitOf}
 use Rattle.operations.specs.Marks.{sizeOf, nodeSet, nodeSets, storedSet, sameWords, refit}
-use Rattle.operations.specs.Run.{wrongCount, fewMarks, tableRefusals, markedRefusals}
+use Rattle.operations.specs.Run.{wrongCount, marksTooShort, tableRefusals, markedRefusals}
 
 -- 9: "also if the used count exceeds the chapter slice"
-unfoldable pub wrongUse : ℕ → ℕ → Bool
-wrongUse n treeRoom = wrongCount n || ltb treeRoom n
+unfoldable pub wrongUsedCount : ℕ → ℕ → Bool
+wrongUsedCount n chapterLength = wrongCount n || ltb chapterLength n
 
 -- 14: "no such element"
 unfoldable pub noElement : ℕ → ℕ → Bool
-noElement n e = not (ltb e n)
+noElement n i = not (ltb i n)
 
 -- 15: "replacement of 0 or over 4,096 words, or no tree over the alphabet"
 unfoldable pub noReplacement : List ℕ → List ℕ → Bool
@@ -28,22 +28,22 @@ noReplacement a xs = wrongCount (length xs) || not (all (isNode a) xs && oneTree
 
 -- 16: "result over 4,096 elements, the chapter slice or the marks slice", for a result of n elements
 unfoldable pub resultTooLong : List ℕ → ℕ → ℕ → ℕ → Bool
-resultTooLong table n treeRoom marksRoom = ltb 4096 n || ltb treeRoom n || fewMarks table n marksRoom
+resultTooLong table n chapterLength marksLength = ltb 4096 n || ltb chapterLength n || marksTooShort table n marksLength
 
 -- 14 15 16, of a change in n used elements
 abbrev pub changeRefusals : List ℕ → List ℕ → ℕ → List ℕ → ℕ → ℕ → ℕ → List ℕ → Refusals
-changeRefusals a table n used treeRoom marksRoom e xs =
-    (14, noElement n e) ∷ (15, noReplacement a xs)
-    ∷ (16, resultTooLong table (length (splice a used e xs)) treeRoom marksRoom) ∷ []
+changeRefusals a table n used chapterLength marksLength i xs =
+    (14, noElement n i) ∷ (15, noReplacement a xs)
+    ∷ (16, resultTooLong table (length (splice a used i xs)) chapterLength marksLength) ∷ []
 
 -- of a call with this used count n and these used elements, slices of these lengths, an element and a replacement
 abbrev pub exchangeRefusals : List ℕ → List ℕ → ℕ → List ℕ → ℕ → ℕ → ℕ → List ℕ → Refusals
-exchangeRefusals a table n used treeRoom marksRoom e xs =
+exchangeRefusals a table n used chapterLength marksLength i xs =
     tableRefusals a table
-    ++ ((9, wrongUse n treeRoom) ∷ (markedRefusals a table n used marksRoom ++ changeRefusals a table n used treeRoom marksRoom e xs))
+    ++ ((9, wrongUsedCount n chapterLength) ∷ (markedRefusals a table n used marksLength ++ changeRefusals a table n used chapterLength marksLength i xs))
 
 abbrev pub exchangeFault : List ℕ → List ℕ → ℕ → List ℕ → ℕ → ℕ → ℕ → List ℕ → ℕ
-exchangeFault a table n used treeRoom marksRoom e xs = refusal (exchangeRefusals a table n used treeRoom marksRoom e xs)
+exchangeFault a table n used chapterLength marksLength i xs = refusal (exchangeRefusals a table n used chapterLength marksLength i xs)
 
 -- a node behind an exchange: its stored state set is kept, or its state set is recomputed
 pub data Outcome : Type 0 where
@@ -69,13 +69,13 @@ keptFrom stored j n = listFrom (λ i. kept (stored i)) j n
 -- The nodes from j on, behind the replaced subtree, where `above` tells its ancestors. The stack holds the state sets of
 -- the roots so far: those just recomputed, otherwise those stored. A node that is no ancestor keeps its state set. An
 -- ancestor is recomputed; if its state set is as stored, work ends there, otherwise it goes on.
-unfoldable pub climb : List ℕ → List ℕ → (ℕ → StateSet) → (ℕ → Bool) → ℕ → List ℕ → List StateSet → List Outcome
-climb a table stored above j [] stack = []
-climb a table stored above j (w ∷ ws) stack =
-    let beside = kept (stored j) ∷ climb a table stored above (suc j) ws (stored j ∷ drop (arity a w) stack) in
+unfoldable pub propagate : List ℕ → List ℕ → (ℕ → StateSet) → (ℕ → Bool) → ℕ → List ℕ → List StateSet → List Outcome
+propagate a table stored above j [] stack = []
+propagate a table stored above j (w ∷ ws) stack =
+    let beside = kept (stored j) ∷ propagate a table stored above (suc j) ws (stored j ∷ drop (arity a w) stack) in
     let new = valueOn a (nodeSet table) w stack in
     let last = recomputed new ∷ keptFrom stored (suc j) (length ws) in
-    let onward = recomputed new ∷ climb a table stored above (suc j) ws (new ∷ drop (arity a w) stack) in
+    let onward = recomputed new ∷ propagate a table stored above (suc j) ws (new ∷ drop (arity a w) stack) in
     let ancestor = cond (sameWords new (stored j)) last onward in
     cond (above j) ancestor beside
 
@@ -85,33 +85,33 @@ rootSet a table xs = getD (stackAfter a (nodeSet table) xs []) 0 []
 
 -- "If the replacement root's marks equal the old element's, no ancestor is worked out"
 unfoldable pub outcomesBehind : List ℕ → List ℕ → (ℕ → StateSet) → List ℕ → ℕ → List ℕ → List Outcome
-outcomesBehind a table stored used e xs =
-    let unchanged = keptFrom stored (e + 1) (length (drop (e + 1) used)) in
+outcomesBehind a table stored used i xs =
+    let unchanged = keptFrom stored (i + 1) (length (drop (i + 1) used)) in
     let changed =
-    climb a table stored (isAncestor a used e) (e + 1) (drop (e + 1) used)
-    (rootSet a table xs ∷ stackGiven a stored 0 (take (startOf a used e) used) []) in
-    cond (sameWords (rootSet a table xs) (stored e)) unchanged changed
+    propagate a table stored (isAncestor a used i) (i + 1) (drop (i + 1) used)
+    (rootSet a table xs ∷ stackGiven a stored 0 (take (startOf a used i) used) []) in
+    cond (sameWords (rootSet a table xs) (stored i)) unchanged changed
 
 -- all nodes of the new tree, where `stored` gives each used element's stored state set
 unfoldable pub outcomesAfter : List ℕ → List ℕ → (ℕ → StateSet) → List ℕ → ℕ → List ℕ → List Outcome
-outcomesAfter a table stored used e xs =
-    keptFrom stored 0 (startOf a used e) ++ (map recomputed (nodeSets a table xs) ++ outcomesBehind a table stored used e xs)
+outcomesAfter a table stored used i xs =
+    keptFrom stored 0 (startOf a used i) ++ (map recomputed (nodeSets a table xs) ++ outcomesBehind a table stored used i xs)
 
 -- A call: alphabet and table, the chapter slice and the marks slice, the used element count, an element and a replacement
-module _ (a table chapter marks : List ℕ) (n e : ℕ) (xs : List ℕ) where
+module _ (a table chapter marks : List ℕ) (n i : ℕ) (xs : List ℕ) where
   -- the used elements
   abbrev pub used : List ℕ
   used = take n chapter
 
   unfoldable pub fault : ℕ
-  fault = exchangeFault a table n used (length chapter) (length marks) e xs
+  fault = exchangeFault a table n used (length chapter) (length marks) i xs
 
   unfoldable pub newTree : List ℕ
-  newTree = splice a used e xs
+  newTree = splice a used i xs
 
   -- "Stored marks count as they stand"
   unfoldable pub outcomes : List Outcome
-  outcomes = outcomesAfter a table (storedSet (sizeOf table) marks) used e xs
+  outcomes = outcomesAfter a table (storedSet (sizeOf table) marks) used i xs
 
   -- "The answer is the new element count and the number worked out"
   unfoldable pub exchangeAnswer : Answer

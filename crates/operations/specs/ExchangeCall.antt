@@ -1,4 +1,4 @@
--- A call of Exchange as one record, with what it answers and leaves, for the claims. Assumes nothing.
+-- A call of Exchange as one record, with what it answers and leaves, for the claims.
 use Prim.Native.Nat.{ℕ}
 use mathlib.Core.List.{List}
 use lib.ListN.{length}

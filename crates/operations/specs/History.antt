@@ -1,4 +1,4 @@
--- Lists of Exchange calls on one chapter, and the plain chapter beside them (document 01, "Marks", demand 3). Assumes nothing.
+-- Lists of Exchange calls on one chapter, and the plain chapter beside them (document 01, "Marks", demand 3).
 use Prim.Native.Nat.{ℕ}
 use mathlib.Core.List.{List, [], _∷_}
 use mathlib.Core.Bool.{cond}
@@ -48,12 +48,12 @@ exchanges a table (c ∷ cs) s = exchanges a table cs (exchange a table s c)
 -- "A call that 'Refused calls' refuses with the plain chapter as the used elements: it stays. Any other: the words of the
 -- element's subtree give way to the replacement's words"
 unfoldable pub plain : List ℕ → List ℕ → ℕ → ℕ → List ℕ → Call → List ℕ
-plain a table treeRoom marksRoom p c =
-    cond (eqb (exchangeFault a table (length p) p treeRoom marksRoom (c .element) (c .replacement)) 0)
+plain a table chapterLength marksLength p c =
+    cond (eqb (exchangeFault a table (length p) p chapterLength marksLength (c .element) (c .replacement)) 0)
     (splice a p (c .element) (c .replacement))
     p
 
 -- the plain chapter behind a list of calls: it is "fed the calls alone, and no answers"
 unfoldable pub plains : List ℕ → List ℕ → ℕ → ℕ → List Call → List ℕ → List ℕ
-plains a table treeRoom marksRoom [] p = p
-plains a table treeRoom marksRoom (c ∷ cs) p = plains a table treeRoom marksRoom cs (plain a table treeRoom marksRoom p c)
+plains a table chapterLength marksLength [] p = p
+plains a table chapterLength marksLength (c ∷ cs) p = plains a table chapterLength marksLength cs (plain a table chapterLength marksLength p c)

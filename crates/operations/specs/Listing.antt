@@ -1,4 +1,4 @@
--- List: refusals 1 2 8 9 12 13, the answer, and the list slice at exit. Assumes nothing.
+-- List: refusals 1 2 8 9 12 13, the answer, and the list slice at exit.
 use Prim.Native.Nat.{ℕ, suc}
 use mathlib.Core.List.{List, [], _∷_, _++_}
 use mathlib.Core.Bool.{Bool, cond}
@@ -9,19 +9,19 @@ use Rattle.words.specs.Refusal.{Refusals, refusal}
 use Rattle.automaton.specs.StateSet.{StateSet, contains}
 use Rattle.words.specs.Answer.{Answer, answerOf, exitOf}
 use Rattle.operations.specs.Marks.{sizeOf, finalOf, storedSet}
-use Rattle.operations.specs.Run.{wrongCount, fewMarks, tableRefusals}
+use Rattle.operations.specs.Run.{wrongCount, marksTooShort, tableRefusals}
 
 -- 13: "list slice shorter than the element count"
 unfoldable pub listTooShort : ℕ → ℕ → Bool
-listTooShort n listRoom = ltb listRoom n
+listTooShort n listLength = ltb listLength n
 
--- `room` and `listRoom` are the lengths of the marks and of the list slice
+-- `marksLength` and `listLength` are the lengths of the marks and of the list slice
 abbrev pub listRefusals : List ℕ → List ℕ → ℕ → ℕ → ℕ → Refusals
-listRefusals a table n room listRoom =
-    tableRefusals a table ++ ((9, wrongCount n) ∷ (12, fewMarks table n room) ∷ (13, listTooShort n listRoom) ∷ [])
+listRefusals a table n marksLength listLength =
+    tableRefusals a table ++ ((9, wrongCount n) ∷ (12, marksTooShort table n marksLength) ∷ (13, listTooShort n listLength) ∷ [])
 
 abbrev pub listFault : List ℕ → List ℕ → ℕ → ℕ → ℕ → ℕ
-listFault a table n room listRoom = refusal (listRefusals a table n room listRoom)
+listFault a table n marksLength listLength = refusal (listRefusals a table n marksLength listLength)
 
 -- the numbers, from i on, of the state sets that hold the final state: "A hit is an element whose final state is marked."
 unfoldable pub matchesIn : ℕ → ℕ → List StateSet → List ℕ

@@ -1,4 +1,4 @@
--- The state sets of a tree's nodes (document 01's marks), and what stands in a lent slice behind a change. Assumes nothing.
+-- The state sets of a tree's nodes (document 01's marks), and what stands in a lent slice behind a change.
 use Prim.Native.Nat.{ℕ, _-_, _*_, _≤_, max}
 use mathlib.Core.Path.{_≡_}
 use mathlib.Core.Logic.{_↔_}

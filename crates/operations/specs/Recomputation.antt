@@ -1,5 +1,5 @@
 -- Which ancestors an accepted Exchange recomputes (document 01, "Marks"), said of the state sets as they come out, for the
--- claim of demand 3's second half. The definition that works them out is `climb` in Exchange. Assumes nothing.
+-- claim of demand 3's second half. The definition that works them out is `propagate` in Exchange.
 use Prim.Native.Nat.{ℕ, _+_}
 use mathlib.Core.List.{List, []}
 use mathlib.Core.Bool.{Bool, not, _&&_}
@@ -47,11 +47,11 @@ module _ (c : ExchangeCall) where
 
   -- work goes on up to it: the replacement root's words are not those stored for the old element, and no nearer ancestor is
   -- unchanged
-  abbrev pub goesOn : ℕ → Bool
-  goesOn k =
+  abbrev pub continues : ℕ → Bool
+  continues k =
       not (sameWords (rootSet (c .alphabet) (c .table) (c .replacement)) (storedIn c (c .element)))
       && all (λ i. not (unchanged i)) (listFrom (λ i. i) 0 k)
 
   -- it is an ancestor that is recomputed
   abbrev pub recomputes : ℕ → Bool
-  recomputes k = goesOn k && ancestor k
+  recomputes k = continues k && ancestor k

@@ -1,4 +1,4 @@
--- Run: refusals 1 2 8 9 10 11 12, the answer, and the marks slice at exit. Assumes nothing.
+-- Run: refusals 1 2 8 9 10 11 12, the answer, and the marks slice at exit.
 use Prim.Native.Nat.{ℕ, _+_, _*_}
 use mathlib.Core.List.{List, [], _∷_, _++_, flatten}
 use mathlib.Core.Bool.{Bool, _||_}
@@ -16,9 +16,9 @@ use Rattle.operations.specs.Marks.{sizeOf, nodeSets}
 unfoldable pub wrongCount : ℕ → Bool
 wrongCount n = eqb n 0 || ltb 4096 n
 
--- 12: "fewer marks than elements × S"; `room` is the length of the marks slice
-unfoldable pub fewMarks : List ℕ → ℕ → ℕ → Bool
-fewMarks table n room = ltb room (n * sizeOf table)
+-- 12: "fewer marks than elements × S"; `marksLength` is the length of the marks slice
+unfoldable pub marksTooShort : List ℕ → ℕ → ℕ → Bool
+marksTooShort table n marksLength = ltb marksLength (n * sizeOf table)
 
 -- 1 2 8, of an alphabet and a table: Run, List and Exchange begin with them
 abbrev pub tableRefusals : List ℕ → List ℕ → Refusals
@@ -26,14 +26,14 @@ tableRefusals a table = alphabetRefusals a ++ ((8, noTable a table) ∷ [])
 
 -- 10 11 12, of n elements and a marks slice of that length: Run and Exchange have them
 abbrev pub markedRefusals : List ℕ → List ℕ → ℕ → List ℕ → ℕ → Refusals
-markedRefusals a table n ch room = treeRefusals a ch ++ ((12, fewMarks table n room) ∷ [])
+markedRefusals a table n ch marksLength = treeRefusals a ch ++ ((12, marksTooShort table n marksLength) ∷ [])
 
 abbrev pub runRefusals : List ℕ → List ℕ → List ℕ → ℕ → Refusals
-runRefusals a table ch room =
-    tableRefusals a table ++ ((9, wrongCount (length ch)) ∷ markedRefusals a table (length ch) ch room)
+runRefusals a table ch marksLength =
+    tableRefusals a table ++ ((9, wrongCount (length ch)) ∷ markedRefusals a table (length ch) ch marksLength)
 
 abbrev pub runFault : List ℕ → List ℕ → List ℕ → ℕ → ℕ
-runFault a table ch room = refusal (runRefusals a table ch room)
+runFault a table ch marksLength = refusal (runRefusals a table ch marksLength)
 
 -- the marks that an accepted Run leaves: "Marks beyond the chapter are untouched."
 unfoldable pub runMarks : List ℕ → List ℕ → List ℕ → List ℕ → List ℕ

@@ -1,4 +1,4 @@
--- Laws of ports as numbers: which entries they have. Assumes nothing.
+-- Laws of ports as numbers: which entries they have.
 use mathlib.Core.Path.{_≡_}
 use mathlib.Core.List.{List, [], _∷_}
 use Prim.Native.Nat.{ℕ, suc, _+_, _%_, _<_, _≤_}

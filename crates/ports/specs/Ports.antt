@@ -1,5 +1,4 @@
 -- Ports (a word's exit and entries) as numbers, and an entry that may be missing. It serves the inner functions of Compile.
--- Assumes nothing.
 use Prim.Native.Nat.{ℕ, suc, _+_, _/_, _%_, _<_}
 use mathlib.Core.Path.{_≡_}
 use mathlib.Core.List.{List, [], _∷_, map}

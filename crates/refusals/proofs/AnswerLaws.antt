@@ -1,4 +1,4 @@
--- Laws of the answer and a slice of a refused and of an accepted call. Assumes nothing.
+-- Laws of the answer and a slice of a refused and of an accepted call.
 use mathlib.Core.Path.{_≡_, sym}
 use mathlib.Core.List.{List}
 use Prim.Native.Nat.{ℕ}

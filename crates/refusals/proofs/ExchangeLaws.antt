@@ -1,4 +1,4 @@
--- The words of a replacement that make no tree over the alphabet, and what the length of a result is. Assumes nothing.
+-- The words of a replacement that make no tree over the alphabet, and what the length of a result is.
 use mathlib.Core.Path.{_≡_, refl, ap, _∙_, sym}
 use mathlib.Core.Bool.{Bool, true, false, not, cond, _&&_}
 use mathlib.Core.List.{List}
@@ -9,14 +9,14 @@ use lib.Seq.{length-take-le}
 use lib.Dec.{eqb}
 use Rattle.words.specs.Lists.{all}
 use Rattle.words.specs.Refusal.{Refusals, refusal}
-use Rattle.words.specs.Chapter.{isNode, noNodes, treeFault}
+use Rattle.words.specs.Chapter.{isNode, notNodes, treeFault}
 use Rattle.words.specs.Postfix.{oneTree, notOneTree, startOf, splice}
 use Rattle.words.proofs.PostfixLaws.{length-splice}
 use Rattle.operations.specs.Exchange.{resultTooLong}
 
 -- 10 or 11 refuses them
 pub tree-refused : (a xs : List ℕ) (r : ℕ) → r ≡ treeFault a xs → not (eqb r 0) ≡ not (all (isNode a) xs && oneTree a xs)
-unfolding noNodes notOneTree
+unfolding notNodes notOneTree
 tree-refused a xs r e = ap (λ (i : ℕ). not (eqb i 0)) e ∙ go (all (isNode a) xs) (oneTree a xs)
   where
     go : (b c : Bool) → not (eqb (cond (not b) 10 (cond (not c) 11 0)) 0) ≡ not (b && c)

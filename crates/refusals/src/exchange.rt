@@ -3,10 +3,10 @@ ghost use mathlib.Core.Path.{_≡_};
 ghost use Prim.Native.Nat.{_≤_};
 ghost use lib.ListN.{length, take};
 ghost use Rattle.words.specs.Refusal.{refusal};
-ghost use Rattle.operations.specs.Exchange.{wrongUse, noReplacement, resultTooLong, changeRefusals, exchangeFault};
+ghost use Rattle.operations.specs.Exchange.{wrongUsedCount, noReplacement, resultTooLong, changeRefusals, exchangeFault};
 use super::shared::ELEMENTS_MOST;
-use super::shared::few_marks;
 use super::shared::marked_fault;
+use super::shared::marks_too_short;
 use super::shared::table_fault;
 use super::shared::wrong_count;
 use words::chapter::tree_fault;
@@ -14,7 +14,7 @@ use words::postfix::subtree_start;
 
 // Whether so many elements are too few or too many, or do not fit a chapter slice of `places` words.
 fn wrong_use(count: usize, places: usize) -> bool
-    ensures { λ r. ⌜ r ≡ wrongUse count places ⌝ }
+    ensures { λ r. ⌜ r ≡ wrongUsedCount count places ⌝ }
 {
     if wrong_count(count) {
         return true;
@@ -42,7 +42,7 @@ fn result_too_long(table: &[u32], count: usize, places: usize, room: usize) -> b
     if count > places {
         return true;
     }
-    few_marks(table, count, room)
+    marks_too_short(table, count, room)
 }
 
 // Of the element and the replacement: 14, 15 or 16, the first that applies, or 0. For 16 the result's length is known: what

@@ -1,7 +1,7 @@
 // List's refusals, each with its number, in document 01's order.
 ghost use mathlib.Core.Path.{_≡_};
 ghost use Rattle.operations.specs.Listing.{listFault};
-use super::shared::few_marks;
+use super::shared::marks_too_short;
 use super::shared::table_fault;
 use super::shared::wrong_count;
 
@@ -17,7 +17,7 @@ pub fn list_fault(alphabet: &[u32], table: &[u32], count: usize, room: usize, pl
     if wrong_count(count) {
         return 9;
     }
-    if few_marks(table, count, room) {
+    if marks_too_short(table, count, room) {
         return 12;
     }
     if places < count {

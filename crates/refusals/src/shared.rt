@@ -3,7 +3,7 @@ ghost use mathlib.Core.Path.{_≡_};
 ghost use Prim.Native.Nat.{_≤_};
 ghost use lib.ListN.{length};
 ghost use Rattle.words.specs.Refusal.{refusal};
-ghost use Rattle.operations.specs.Run.{wrongCount, fewMarks, tableRefusals, markedRefusals};
+ghost use Rattle.operations.specs.Run.{wrongCount, marksTooShort, tableRefusals, markedRefusals};
 use tables::check::is_table;
 use tables::head::set_size;
 use words::alphabet::alphabet_fault;
@@ -37,9 +37,9 @@ pub(crate) fn wrong_count(count: usize) -> bool
 }
 
 // Whether a marks slice of `room` words is too short for the state sets of this many elements.
-pub(crate) fn few_marks(table: &[u32], count: usize, room: usize) -> bool
+pub(crate) fn marks_too_short(table: &[u32], count: usize, room: usize) -> bool
     requires { ⌜ count ≤ 4096 ⌝ }
-    ensures { λ r. ⌜ r ≡ fewMarks (now (table .entry)) count room ⌝ }
+    ensures { λ r. ⌜ r ≡ marksTooShort (now (table .entry)) count room ⌝ }
 {
     room < count * set_size(table)
 }
@@ -57,7 +57,7 @@ pub(crate) fn marked_fault(alphabet: &[u32], table: &[u32], nodes: &[u32], room:
     if shape != 0 {
         return shape;
     }
-    if few_marks(table, nodes.len(), room) {
+    if marks_too_short(table, nodes.len(), room) {
         return 12;
     }
     0

@@ -1,5 +1,5 @@
 -- What Compile, Run and List answer on slices of 2,048, 8,192 and 256 words is what the output is made of: 7, 8, 12 and 13
--- cannot arise. Assumes nothing.
+-- cannot arise.
 use mathlib.Core.Path.{_≡_, refl, ap, _∙_, sym}
 use mathlib.Core.Bool.{false}
 use mathlib.Core.List.{List, [], _∷_, _++_, head-eq-of-cons-eq}
@@ -18,7 +18,7 @@ use Rattle.automaton.proofs.CompiledTable.{table-most}
 use Rattle.words.specs.Answer.{refused, accepted}
 use Rattle.operations.specs.Compile.{compiledTable, tableTooLong, ruleRefusals, compileRefusals, compileFault, compileAnswer}
 use Rattle.operations.specs.Marks.{sizeOf, finalOf, nodeSets}
-use Rattle.operations.specs.Run.{wrongCount, fewMarks, runFault, runMarks, runAnswer, runExit}
+use Rattle.operations.specs.Run.{wrongCount, marksTooShort, runFault, runMarks, runAnswer, runExit}
 use Rattle.operations.specs.Listing.{listFault, matchesIn, matchesOf, listAnswer, listExit}
 use Rattle.operations.proofs.AcceptedLaws.{accepted-values, RuleAccepted, rule-accepted, rule-alphabet, rule-expression, run-accepted, accepted-list}
 use Rattle.operations.proofs.RunLaws.{run-exit, run-writes, run-length, matches-nodeSets}
@@ -90,8 +90,8 @@ module _ (a e : List ℕ) where
     size-few = let s = rule .states in rw compiled-states (omega arith)
 
     module _ (few : length ch ≤ 256) where
-      marks-enough : fewMarks (compiledTable a e) (length ch) 8192 ≡ false
-      unfolding fewMarks
+      marks-enough : marksTooShort (compiledTable a e) (length ch) 8192 ≡ false
+      unfolding marksTooShort
       marks-enough =
           let p : length ch * sizeOf (compiledTable a e) ≤ 256 * 32 = mul-le-mul few size-few in
           le-ltb 8192 (length ch * sizeOf (compiledTable a e)) p

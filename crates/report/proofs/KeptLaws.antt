@@ -1,5 +1,5 @@
 -- The output depends on the first 65 words of the alphabet, the first 65 of the rule and the first 257 of the chapter: one
--- word more than the most that is accepted. Assumes nothing.
+-- word more than the most that is accepted.
 use mathlib.Core.Path.{_≡_, refl, ap, _∙_, sym}
 use mathlib.Core.Bool.{Bool, true, false}
 use mathlib.Core.List.{List, [], _∷_, _++_}

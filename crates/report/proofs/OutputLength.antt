@@ -1,4 +1,4 @@
--- The output never has more than 4,096 bytes. Assumes nothing.
+-- The output never has more than 4,096 bytes.
 use mathlib.Core.Path.{_≡_, refl}
 use mathlib.Core.Bool.{Bool, true, false, cond, _&&_}
 use mathlib.Core.List.{List, [], _∷_, _++_}

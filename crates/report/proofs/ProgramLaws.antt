@@ -1,5 +1,5 @@
 -- The output of the whole program is what its functions give of what it read: the words that are kept, and input that ends
--- early. Assumes nothing.
+-- early.
 use mathlib.Core.Path.{_≡_, ap, _∙_, sym}
 use mathlib.Core.Bool.{Bool, true, cond}
 use mathlib.Core.List.{List, _∷_, _++_}

@@ -1,4 +1,4 @@
--- What the report knows after each call of Compile, Run and List, and what it may write then. Assumes nothing.
+-- What the report knows after each call of Compile, Run and List, and what it may write then.
 use mathlib.Core.Path.{_≡_, ap, ap₂, _∙_, sym}
 use mathlib.Core.Bool.{Bool, true, false}
 use mathlib.Core.List.{List, [], _∷_, _++_, head-eq-of-cons-eq}

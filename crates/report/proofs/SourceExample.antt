@@ -1,13 +1,13 @@
 -- The source's own example, byte for byte: what the definitions print of its input. The hits are those of the table of marked
--- examples. Assumes nothing.
+-- examples.
 use Prim.Native.Nat.{ℕ}
 use mathlib.Core.Path.{_≡_, refl, ap, _∙_, sym}
 use mathlib.Core.List.{List, [], _∷_, _++_, map, flatMap}
 use lib.ListN.{replicate}
 use Rattle.words.specs.Word.{kindAt, spareBitsClear, isOf}
 use Rattle.words.specs.Alphabet.{isEntry, rankOf, isConstant, constantsFrom, constantsOf, noAlphabet, wrongConstants}
-use Rattle.words.specs.Expression.{isExpressionWord, wrongLength, noExpressionWords}
-use Rattle.words.specs.Chapter.{isNode, noNodes}
+use Rattle.words.specs.Expression.{isExpressionWord, wrongLength, notExpressionWords}
+use Rattle.words.specs.Chapter.{isNode, notNodes}
 use Rattle.words.specs.Postfix.{arity, trees, notOneTree, startFrom}
 use Rattle.automaton.specs.Transition.{transitionsAt, automatonOf}
 use Rattle.automaton.specs.Numbering.{hasEntries, statesOf, portOf, ownTransitions, portsFrom, statesAfter, transitionsFrom, compiled}
@@ -83,7 +83,7 @@ hits-are =
 no-fault : marklistFault alphabet rule chapter ≡ 0
 unfolding
     kindAt spareBitsClear isOf isEntry rankOf isConstant constantsFrom constantsOf noAlphabet wrongConstants isExpressionWord wrongLength
-    noExpressionWords isNode noNodes arity trees notOneTree hasEntries statesOf portOf ownTransitions portsFrom statesAfter transitionsFrom compiled
+    notExpressionWords isNode notNodes arity trees notOneTree hasEntries statesOf portOf ownTransitions portsFrom statesAfter transitionsFrom compiled
     tooManyStates wrongChapter
 no-fault = refl
 

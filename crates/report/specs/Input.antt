@@ -1,4 +1,4 @@
--- What `marklist` reads, and what it prints of all it is given (document 01, "The source's own example"). Assumes nothing.
+-- What `marklist` reads, and what it prints of all it is given (document 01, "The source's own example").
 use Prim.Native.Nat.{ℕ, _+_}
 use mathlib.Core.List.{List}
 use mathlib.Core.Bool.{Bool}

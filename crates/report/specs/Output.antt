@@ -1,5 +1,4 @@
 -- What `marklist` prints of an alphabet, a rule and a chapter, as bytes (document 01, "The source's own example").
--- Assumes nothing.
 use Prim.Native.Nat.{ℕ}
 use mathlib.Core.List.{List, _∷_, _++_}
 use mathlib.Core.Bool.{Bool, cond, _||_}

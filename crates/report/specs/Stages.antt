@@ -1,4 +1,4 @@
--- What the functions between Compile and the lines are given. It serves the inner functions. Assumes nothing.
+-- What the functions between Compile and the lines are given. It serves the inner functions.
 use Prim.Native.Nat.{ℕ, _≤_}
 use mathlib.Core.Path.{_≡_}
 use mathlib.Core.List.{List, [], _∷_}

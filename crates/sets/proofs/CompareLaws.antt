@@ -1,4 +1,4 @@
--- Laws of comparing two lists word by word. Assumes nothing.
+-- Laws of comparing two lists word by word.
 use mathlib.Core.Path.{_≡_, refl, ap, ap₂, _∙_, sym, subst}
 use mathlib.Core.Bool.{true, false}
 use mathlib.Core.List.{List, [], _∷_, _++_}

@@ -1,4 +1,4 @@
--- A rule of a constant table, shown of all its numbers by one test that is computed. Assumes nothing.
+-- A rule of a constant table, shown of all its numbers by one test that is computed.
 use mathlib.Core.Path.{_∙_, subst, sym}
 use mathlib.Core.Bool.{Bool, true, false, _&&_}
 use mathlib.Core.List.{List, [], _∷_}

@@ -1,4 +1,4 @@
--- The ones in a list of words are counted word by word. Assumes nothing.
+-- The ones in a list of words are counted word by word.
 use mathlib.Core.Path.{_≡_, refl, ap, ap₂, _∙_, sym}
 use mathlib.Core.List.{List, [], _∷_}
 use Prim.Native.Nat.{ℕ, _+_, _*_, _<_, _≤_, _^_}

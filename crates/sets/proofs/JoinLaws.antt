@@ -1,4 +1,4 @@
--- Two sets joined word by word: the states of either, and no other. Assumes nothing.
+-- Two sets joined word by word: the states of either, and no other.
 use mathlib.Core.Path.{_≡_, refl, ap, ap₂, _∙_, sym}
 use mathlib.Core.Logic.{_⊎_, inl, inr, ⊎-elim}
 use mathlib.Core.Bool.{true, false, true≢false}

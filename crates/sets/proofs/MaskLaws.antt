@@ -1,4 +1,4 @@
--- The one-bit masks: a constant table of them, by one computed test. Assumes nothing.
+-- The one-bit masks: a constant table of them, by one computed test.
 use mathlib.Core.Path.{_≡_}
 use mathlib.Core.Bool.{Bool}
 use mathlib.Core.List.{List, [], _∷_}

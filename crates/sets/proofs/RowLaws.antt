@@ -1,5 +1,5 @@
 -- Laws of the state sets that stand one behind the other in a slice: they are its words, and one that is written is one of
--- them. Assumes nothing.
+-- them.
 use mathlib.Core.Path.{_≡_, ap, ap₂, _∙_, sym}
 use mathlib.Core.List.{List, [], _∷_, _++_, flatten, append-assoc}
 use Prim.Native.Nat.{ℕ, zero, suc, _+_, _*_, _<_, _≤_}

@@ -1,4 +1,4 @@
--- A set of a slice that goes through a set of its own comes out as it was. Assumes nothing.
+-- A set of a slice that goes through a set of its own comes out as it was.
 use mathlib.Core.Path.{_≡_, ap, ap₂, _∙_, sym}
 use mathlib.Core.List.{List, _++_}
 use Prim.Native.Nat.{ℕ, _+_, _-_, _≤_}

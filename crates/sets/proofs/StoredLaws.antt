@@ -1,4 +1,4 @@
--- Stored state sets: where they lie in the marks, and what they are after node i's was written. Assumes nothing.
+-- Stored state sets: where they lie in the marks, and what they are after node i's was written.
 use mathlib.Core.Path.{_≡_, ap, _∙_, sym}
 use mathlib.Core.List.{List, _++_, append-assoc}
 use Prim.Native.Nat.{ℕ, _+_, _-_, _*_, _<_, _≤_}

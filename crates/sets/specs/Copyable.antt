@@ -1,4 +1,4 @@
--- Which set of a slice may be copied: a condition that callers show. It serves inner functions. Assumes nothing.
+-- Which set of a slice may be copied: a condition that callers show. It serves inner functions.
 use Prim.Native.Nat.{ℕ, _+_, _≤_}
 use mathlib.Core.List.{List}
 use lib.ListN.{length}

@@ -1,4 +1,4 @@
--- Two state sets joined word by word, as code does it. It serves inner functions. Assumes nothing.
+-- Two state sets joined word by word, as code does it. It serves inner functions.
 use Prim.Native.Nat.{ℕ, zero, suc}
 use lib.Bits.{bitOr}
 use lib.ListN.{length, getD, set}

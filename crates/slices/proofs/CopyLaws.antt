@@ -1,4 +1,4 @@
--- Laws of words that are copied into a slice one after the other, the first one first. Assumes nothing.
+-- Laws of words that are copied into a slice one after the other, the first one first.
 use mathlib.Core.Path.{_≡_, refl, ap, ap₂, _∙_, sym}
 use mathlib.Core.List.{List, _++_, append-assoc}
 use Prim.Native.Nat.{ℕ, _+_, _-_, _<_, _≤_}

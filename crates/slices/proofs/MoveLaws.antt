@@ -1,4 +1,4 @@
--- Laws of words that are moved up within a slice, the last one first. Assumes nothing.
+-- Laws of words that are moved up within a slice, the last one first.
 use mathlib.Core.Path.{_≡_, refl, ap, _∙_, sym}
 use mathlib.Core.List.{List, [], _∷_, _++_, append-nil, append-assoc}
 use Prim.Native.Nat.{ℕ, suc, _+_, _-_, _<_, _≤_}

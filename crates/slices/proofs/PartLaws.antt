@@ -1,4 +1,4 @@
--- What a call that was lent `&mut m[a..]` leaves of the whole. Assumes nothing.
+-- What a call that was lent `&mut m[a..]` leaves of the whole.
 use mathlib.Core.Path.{_≡_, ap, _∙_, sym}
 use mathlib.Core.List.{List, [], _++_, append-nil, append-assoc}
 use Prim.Native.Nat.{ℕ, _+_, _-_}

@@ -1,5 +1,5 @@
 -- Laws of a slice whose used words change: the words behind a place move, the gap is filled, and the words that fall out of
--- use become zero. The slice is then `refit`. Assumes nothing.
+-- use become zero. The slice is then `refit`.
 use mathlib.Core.Path.{_≡_, refl, ap, ap₂, _∙_, sym}
 use mathlib.Core.List.{List, [], _∷_, _++_, append-assoc}
 use Prim.Native.Nat.{ℕ, zero, suc, _+_, _-_, _≤_, max}

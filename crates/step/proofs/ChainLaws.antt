@@ -1,4 +1,4 @@
--- The key of a word, and the words of a table that have a key, in ascending order. Assumes nothing.
+-- The key of a word, and the words of a table that have a key, in ascending order.
 use mathlib.Core.Path.{_≡_, refl, ap, _∙_, sym}
 use mathlib.Core.Bool.{true, cond, _&&_, false≢true}
 use mathlib.Core.List.{List, [], _∷_}

@@ -1,4 +1,4 @@
--- The closure of a state, from the empty set to the end of the search, and the row that it is kept in. Assumes nothing.
+-- The closure of a state, from the empty set to the end of the search, and the row that it is kept in.
 use mathlib.Core.Path.{_≡_, refl, ap, _∙_, sym, subst}
 use mathlib.Core.Bool.{true, false, true≢false}
 use mathlib.Core.List.{List, List·Memᴰ}

@@ -1,5 +1,5 @@
 -- The chain of a state's epsilon transitions, followed from its first word to its end, and the states on the stack, taken
--- one after another until none is left. Assumes nothing.
+-- one after another until none is left.
 use mathlib.Core.Path.{_≡_, refl, _∙_}
 use mathlib.Core.Bool.{true}
 use mathlib.Core.List.{List}

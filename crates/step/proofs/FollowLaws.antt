@@ -1,4 +1,4 @@
--- A chain of a table's index, followed word by word. Assumes nothing.
+-- A chain of a table's index, followed word by word.
 use mathlib.Core.Path.{_≡_, ap, _∙_}
 use mathlib.Core.List.{List}
 use Prim.Native.Nat.{ℕ, zero, suc, _+_, _-_, _<_, _≤_}

@@ -1,5 +1,5 @@
 -- The index of a table is made word by word from the last one backwards, and its chains hold the words of each key in
--- ascending order. Assumes nothing.
+-- ascending order.
 use mathlib.Core.Path.{_≡_, refl, ap, _∙_, sym}
 use mathlib.Core.Bool.{Bool, true, false, cond}
 use mathlib.Core.List.{List}

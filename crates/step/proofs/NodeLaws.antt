@@ -1,5 +1,5 @@
 -- Where every transition on the symbol is followed, the set is the node's state set: it holds the seeds, is closed under the
--- epsilon transitions and holds reached states only. Assumes nothing.
+-- epsilon transitions and holds reached states only.
 use mathlib.Core.Path.{_≡_, refl, ap, _∙_, sym, subst}
 use mathlib.Core.Bool.{true, true≢false}
 use mathlib.Core.List.{List, [], _∷_, _++_, List·Memᴰ}

@@ -1,5 +1,5 @@
 -- The words of a table that are settled while the closure of a state is worked out: by a state that is reached, by a word that
--- is followed, at the end of a chain of words and by a state that is taken from the stack. Assumes nothing.
+-- is followed, at the end of a chain of words and by a state that is taken from the stack.
 use mathlib.Core.Path.{_≡_, ap, _∙_, sym}
 use mathlib.Core.Bool.{true, false, true≢false}
 use mathlib.Core.List.{List}

@@ -1,4 +1,4 @@
--- The part states behind a symbol transition, against the children's state sets from left to right. Assumes nothing.
+-- The part states behind a symbol transition, against the children's state sets from left to right.
 use mathlib.Core.Path.{_≡_, refl, ap, ap₂, _∙_, sym}
 use mathlib.Core.Bool.{Bool, true, false, cond, _&&_}
 use mathlib.Core.List.{List, [], _∷_}

@@ -1,4 +1,4 @@
--- A state set and the stack of its pending states, when one state more is reached. Assumes nothing.
+-- A state set and the stack of its pending states, when one state more is reached.
 use mathlib.Core.Path.{_≡_, refl, _∙_, sym}
 use mathlib.Core.Bool.{true, false, cond}
 use mathlib.Core.List.{List}

@@ -1,4 +1,4 @@
--- A table's transitions are those that begin at its words; its head begins none. Assumes nothing.
+-- A table's transitions are those that begin at its words; its head begins none.
 use mathlib.Core.Path.{_≡_, refl, ap, sym, subst}
 use mathlib.Core.Logic.{⊎-elim}
 use mathlib.Core.Bool.{true, _&&_, false≢true}

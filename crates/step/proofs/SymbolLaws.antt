@@ -1,5 +1,5 @@
 -- The chain of a node's symbol, followed from its first word to its end: the set holds what the transitions on the symbol
--- lead to, and stays closed. Assumes nothing.
+-- lead to, and stays closed.
 use mathlib.Core.Path.{_≡_, refl, ap, _∙_, sym, subst}
 use mathlib.Core.Logic.{⊎-elim}
 use mathlib.Core.Bool.{Bool, true, false, true≢false}

@@ -1,5 +1,4 @@
 -- The transition that begins at a word of a table: its key tells it, what it leads to is reached, and when it adds nothing.
--- Assumes nothing.
 use mathlib.Core.Path.{_≡_, refl, sym, subst}
 use mathlib.Core.Logic.{_⊎_, inl, inr, ⊎-elim}
 use mathlib.Core.Bool.{true}

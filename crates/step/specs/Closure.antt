@@ -1,6 +1,6 @@
 -- The epsilon closure of one state, as code works it out: states are reached one after another, and a stack holds those whose
 -- epsilon transitions are still to be followed. Closures that were worked out are kept for other nodes. These definitions
--- serve inner functions. Assumes nothing.
+-- serve inner functions.
 use Prim.Native.Nat.{ℕ, _+_, _-_, _^_, _%_, _<_, _≤_}
 use mathlib.Core.Path.{_≡_}
 use mathlib.Core.Bool.{true, false, cond}

@@ -1,5 +1,5 @@
 -- An index of a table: for each symbol the words at which the transitions on it begin, and for each state the words of the
--- epsilon transitions from it, as chains in ascending order. It serves inner functions. Assumes nothing.
+-- epsilon transitions from it, as chains in ascending order. It serves inner functions.
 use Prim.Native.Nat.{ℕ, zero, suc, _+_, _-_, _<_, _≤_}
 use mathlib.Core.Path.{_≡_}
 use mathlib.Core.List.{List}

@@ -1,5 +1,5 @@
 -- How a node's state set is worked out: the closures of the targets that its symbol's transitions lead to are joined. These
--- definitions serve inner functions. Assumes nothing.
+-- definitions serve inner functions.
 use Prim.Native.Nat.{ℕ, _+_, _^_, _<_, _≤_}
 use mathlib.Core.Path.{_≡_}
 use mathlib.Core.Bool.{true}

@@ -1,5 +1,5 @@
 -- What the node step asks of its caller: a checked table, a symbol of eight bits, as many children as its rank, and each
--- child's state set inside the marks. Assumes nothing.
+-- child's state set inside the marks.
 use Prim.Native.Nat.{ℕ, _+_, _*_, _<_, _≤_}
 use mathlib.Core.Path.{_≡_}
 use mathlib.Core.Bool.{true}

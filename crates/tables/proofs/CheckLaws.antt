@@ -1,4 +1,4 @@
--- What the check of a table tells of one word, by the tests of the code. Assumes nothing.
+-- What the check of a table tells of one word, by the tests of the code.
 use mathlib.Core.Path.{_≡_, refl, _∙_, sym}
 use mathlib.Core.Bool.{Bool, true, false, cond, _&&_}
 use mathlib.Core.List.{List}

@@ -1,4 +1,4 @@
--- The check of a table, word by word. Assumes nothing.
+-- The check of a table, word by word.
 use mathlib.Core.Path.{_≡_, refl, ap, _∙_, sym}
 use mathlib.Core.Bool.{Bool, true, false, _&&_}
 use mathlib.Core.List.{List, [], _∷_}

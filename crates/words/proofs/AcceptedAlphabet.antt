@@ -1,4 +1,4 @@
--- What holds of an alphabet that refusals 1 and 2 let pass. Assumes nothing.
+-- What holds of an alphabet that refusals 1 and 2 let pass.
 use Prim.Native.Nat.{ℕ, zero, suc, _<_, _≤_}
 use mathlib.Core.Path.{_≡_, refl}
 use mathlib.Core.Bool.{true, not, _||_}

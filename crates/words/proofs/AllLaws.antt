@@ -1,4 +1,4 @@
--- A property of every member of a list. Assumes nothing.
+-- A property of every member of a list.
 use mathlib.Core.Path.{refl, sym, subst}
 use mathlib.Core.List.{List, [], _∷_, _++_, List·Memᴰ, List·Memᴰ·head, List·Memᴰ·tail}
 

@@ -1,5 +1,4 @@
--- Laws of the alphabet: the list of constants holds exactly the symbols of rank 0, and there are at most 64 symbols. Assumes
--- nothing.
+-- Laws of the alphabet: the list of constants holds exactly the symbols of rank 0, and there are at most 64 symbols.
 use Prim.Native.Nat.{ℕ, zero, suc, _+_, _<_, _≤_}
 use mathlib.Core.Path.{_≡_, refl}
 use mathlib.Core.Logic.{_↔_}

@@ -1,4 +1,4 @@
--- A node is an ancestor of another exactly if the other's subtree lies inside its own. Assumes nothing.
+-- A node is an ancestor of another exactly if the other's subtree lies inside its own.
 use mathlib.Core.Path.{_≡_, sym, subst}
 use mathlib.Core.Bool.{true}
 use mathlib.Core.List.{List}

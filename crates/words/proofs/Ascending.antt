@@ -1,4 +1,4 @@
--- Ascending lists of numbers: each number is greater than the one before it, and all lie in a range. Assumes nothing.
+-- Ascending lists of numbers: each number is greater than the one before it, and all lie in a range.
 use Prim.Native.Nat.{ℕ, suc, _+_, _<_, _≤_}
 use mathlib.Core.Path.{_≡_, refl}
 use mathlib.Core.Bool.{Bool, true, false, cond}

@@ -1,4 +1,4 @@
--- The check of a chapter in one pass: what is judged already, and what the rest decides. Assumes nothing.
+-- The check of a chapter in one pass: what is judged already, and what the rest decides.
 use mathlib.Core.Path.{_≡_, refl, ap, _∙_, sym}
 use mathlib.Core.Bool.{Bool, true, false}
 use mathlib.Core.List.{List}
@@ -9,8 +9,8 @@ use borrow.Author.Tests.{eq-eqb, ne-eqb}
 use Rattle.words.specs.Lists.{all}
 use Rattle.words.specs.Alphabet.{rankOf}
 use Rattle.words.specs.Postfix.{arity, trees, notOneTree}
-use Rattle.words.specs.Chapter.{symbolOf, isNode, noNodes, treeFault}
-use Rattle.words.proofs.ScanLaws.{drop-part, all-fails, all-goes, all-end, trees-lacks, trees-goes, trees-end}
+use Rattle.words.specs.Chapter.{symbolOf, isNode, notNodes, treeFault}
+use Rattle.words.proofs.ScanLaws.{drop-part, all-fails, all-continues, all-end, trees-lacks, trees-continues, trees-end}
 use Rattle.words.proofs.WordLaws.{isNode-facts}
 
 -- the words before word i are nodes and make `made` trees: the words from i on decide
@@ -26,11 +26,11 @@ judged-none a words = record { few = omega arith; below = omega arith; nodes = r
 module _ {a words : List ℕ} {made i : ℕ} (s : Judged a words made i) where
   -- behind the last word
   pub judged-one : length words ≤ i → made ≡ 1 → 0 ≡ treeFault a words
-  unfolding noNodes notOneTree
+  unfolding notNodes notOneTree
   judged-one h e = sym (rw (s .nodes ∙ all-end (isNode a) words i h, s .shape ∙ trees-end a words made i 1 h, eq-eqb made 1 e))
 
   pub judged-not-one : length words ≤ i → (made ≡ 1 → ⊥) → 11 ≡ treeFault a words
-  unfolding noNodes notOneTree
+  unfolding notNodes notOneTree
   judged-not-one h e = sym (rw (s .nodes ∙ all-end (isNode a) words i h, s .shape ∙ trees-end a words made i 1 h, ne-eqb made 1 e))
 
   -- b tells whether the part `&words[i..]` has nodes only
@@ -38,12 +38,12 @@ module _ {a words : List ℕ} {made i : ℕ} (s : Judged a words made i) where
   rest b e = s .nodes ∙ sym (e ∙ ap (all (isNode a)) (drop-part words i))
 
   pub judged-later : (b : Bool) → b ≡ all (isNode a) (take (length words - i) (drop i words)) → b ≡ false → 10 ≡ treeFault a words
-  unfolding noNodes
+  unfolding notNodes
   judged-later b e f = sym (rw (rest b e ∙ f))
 
   module _ (h : i < length words) where
     pub judged-no-node : isNode a (getD words i 0) ≡ false → 10 ≡ treeFault a words
-    unfolding noNodes
+    unfolding notNodes
     judged-no-node e = sym (rw (s .nodes ∙ all-fails (isNode a) words i h e))
 
     -- word i is a node, and r is its symbol's rank
@@ -52,7 +52,7 @@ module _ {a words : List ℕ} {made i : ℕ} (s : Judged a words made i) where
       rank-arity = e ∙ sym (isNode-facts a (getD words i 0) node .arity-rank)
 
       pub judged-lacks : made < r → (b : Bool) → b ≡ all (isNode a) (take (length words - i) (drop i words)) → b ≡ true → 11 ≡ treeFault a words
-      unfolding noNodes notOneTree
+      unfolding notNodes notOneTree
       judged-lacks l b eb t = sym (rw (rest b eb ∙ t, s .shape ∙ trees-lacks a words made i 1 r h rank-arity l))
 
       pub judged-more : r ≤ made → Judged a words (made - r + 1) (i + 1)
@@ -61,6 +61,6 @@ module _ {a words : List ℕ} {made i : ℕ} (s : Judged a words made i) where
           record {
             few = omega arith;
             below = omega arith;
-            nodes = s .nodes ∙ all-goes (isNode a) words i h node;
-            shape = s .shape ∙ trees-goes a words made i 1 r h rank-arity l;
+            nodes = s .nodes ∙ all-continues (isNode a) words i h node;
+            shape = s .shape ∙ trees-continues a words made i 1 r h rank-arity l;
           }

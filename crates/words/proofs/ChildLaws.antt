@@ -1,5 +1,4 @@
 -- Laws of a node's children: the stack of node numbers, where it points, and that every value follows from the children's.
--- Assumes nothing.
 use mathlib.Core.Path.{_≡_, refl, ap, _∙_, sym, subst}
 use mathlib.Core.List.{List, [], _∷_, _++_, map, reverse}
 use Prim.Native.Nat.{ℕ, zero, suc, _+_, _-_, _<_, _≤_}

@@ -1,5 +1,5 @@
 -- A node has as many children as its word takes, its subtree is theirs side by side and its own word, and its value is made
--- from theirs. Assumes nothing.
+-- from theirs.
 use mathlib.Core.Path.{_≡_, refl, ap, ap₂, _∙_, sym, subst}
 use mathlib.Core.Bool.{true}
 use mathlib.Core.List.{List, [], _∷_, _++_, map, flatMap, reverse, reverse-append, append-assoc}

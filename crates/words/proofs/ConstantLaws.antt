@@ -1,4 +1,4 @@
--- The list of an alphabet's constants stands in symbol order, each constant once. Assumes nothing.
+-- The list of an alphabet's constants stands in symbol order, each constant once.
 use Prim.Native.Nat.{ℕ, suc, _+_, _≤_}
 use mathlib.Core.Bool.{Bool, true, false, cond}
 use mathlib.Core.List.{List, [], _∷_}

@@ -1,5 +1,5 @@
 -- The constants of an alphabet, word by word: those of the first i entries, their number, and a list that they are written
--- into. Assumes nothing.
+-- into.
 use mathlib.Core.Path.{_≡_, refl, ap, _∙_, sym}
 use mathlib.Core.Bool.{Bool, true, false, cond}
 use mathlib.Core.List.{List, [], _∷_, _++_, append-nil}

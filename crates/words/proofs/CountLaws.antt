@@ -1,4 +1,4 @@
--- Laws of how many numbers of a list pass a test, and of the numbers below n as a list. Assumes nothing.
+-- Laws of how many numbers of a list pass a test, and of the numbers below n as a list.
 use mathlib.Core.Path.{_≡_, refl, ap, _∙_, sym}
 use mathlib.Core.Bool.{Bool, true, false, cond, true≢false}
 use mathlib.Core.List.{List, [], _∷_, List·Memᴰ, List·Memᴰ·head, List·Memᴰ·tail}

@@ -1,4 +1,4 @@
--- Lists in which nothing stands twice. Assumes nothing.
+-- Lists in which nothing stands twice.
 use mathlib.Core.Logic.{⊎-elim}
 use mathlib.Core.List.{List, [], _∷_, _++_, List·Memᴰ, List·Memᴰ·append-cases}
 use Rattle.words.proofs.AllLaws.{All, all-at}

@@ -1,4 +1,4 @@
--- How "exactly one" carries over to things that stand for one another. Assumes nothing.
+-- How "exactly one" carries over to things that stand for one another.
 use mathlib.Core.Path.{_≡_, ap, _∙_, sym}
 use Rattle.words.specs.ExactlyOne.{ExactlyOne}
 

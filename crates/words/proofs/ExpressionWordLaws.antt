@@ -1,5 +1,4 @@
 -- What an expression word that refusal 4 lets pass can be: one of five kinds, with its low byte in order and its arity.
--- Assumes nothing.
 use Prim.Native.Nat.{ℕ, _<_}
 use mathlib.Core.Path.{_≡_, refl}
 use mathlib.Core.Bool.{true, false≢true}

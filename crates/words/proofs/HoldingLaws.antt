@@ -1,4 +1,4 @@
--- Laws of ancestors: which words behind a node are its ancestors, told by how many trees stand between. Assumes nothing.
+-- Laws of ancestors: which words behind a node are its ancestors, told by how many trees stand between.
 use mathlib.Core.Path.{_≡_, ap, _∙_, sym}
 use mathlib.Core.Bool.{true, false}
 use mathlib.Core.List.{List}

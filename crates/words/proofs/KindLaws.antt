@@ -1,5 +1,4 @@
--- Laws of kinds: a kind and its number, the word of a kind with given fields, and what `isOf` says of a word. Assumes
--- nothing.
+-- Laws of kinds: a kind and its number, the word of a kind with given fields, and what `isOf` says of a word.
 use mathlib.Core.Path.{_≡_, refl, ap, _∙_, sym, subst}
 use mathlib.Core.Bool.{true, false}
 use mathlib.Core.List.{List, [], _∷_}

@@ -1,5 +1,5 @@
 -- Laws of lists: map over parts of a list, lists by their index, parts side by side, runs of stores, counts, and lists of
--- numbers below a bound. Assumes nothing.
+-- numbers below a bound.
 use mathlib.Core.Path.{_≡_, refl, ap, ap₂, _∙_, sym}
 use mathlib.Core.Bool.{Bool, cond, _&&_}
 use mathlib.Core.List.{List, [], _∷_, _++_, map, reverse, reverseAux}

@@ -1,4 +1,4 @@
--- Laws of postfix words that make trees, of where subtrees begin, and of a subtree that gives way. Assumes nothing.
+-- Laws of postfix words that make trees, of where subtrees begin, and of a subtree that gives way.
 use mathlib.Core.Path.{_≡_, refl, ap, ap₂, _∙_, sym, subst}
 use mathlib.Core.Bool.{true}
 use mathlib.Core.List.{List, [], _∷_, _++_, append-assoc}

@@ -1,4 +1,4 @@
--- Trees of words that postfix order can hold, for the laws that postfix words are those of exactly one tree. Assumes nothing.
+-- Trees of words that postfix order can hold, for the laws that postfix words are those of exactly one tree.
 use Prim.Native.Nat.{ℕ}
 use mathlib.Core.Path.{_≡_}
 use mathlib.Core.List.{List}

@@ -1,5 +1,5 @@
 -- Reading the postfix words of a tree with a stack puts one value on it, the tree's fold; the words of a tree pass the shape
--- check. Assumes nothing.
+-- check.
 use mathlib.Core.Path.{_≡_, refl, ap, ap₂, _∙_, sym}
 use mathlib.Core.Bool.{true}
 use mathlib.Core.List.{List, [], _∷_, reverse, reverseAux, reverseAux-eq, reverse-reverse}

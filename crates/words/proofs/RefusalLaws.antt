@@ -1,5 +1,5 @@
 -- Laws of refusals: the number is that of the first condition that holds, and a call that is not refused has none that does.
--- They pass on `NoneHolds`, of which they speak. Assumes nothing.
+-- They pass on `NoneHolds`, of which they speak.
 use mathlib.Core.Path.{_≡_, refl, _∙_, sym}
 use mathlib.Core.Bool.{Bool, true, false, cond, _&&_}
 use mathlib.Core.List.{[], _∷_, _++_}

@@ -1,4 +1,4 @@
--- A tree with other numbers at its nodes: its postfix order and how many children stand at each place. Assumes nothing.
+-- A tree with other numbers at its nodes: its postfix order and how many children stand at each place.
 use mathlib.Core.Path.{_≡_, refl, ap, ap₂, _∙_, sym}
 use mathlib.Core.List.{List, [], _∷_, _++_, map}
 use Prim.Native.Nat.{ℕ, suc}

@@ -1,5 +1,5 @@
 -- One step of a scan over a slice: what is left of a list from an index on, tests of every word of it, and the trees that it
--- makes. Assumes nothing.
+-- makes.
 use mathlib.Core.Path.{_≡_, ap, _∙_}
 use mathlib.Core.Bool.{Bool, true, false}
 use mathlib.Core.List.{List, [], _∷_}
@@ -28,8 +28,8 @@ module _ (f : ℕ → Bool) (l : List ℕ) (i : ℕ) where
   pub all-fails : i < length l → f (getD l i 0) ≡ false → all f (drop i l) ≡ false
   all-fails h e = ap (all f) (drop-step l i h) ∙ rw e
 
-  pub all-goes : i < length l → f (getD l i 0) ≡ true → all f (drop i l) ≡ all f (drop (i + 1) l)
-  all-goes h e = ap (all f) (drop-step l i h) ∙ rw e
+  pub all-continues : i < length l → f (getD l i 0) ≡ true → all f (drop i l) ≡ all f (drop (i + 1) l)
+  all-continues h e = ap (all f) (drop-step l i h) ∙ rw e
 
   pub all-end : length l ≤ i → all f (drop i l) ≡ true
   all-end h = ap (all f) (drop-end l i h)
@@ -40,9 +40,9 @@ module _ (a l : List ℕ) (d i t : ℕ) where
   unfolding trees
   trees-lacks r h er e = ap (λ (x : List ℕ). trees a d x t) (drop-step l i h) ∙ rw (← er, lt-leb r d e)
 
-  pub trees-goes : (r : ℕ) → i < length l → r ≡ arity a (getD l i 0) → r ≤ d → trees a d (drop i l) t ≡ trees a (d - r + 1) (drop (i + 1) l) t
+  pub trees-continues : (r : ℕ) → i < length l → r ≡ arity a (getD l i 0) → r ≤ d → trees a d (drop i l) t ≡ trees a (d - r + 1) (drop (i + 1) l) t
   unfolding trees
-  trees-goes r h er e = ap (λ (x : List ℕ). trees a d x t) (drop-step l i h) ∙ rw (← er, le-leb r d e)
+  trees-continues r h er e = ap (λ (x : List ℕ). trees a d x t) (drop-step l i h) ∙ rw (← er, le-leb r d e)
 
   pub trees-end : length l ≤ i → trees a d (drop i l) t ≡ eqb d t
   unfolding trees

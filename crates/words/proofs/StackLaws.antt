@@ -1,4 +1,4 @@
--- Laws of reading postfix words with a stack: in parts, over a part of the stack, and with given values. Assumes nothing.
+-- Laws of reading postfix words with a stack: in parts, over a part of the stack, and with given values.
 use mathlib.Core.Path.{_≡_, refl, ap, ap₂, _∙_, sym, subst}
 use mathlib.Core.Bool.{true}
 use mathlib.Core.List.{List, [], _∷_, _++_, tail-eq-of-cons-eq, head-eq-of-cons-eq}

@@ -1,5 +1,5 @@
 -- Laws of the backward walk that finds where a subtree begins: which arities there are, where the words do not suffice, and
--- the walk's invariant. Assumes nothing.
+-- the walk's invariant.
 use mathlib.Core.Path.{_≡_, refl, ap, ap₂, _∙_, sym}
 use mathlib.Core.List.{List}
 use Prim.Native.Nat.{ℕ, zero, suc, _+_, _-_, _<_, _≤_}

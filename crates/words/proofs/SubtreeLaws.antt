@@ -1,5 +1,5 @@
 -- A node's subtree is the words of exactly one tree, it ends with the node's word, and the node's value is the fold of that
--- tree: it depends on the subtree alone. Assumes nothing.
+-- tree: it depends on the subtree alone.
 use mathlib.Core.Path.{_≡_, refl, ap, _∙_, sym}
 use mathlib.Core.Bool.{true}
 use mathlib.Core.List.{List, [], _∷_, _++_, head-eq-of-cons-eq}

@@ -1,5 +1,5 @@
 -- Laws of tests: a test with its outcome, two tests that hold together, both and either of two tests, and a test of every word
--- of a list. Assumes nothing.
+-- of a list.
 use mathlib.Core.Path.{_≡_, refl, sym}
 use mathlib.Core.Logic.{_⊎_, inl, inr}
 use mathlib.Core.Bool.{Bool, true, false, cond, _&&_, _||_, true≢false, false≢true}

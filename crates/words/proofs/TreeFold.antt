@@ -1,4 +1,4 @@
--- The value of a tree, for the laws that a stack reading of its postfix words finds it. Assumes nothing.
+-- The value of a tree, for the laws that a stack reading of its postfix words finds it.
 use Prim.Native.Nat.{ℕ}
 use mathlib.Core.List.{List, [], _∷_}
 use Rattle.words.specs.Tree.{Tree, Trees, node, none, more}

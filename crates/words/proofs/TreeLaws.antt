@@ -1,5 +1,5 @@
 -- Words that pass the shape check are the postfix words of exactly one tree in which every word has as many children as it
--- takes. The stack reading that puts each word over its children builds it. Assumes nothing.
+-- takes. The stack reading that puts each word over its children builds it.
 use mathlib.Core.Path.{_≡_, refl, ap, ap₂, _∙_, sym, subst}
 use mathlib.Core.Bool.{true}
 use mathlib.Core.List.{List, [], _∷_, _++_, reverse, reverse-cons, reverse-reverse, append-assoc, append-nil, head-eq-of-cons-eq}

@@ -1,5 +1,4 @@
 -- How many children the word of a kind takes, and what the tests for a node and for an expression word say of a word.
--- Assumes nothing.
 use mathlib.Core.Path.{_≡_, ap, _∙_}
 use mathlib.Core.Bool.{true, false≢true}
 use mathlib.Core.List.{List}

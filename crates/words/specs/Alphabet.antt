@@ -1,4 +1,4 @@
--- The alphabet (document 01, kind 1): ranks, constants in symbol order, and refusals 1 and 2. Assumes nothing.
+-- The alphabet (document 01, kind 1): ranks, constants in symbol order, and refusals 1 and 2.
 use Prim.Native.Nat.{ℕ, suc}
 use mathlib.Core.List.{List, [], _∷_}
 use mathlib.Core.Bool.{Bool, not, cond, _&&_, _||_}

@@ -1,4 +1,4 @@
--- Answers of the four operations (document 01, "Refused calls"). Assumes nothing.
+-- Answers of the four operations (document 01, "Refused calls").
 use Prim.Native.Nat.{ℕ}
 use mathlib.Core.List.{List, [], _∷_}
 use mathlib.Core.Bool.{cond}

@@ -1,4 +1,4 @@
--- The words of a chapter (document 01, kind 7) and refusals 10 and 11. Assumes nothing.
+-- The words of a chapter (document 01, kind 7) and refusals 10 and 11.
 use Prim.Native.Nat.{ℕ}
 use mathlib.Core.List.{List, [], _∷_}
 use mathlib.Core.Bool.{Bool, not, _&&_}
@@ -17,12 +17,12 @@ unfoldable pub isNode : List ℕ → ℕ → Bool
 isNode a w = isOf nodeKind w && isSymbol a (symbolOf w)
 
 -- 10: "a word that is no element or an unknown symbol"
-unfoldable pub noNodes : List ℕ → List ℕ → Bool
-noNodes a ch = not (all (isNode a) ch)
+unfoldable pub notNodes : List ℕ → List ℕ → Bool
+notNodes a ch = not (all (isNode a) ch)
 
 -- 10 is judged over the whole slice before 11
 abbrev pub treeRefusals : List ℕ → List ℕ → Refusals
-treeRefusals a ch = (10, noNodes a ch) ∷ (11, notOneTree a ch) ∷ []
+treeRefusals a ch = (10, notNodes a ch) ∷ (11, notOneTree a ch) ∷ []
 
 -- 10 or 11, the first that applies, or 0
 abbrev pub treeFault : List ℕ → List ℕ → ℕ

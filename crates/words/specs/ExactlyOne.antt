@@ -1,4 +1,4 @@
--- Exactly one thing has a property. Assumes nothing.
+-- Exactly one thing has a property.
 use mathlib.Core.Path.{_≡_}
 
 -- `the` one thing with the property, and that any other with it is the same

@@ -1,4 +1,4 @@
--- The words of a rule (document 01, kinds 2 to 6) and refusals 3, 4 and 5. Assumes nothing.
+-- The words of a rule (document 01, kinds 2 to 6) and refusals 3, 4 and 5.
 use Prim.Native.Nat.{ℕ}
 use mathlib.Core.List.{List, [], _∷_}
 use mathlib.Core.Bool.{Bool, true, false, not, _&&_, _||_}
@@ -34,12 +34,12 @@ unfoldable pub wrongLength : List ℕ → Bool
 wrongLength e = eqb (length e) 0 || ltb 64 (length e)
 
 -- 4: "a word that is no rule word, an unknown symbol, or a c that is no constant"
-unfoldable pub noExpressionWords : List ℕ → List ℕ → Bool
-noExpressionWords a e = not (all (isExpressionWord a) e)
+unfoldable pub notExpressionWords : List ℕ → List ℕ → Bool
+notExpressionWords a e = not (all (isExpressionWord a) e)
 
 -- 4 is judged over the whole slice before 5
 abbrev pub expressionRefusals : List ℕ → List ℕ → Refusals
-expressionRefusals a e = (3, wrongLength e) ∷ (4, noExpressionWords a e) ∷ (5, notOneTree a e) ∷ []
+expressionRefusals a e = (3, wrongLength e) ∷ (4, notExpressionWords a e) ∷ (5, notOneTree a e) ∷ []
 
 -- 3, 4 or 5, the first that applies, or 0
 abbrev pub expressionFault : List ℕ → List ℕ → ℕ

@@ -1,4 +1,4 @@
--- Tests over a list, and lists by their index. Assumes nothing.
+-- Tests over a list, and lists by their index.
 use Prim.Native.Nat.{ℕ, zero, suc, _+_}
 use mathlib.Core.List.{List, [], _∷_}
 use mathlib.Core.Bool.{Bool, true, cond, _&&_}

@@ -1,6 +1,5 @@
 -- Postfix order (document 01, "Words"): how many children a word takes, which words make trees, where a subtree begins,
 -- a node's children and ancestors, and a value for every node by a stack. One reading serves rules and chapters.
--- Assumes nothing.
 use Prim.Native.Nat.{ℕ, zero, suc, _+_, _-_}
 use mathlib.Core.List.{List, [], _∷_, _++_, reverse}
 use mathlib.Core.Bool.{Bool, false, not, cond, _&&_}

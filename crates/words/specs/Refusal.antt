@@ -1,4 +1,4 @@
--- Refusals (document 01, "Refused calls"): a refusal is a number, and the order is as written. Assumes nothing.
+-- Refusals (document 01, "Refused calls"): a refusal is a number, and the order is as written.
 use Prim.Native.Nat.{ℕ}
 use mathlib.Core.Path.{_≡_}
 use mathlib.Core.List.{List, [], _∷_}

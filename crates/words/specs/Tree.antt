@@ -1,5 +1,4 @@
 -- Ordered trees whose nodes carry a number: a symbol in a subject tree, a word in the tree that postfix words make.
--- Assumes nothing.
 use Prim.Native.Nat.{ℕ, suc}
 use mathlib.Core.List.{List, [], _∷_, _++_}
 

@@ -1,4 +1,4 @@
--- Words of 32 bits (document 01, "Words"): their kinds, which bits each kind names, and its fields. Assumes nothing.
+-- Words of 32 bits (document 01, "Words"): their kinds, which bits each kind names, and its fields.
 use Prim.Native.Nat.{ℕ, _+_, _*_, _/_, _%_}
 use mathlib.Core.List.{List, [], _∷_}
 use mathlib.Core.Bool.{Bool, cond, _&&_}

@@ -1,5 +1,4 @@
 -- `compiler::compile` meets its contract: where no refusal applies the table fits the slice, and the words behind it stay.
--- Assumes nothing.
 use borrow.Author.Needs.{needs}
 use Rattle.compiler.proofs.FaultLaws.{refused-answer, refused-exit, accepted-answer, accepted-parts, accepted-exit}
 use Rattle.compiler.proofs.compile.Statement.{statement}

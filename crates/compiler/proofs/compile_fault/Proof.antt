@@ -1,4 +1,4 @@
--- `compiler::compile_fault` meets its contract: each number is judged where those before it do not apply. Assumes nothing.
+-- `compiler::compile_fault` meets its contract: each number is judged where those before it do not apply.
 use mathlib.Core.Path.{refl, _∙_, sym}
 use borrow.Author.Needs.{needs}
 use native.Mathlib.Omega.{arith}

@@ -1,5 +1,5 @@
 -- `write_hit` meets its contract: the parts of the line are written one after the other, and a subtree begins at or
--- before its last node. Assumes nothing.
+-- before its last node.
 use native.Mathlib.Omega.{arith}
 use Rattle.words.proofs.PostfixLaws.{start-le}
 use Rattle.lines.proofs.LineLaws.{hit-written}

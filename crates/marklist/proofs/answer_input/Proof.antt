@@ -1,5 +1,5 @@
 -- `answer_input` meets its contract: the counts say how many words follow, and what it lends of each slice are the words
--- that make a difference. Assumes nothing.
+-- that make a difference.
 use Rattle.marklist.proofs.PrintedLaws.{kept-fit, kept-long, answered}
 use borrow.Author.Needs.{needs}
 use Rattle.marklist.proofs.answer_input.Statement.{statement}

@@ -1,5 +1,5 @@
 -- `read_words` meets its contract and ends: each part has at least one word and fits the buffer, and its words are stored
--- behind those before. Assumes nothing.
+-- behind those before.
 use Prim.Native.Nat.{_-_}
 use mathlib.Core.Path.{sym}
 use mathlib.Core.Bool.{false≢true}

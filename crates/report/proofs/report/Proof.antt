@@ -1,5 +1,5 @@
 -- `report` meets its contract: each return writes what the laws of Compile say of its answer, and the output fits the slice,
--- so all of it is written. Assumes nothing.
+-- so all of it is written.
 use borrow.Author.Tests.{not-true, not-false}
 use Rattle.report.proofs.ReportLaws.{complete-whole, early-whole, refused-compiled, table-long, table-fits, compiles, many}
 use borrow.Author.Needs.{needs}

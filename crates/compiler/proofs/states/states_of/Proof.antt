@@ -1,4 +1,4 @@
--- `compiler::states::states_of` meets its contract: a word with children has an entry for each constant. Assumes nothing.
+-- `compiler::states::states_of` meets its contract: a word with children has an entry for each constant.
 use native.Mathlib.Omega.{arith}
 use borrow.Author.Needs.{needs}
 use Rattle.compiler.proofs.StateLaws.{statesOf-one, statesOf-entries}

@@ -1,4 +1,4 @@
--- `compiler::states::word_port` meets its contract: the kind number and the arity say which entries the word has. Assumes nothing.
+-- `compiler::states::word_port` meets its contract: the kind number and the arity say which entries the word has.
 use native.Mathlib.Omega.{arith}
 use borrow.Author.Needs.{needs}
 use Rattle.compiler.proofs.StateLaws.{port-full, port-constant, port-empty, symbol-known}

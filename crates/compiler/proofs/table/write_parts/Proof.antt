@@ -1,4 +1,4 @@
--- `compiler::table::write_parts` meets its contract: its three writers leave the three parts of the table. Assumes nothing.
+-- `compiler::table::write_parts` meets its contract: its three writers leave the three parts of the table.
 use native.Mathlib.Omega.{arith}
 use mathlib.Core.Path.{sym}
 use Prim.Native.Nat.{_-_}

@@ -1,4 +1,4 @@
--- `compiler::table::write_table` meets its contract: the first words of the list are the constants. Assumes nothing.
+-- `compiler::table::write_table` meets its contract: the first words of the list are the constants.
 use native.Mathlib.Omega.{arith}
 use mathlib.Core.Path.{refl, sym}
 use lib.Seq.{length-take-le}

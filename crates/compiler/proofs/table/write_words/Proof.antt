@@ -1,5 +1,5 @@
 -- `compiler::table::write_words` meets its contract. The invariant: the transitions of the first i words are written, and those of
--- the words from i on follow from the next state and the stack. Assumes nothing.
+-- the words from i on follow from the next state and the stack.
 use Prim.Native.Nat.{_-_}
 use mathlib.Core.Path.{refl, ap}
 use native.Mathlib.Omega.{arith}

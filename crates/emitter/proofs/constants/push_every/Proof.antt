@@ -1,5 +1,4 @@
 -- `emitter::constants::push_every` meets its contract. The invariant: the moves of the first k constants are written.
--- Assumes nothing.
 use Prim.Native.Nat.{_-_}
 use native.Mathlib.Omega.{arith}
 use lib.ListN.{length}

@@ -1,4 +1,4 @@
--- `emitter::entries::push_closure_entry` meets its contract: at c the exit stands behind the children's entries. Assumes nothing.
+-- `emitter::entries::push_closure_entry` meets its contract: at c the exit stands behind the children's entries.
 use Prim.Native.Nat.{_+_}
 use borrow.Author.Needs.{needs}
 use Rattle.emitter.proofs.EntryLaws.{closure-here, closure-other}

@@ -1,22 +1,21 @@
 -- `emitter::entries::push_entries` meets its contract. The invariant: the transitions for the first k constants are written.
--- Assumes nothing.
 use Prim.Native.Nat.{_-_}
 use native.Mathlib.Omega.{arith}
 use lib.ListN.{length}
 use borrow.Author.Needs.{needs}
 use Rattle.emitter.specs.Emission.{targetsIn}
-use Rattle.emitter.proofs.FanLaws.{Fanned, fanned-none, fanned-room, fanned-more, fanned-end}
+use Rattle.emitter.proofs.EntryEpsilonLaws.{EntriesWritten, entriesWritten-none, entriesWritten-room, entriesWritten-more, entriesWritten-end}
 use Rattle.emitter.proofs.entries.push_entries.Statement.{statement}
 use Rattle.emitter.proofs.entries.push_entries.Tie as tie
 
 abbrev Inv-loop : tie.InvT-loop
-Inv-loop constants ports out₀ at exit targets next₀ k₀ out next k = Fanned constants (targetsIn constants ports exit targets) exit at out₀ out next k
+Inv-loop constants ports out₀ at exit targets next₀ k₀ out next k = EntriesWritten constants (targetsIn constants ports exit targets) exit at out₀ out next k
 
 abbrev μ-loop : tie.MeasureT-loop
 μ-loop constants ports out₀ at exit targets next₀ k₀ out next k = length constants - k
 
 loop-holds : tie.Need-loop-holds Inv-loop μ-loop
-loop-holds c = fanned-none _ _ _ _ _
+loop-holds c = entriesWritten-none _ _ _ _ _
 
 push-entry-requires : tie.Need-push-entry-requires Inv-loop μ-loop
 push-entry-requires c κs =
@@ -27,7 +26,7 @@ push-entry-requires c κs =
         few = p .0 .few;
         children = p .0 .children;
         low = p .0 .low;
-        room = fanned-room (c .before .before .loop .inv) h (p .0 .few) (p .0 .room);
+        room = entriesWritten-room (c .before .before .loop .inv) h (p .0 .few) (p .0 .room);
       },
       (h, p .1),
     )
@@ -40,7 +39,7 @@ loop-less c = search needs
 
 loop-again : tie.Need-loop-again Inv-loop μ-loop
 loop-again c =
-    fanned-more (c .before .before .before .before .before .loop .inv) 5 _ _ (c .before .before .before .before .loop-test .taken)
+    entriesWritten-more (c .before .before .before .before .before .loop .inv) 5 _ _ (c .before .before .before .before .loop-test .taken)
     (omega arith)
     (c .before .before .push-entry .kept .1 .1 .0) (c .before .before .push-entry .ensures)
 
@@ -48,7 +47,7 @@ same-length : tie.Need-same-length Inv-loop μ-loop
 same-length c = c .before .loop .inv .long
 
 returns : tie.Need-returns Inv-loop μ-loop
-returns c = let p = c .before .before .before .before .before .pre in fanned-end (c .before .loop .inv) (c .loop-test .left) (p .0 .few)
+returns c = let p = c .before .before .before .before .before .pre in entriesWritten-end (c .before .loop .inv) (c .loop-test .left) (p .0 .few)
 
 pub push-entries-spec : {M : Type 1} → statement M
 push-entries-spec =

@@ -1,4 +1,4 @@
--- `emitter::entries::push_entry` meets its contract: the writer of each case leaves what is said of it. Assumes nothing.
+-- `emitter::entries::push_entry` meets its contract: the writer of each case leaves what is said of it.
 use Prim.Native.Nat.{_+_}
 use borrow.Author.Needs.{needs}
 use Rattle.emitter.proofs.EntryLaws.{targets-children, targets-product, targets-closure}

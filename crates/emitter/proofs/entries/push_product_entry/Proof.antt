@@ -1,5 +1,4 @@
 -- `emitter::entries::push_product_entry` meets its contract: the children from the second on stand behind the first port.
--- Assumes nothing.
 use Prim.Native.Nat.{_+_}
 use borrow.Author.Needs.{needs}
 use Rattle.emitter.proofs.EntryLaws.{emits-behind, product-here, product-other}

@@ -1,4 +1,4 @@
--- `emitter::entries::push_to` meets its contract: a missing entry has no state, and another has one. Assumes nothing.
+-- `emitter::entries::push_to` meets its contract: a missing entry has no state, and another has one.
 use borrow.Author.Needs.{needs}
 use Rattle.emitter.proofs.EntryLaws.{to-missing, to-state, low-state}
 use Rattle.emitter.proofs.entries.push_to.Statement.{statement}

@@ -1,5 +1,4 @@
 -- `emitter::entries::push_to_children` meets its contract. The invariant: the transitions to the first i children are written.
--- Assumes nothing.
 use Prim.Native.Nat.{_+_, _-_}
 use native.Mathlib.Omega.{arith}
 use lib.ListN.{length, getD}

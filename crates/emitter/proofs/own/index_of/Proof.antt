@@ -1,4 +1,4 @@
--- `emitter::own::index_of` meets its contract. The invariant: c stands at no index below k. Assumes nothing.
+-- `emitter::own::index_of` meets its contract. The invariant: c stands at no index below k.
 use Prim.Native.Nat.{ℕ, _≤_, _<_, _-_}
 use mathlib.Core.Path.{_≡_}
 use native.Mathlib.Omega.{arith}

@@ -1,4 +1,4 @@
--- `emitter::own::push_both` meets its contract: one transition stands behind the other. Assumes nothing.
+-- `emitter::own::push_both` meets its contract: one transition stands behind the other.
 use borrow.Author.Needs.{needs}
 use Rattle.emitter.proofs.WritingLaws.{wrote-more}
 use Rattle.emitter.proofs.own.push_both.Statement.{statement}

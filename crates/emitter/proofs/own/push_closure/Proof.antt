@@ -1,4 +1,4 @@
--- `emitter::own::push_closure` meets its contract: its three writers leave the transitions of a closure. Assumes nothing.
+-- `emitter::own::push_closure` meets its contract: its three writers leave the transitions of a closure.
 use native.Mathlib.Omega.{arith}
 use lib.ListN.{getD}
 use borrow.Author.Needs.{needs}

@@ -1,4 +1,4 @@
--- `emitter::own::push_own` meets its contract: the kind number says which transitions the word has. Assumes nothing.
+-- `emitter::own::push_own` meets its contract: the kind number says which transitions the word has.
 use native.Mathlib.Omega.{arith}
 use borrow.Author.Needs.{needs}
 use Rattle.automaton.specs.Numbering.{fullPort}

@@ -1,4 +1,4 @@
--- `emitter::own::push_product` meets its contract: its three writers leave the transitions of a product. Assumes nothing.
+-- `emitter::own::push_product` meets its contract: its three writers leave the transitions of a product.
 use native.Mathlib.Omega.{arith}
 use lib.ListN.{getD}
 use borrow.Author.Needs.{needs}

@@ -1,4 +1,4 @@
--- `emitter::own::push_symbol` meets its contract: its three writers leave the transitions of a symbol. Assumes nothing.
+-- `emitter::own::push_symbol` meets its contract: its three writers leave the transitions of a symbol.
 use native.Mathlib.Omega.{arith}
 use borrow.Author.Needs.{needs}
 use Rattle.emitter.proofs.WritingLaws.{wrote-next}

@@ -1,4 +1,4 @@
--- `emitter::own::push_union` meets its contract: its two writers leave the transitions of a union. Assumes nothing.
+-- `emitter::own::push_union` meets its contract: its two writers leave the transitions of a union.
 use native.Mathlib.Omega.{arith}
 use borrow.Author.Needs.{needs}
 use Rattle.emitter.proofs.WritingLaws.{wrote-next}

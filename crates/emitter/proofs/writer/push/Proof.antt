@@ -1,4 +1,4 @@
--- `emitter::writer::push` meets its contract: a store past the end of a list changes nothing. Assumes nothing.
+-- `emitter::writer::push` meets its contract: a store past the end of a list changes nothing.
 use mathlib.Core.Path.{_≡_, ap, _∙_, sym}
 use mathlib.Core.Logic.{⊎-elim}
 use lib.ListN.{length, set, length-set}

@@ -1,4 +1,4 @@
--- `emitter::writer::push_epsilon` meets its contract: the word that it writes is the transition's. Assumes nothing.
+-- `emitter::writer::push_epsilon` meets its contract: the word that it writes is the transition's.
 use borrow.Author.Needs.{needs}
 use Rattle.emitter.proofs.writer.push_epsilon.Statement.{statement}
 use Rattle.emitter.proofs.writer.push_epsilon.Tie as tie

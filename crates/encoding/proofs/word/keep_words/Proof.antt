@@ -1,5 +1,4 @@
 -- `encoding::word::keep_words` meets its contract: the loop stores word after word, and a store past the end would change nothing.
--- Assumes nothing.
 use Prim.Native.Nat.{_-_}
 use mathlib.Core.Path.{sym}
 use native.Mathlib.Omega.{arith}

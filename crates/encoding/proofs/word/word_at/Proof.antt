@@ -1,4 +1,4 @@
--- `encoding::word::word_at` meets its contract: it reads the four bytes of the word. Assumes nothing.
+-- `encoding::word::word_at` meets its contract: it reads the four bytes of the word.
 use borrow.Author.Needs.{needs}
 use Rattle.encoding.specs.Words.{wordAt}
 use Rattle.encoding.proofs.word.word_at.Statement.{statement}

@@ -1,5 +1,5 @@
 -- `encoding::writer::write_number` meets its contract: it writes the digits of a tenth of the number and then the last one, as the
--- decimal of a number of several digits says. The measure is the number. Assumes nothing.
+-- decimal of a number of several digits says. The measure is the number.
 use mathlib.Core.Path.{_∙_}
 use native.Mathlib.Omega.{arith}
 use borrow.Author.Needs.{needs}

@@ -1,4 +1,4 @@
--- `encoding::writer::write_byte` meets its contract: it stores the byte where there is room. Assumes nothing.
+-- `encoding::writer::write_byte` meets its contract: it stores the byte where there is room.
 use borrow.Author.Needs.{needs}
 use Rattle.encoding.proofs.WritingLaws.{written-one, written-full}
 use Rattle.encoding.proofs.writer.write_byte.Statement.{statement}

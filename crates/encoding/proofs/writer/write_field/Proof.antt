@@ -1,4 +1,4 @@
--- `encoding::writer::write_field` meets its contract: the byte stands behind the number. Assumes nothing.
+-- `encoding::writer::write_field` meets its contract: the byte stands behind the number.
 use mathlib.Core.Path.{_∙_}
 use Rattle.encoding.proofs.WritingLaws.{written-more}
 use Rattle.encoding.proofs.writer.write_field.Statement.{statement}

@@ -1,4 +1,4 @@
--- `encoding::writer::write_text` meets its contract: the loop writes the bytes one after the other. Assumes nothing.
+-- `encoding::writer::write_text` meets its contract: the loop writes the bytes one after the other.
 use Prim.Native.Nat.{_-_}
 use lib.ListN.{length}
 use borrow.Author.Needs.{needs}

@@ -1,5 +1,4 @@
 -- `exchange::exchange` meets its contract: a refused call changes nothing, and an accepted one does what the definitions say.
--- Assumes nothing.
 use Rattle.exchanger.proofs.AnswerLaws.{call-refused, call-accepted, call-replaced}
 use borrow.Author.Needs.{needs}
 use Rattle.exchanger.proofs.exchange.exchange.Statement.{statement}

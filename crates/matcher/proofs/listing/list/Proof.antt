@@ -1,5 +1,4 @@
 -- `listing::list` meets its contract: a refused call leaves the list, and an accepted one is that of `list_accepted`.
--- Assumes nothing.
 use mathlib.Core.Path.{sym, _∙_}
 use Rattle.matcher.proofs.ListingLaws.{list-refused, list-accepts}
 use borrow.Author.Needs.{needs}

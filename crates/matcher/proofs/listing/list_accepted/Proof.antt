@@ -1,5 +1,4 @@
 -- `listing::list_accepted` meets its contract: the loop keeps that the matches among the first i nodes are written.
--- Assumes nothing.
 use Prim.Native.Nat.{_+_, _-_, _*_, _≤_}
 use native.Mathlib.Omega.{arith}
 use lib.ListN.{length}

@@ -1,5 +1,4 @@
 -- `run::run` meets its contract: a refused call leaves the marks, and an accepted one is that of `run_accepted`.
--- Assumes nothing.
 use mathlib.Core.Path.{sym, _∙_}
 use Rattle.matcher.proofs.RunLaws.{run-refused, run-accepts}
 use borrow.Author.Needs.{needs}

@@ -1,5 +1,4 @@
--- `run::run_accepted` meets its contract: the nodes marked one after the other leave the state sets of the tree. Assumes
--- nothing.
+-- `run::run_accepted` meets its contract: the nodes marked one after the other leave the state sets of the tree.
 use mathlib.Core.Path.{sym}
 use native.Mathlib.Omega.{arith}
 use Rattle.matcher.proofs.RunLaws.{workable, run-left, run-room, run-few, run-part, run-cells}

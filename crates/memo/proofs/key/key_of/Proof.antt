@@ -1,4 +1,4 @@
--- `key::key_of` meets its contract: the number fits. Assumes nothing.
+-- `key::key_of` meets its contract: the number fits.
 use native.Mathlib.Omega.{arith}
 use Rattle.memo.proofs.KeyLaws.{key-few, key-is}
 use borrow.Author.Needs.{needs}

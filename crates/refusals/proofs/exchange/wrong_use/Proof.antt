@@ -1,7 +1,7 @@
--- `exchange::wrong_use` meets its contract: it asks both conditions in their order. Assumes nothing.
+-- `exchange::wrong_use` meets its contract: it asks both conditions in their order.
 use mathlib.Core.Path.{sym, _∙_}
 use borrow.Author.Needs.{needs}
-use Rattle.operations.specs.Exchange.{wrongUse}
+use Rattle.operations.specs.Exchange.{wrongUsedCount}
 use Rattle.refusals.proofs.exchange.wrong_use.Statement.{statement}
 use Rattle.refusals.proofs.exchange.wrong_use.Tie as tie
 
@@ -9,11 +9,11 @@ wrong-count-requires : tie.Need-wrong-count-requires
 wrong-count-requires c κs = search needs
 
 returns : tie.Need-returns
-unfolding wrongUse
+unfolding wrongUsedCount
 returns c = simp (sym (c .before .wrong-count .ensures) ∙ c .if1 .taken)
 
 returns-2 : tie.Need-returns-2
-unfolding wrongUse
+unfolding wrongUsedCount
 returns-2 c = simp (sym (c .before .wrong-count .ensures) ∙ c .if1 .left)
 
 pub wrong-use-spec : {M : Type 1} → statement M

@@ -1,4 +1,4 @@
--- `list::list_fault` meets its contract: it asks the conditions in their order. Assumes nothing.
+-- `list::list_fault` meets its contract: it asks the conditions in their order.
 use mathlib.Core.Path.{refl, sym, _∙_}
 use borrow.Author.Needs.{needs}
 use borrow.Author.Tests.{lt-ltb, le-ltb}
@@ -32,8 +32,8 @@ returns-2 c =
     (passes (tableRefusals _ _) refl (first .before .table-fault .ensures) (first .if1 .left)
     (here (sym (c .before .wrong-count .ensures) ∙ c .if2 .taken)))
 
-few-marks-requires : tie.Need-few-marks-requires
-few-marks-requires c κs = count-right _ (sym (c .before .wrong-count .ensures) ∙ c .if2 .left) .few
+marks-too-short-requires : tie.Need-marks-too-short-requires
+marks-too-short-requires c κs = count-right _ (sym (c .before .wrong-count .ensures) ∙ c .if2 .left) .few
 
 returns-3 : tie.Need-returns-3
 returns-3 c =
@@ -42,7 +42,7 @@ returns-3 c =
     number (asked (first .before))
     (passes (tableRefusals _ _) refl (first .before .table-fault .ensures) (first .if1 .left)
     (next (sym (count .before .wrong-count .ensures) ∙ count .if2 .left)
-    (here (sym (c .before .few-marks .ensures) ∙ c .if3 .taken))))
+    (here (sym (c .before .marks-too-short .ensures) ∙ c .if3 .taken))))
 
 returns-4 : tie.Need-returns-4
 unfolding listTooShort
@@ -53,7 +53,7 @@ returns-4 c =
     number (asked (first .before))
     (passes (tableRefusals _ _) refl (first .before .table-fault .ensures) (first .if1 .left)
     (next (sym (count .before .wrong-count .ensures) ∙ count .if2 .left)
-    (next (sym (marks .before .few-marks .ensures) ∙ marks .if3 .left)
+    (next (sym (marks .before .marks-too-short .ensures) ∙ marks .if3 .left)
     (here (lt-ltb _ _ (c .if4 .taken))))))
 
 returns-5 : tie.Need-returns-5
@@ -65,7 +65,7 @@ returns-5 c =
     number (asked (first .before))
     (passes (tableRefusals _ _) refl (first .before .table-fault .ensures) (first .if1 .left)
     (next (sym (count .before .wrong-count .ensures) ∙ count .if2 .left)
-    (next (sym (marks .before .few-marks .ensures) ∙ marks .if3 .left)
+    (next (sym (marks .before .marks-too-short .ensures) ∙ marks .if3 .left)
     (next (le-ltb _ _ (c .if4 .left)) none))))
 
 pub list-fault-spec : {M : Type 1} → statement M
@@ -76,7 +76,7 @@ list-fault-spec =
     returns
     wrong-count-requires
     returns-2
-    few-marks-requires
+    marks-too-short-requires
     returns-3
     returns-4
     returns-5)

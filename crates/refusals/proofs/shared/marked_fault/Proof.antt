@@ -1,4 +1,4 @@
--- `shared::marked_fault` meets its contract: it asks the conditions of 10, 11 and 12 in their order. Assumes nothing.
+-- `shared::marked_fault` meets its contract: it asks the conditions of 10, 11 and 12 in their order.
 use mathlib.Core.Path.{refl, sym, _∙_}
 use lib.ListN.{length}
 use borrow.Author.Needs.{needs}
@@ -21,23 +21,23 @@ tree-fault-requires c κs = search needs
 returns : tie.Need-returns
 returns c = number (asked (c .before)) (refuses (treeRefusals _ _) _ (c .before .tree-fault .ensures) (c .if1 .taken))
 
-few-marks-requires : tie.Need-few-marks-requires
-few-marks-requires c κs = search needs
+marks-too-short-requires : tie.Need-marks-too-short-requires
+marks-too-short-requires c κs = search needs
 
 returns-2 : tie.Need-returns-2
 returns-2 c =
     let shape = c .before .before in
     number (asked (shape .before))
     (passes (treeRefusals _ _) refl (shape .before .tree-fault .ensures) (shape .if1 .left)
-    (here (sym (c .before .few-marks .ensures) ∙ c .if2 .taken)))
+    (here (sym (c .before .marks-too-short .ensures) ∙ c .if2 .taken)))
 
 returns-3 : tie.Need-returns-3
 returns-3 c =
     let shape = c .before .before in
     number (asked (shape .before))
     (passes (treeRefusals _ _) refl (shape .before .tree-fault .ensures) (shape .if1 .left)
-    (next (sym (c .before .few-marks .ensures) ∙ c .if2 .left) none))
+    (next (sym (c .before .marks-too-short .ensures) ∙ c .if2 .left) none))
 
 pub marked-fault-spec : {M : Type 1} → statement M
 marked-fault-spec =
-    tie.close (tie.spec tree-fault-requires returns few-marks-requires returns-2 returns-3)
+    tie.close (tie.spec tree-fault-requires returns marks-too-short-requires returns-2 returns-3)

@@ -1,5 +1,5 @@
 -- `sets::state::contains` meets its contract: the state's bit is shifted to the lowest place, and beyond the set's words there
--- is none. Assumes nothing.
+-- is none.
 use mathlib.Core.Path.{refl}
 use lib.ListN.{List·getD-eq-default}
 use native.Mathlib.Nat.{zero-div}

@@ -1,5 +1,4 @@
 -- `sets::state::insert` meets its contract: the mask is the state's bit, and a store beyond the words changes nothing.
--- Assumes nothing.
 use mathlib.Core.Path.{sym}
 use lib.Seq.{set-out}
 use borrow.Author.Needs.{needs}

@@ -1,5 +1,4 @@
 -- `sets::state::mask` meets its contract: one test over the whole constant table, that number b is 2 ^ b, is computed.
--- Assumes nothing.
 use borrow.Author.Needs.{needs}
 use Rattle.sets.proofs.MaskLaws.{masks-at}
 use Rattle.sets.proofs.state.mask.Statement.{statement}

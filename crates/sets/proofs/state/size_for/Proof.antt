@@ -1,4 +1,4 @@
--- `sets::state::size_for` meets its contract: the state count is below 2,048, so that the sum fits. Assumes nothing.
+-- `sets::state::size_for` meets its contract: the state count is below 2,048, so that the sum fits.
 use mathlib.Core.Path.{refl}
 use borrow.Author.Needs.{needs}
 use Rattle.automaton.specs.StateSet.{sizeFor}

@@ -1,4 +1,4 @@
--- `sets::whole::copy_set` meets its contract: the set of its own gets the words at its front. Assumes nothing.
+-- `sets::whole::copy_set` meets its contract: the set of its own gets the words at its front.
 use Rattle.sets.proofs.SetLaws.{set-length, set-room, set-copied}
 use borrow.Author.Needs.{needs}
 use Rattle.sets.proofs.whole.copy_set.Statement.{statement}

@@ -1,5 +1,5 @@
 -- `sets::whole::same_words` meets its contract: lists that differ in length or at one word are told apart, and otherwise every word was
--- compared. Assumes nothing.
+-- compared.
 use Prim.Native.Nat.{_-_}
 use lib.ListN.{length}
 use Rattle.sets.proofs.CompareLaws.{Agree, agree-none, agree-more, agree-end, differ-length, differ-at}

@@ -1,4 +1,4 @@
--- `sets::whole::write_set` meets its contract: the loop keeps that the first k words are copied. Assumes nothing.
+-- `sets::whole::write_set` meets its contract: the loop keeps that the first k words are copied.
 use Prim.Native.Nat.{_-_}
 use mathlib.Core.Path.{refl, _∙_}
 use native.Mathlib.Omega.{arith}

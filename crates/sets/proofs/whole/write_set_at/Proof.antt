@@ -1,5 +1,4 @@
 -- `sets::whole::write_set_at` meets its contract: the words before the part that is lent stay, and the part gets the set at its front.
--- Assumes nothing.
 use Rattle.slices.proofs.PartLaws.{tail-part}
 use borrow.Author.Needs.{needs}
 use Rattle.sets.proofs.whole.write_set_at.Statement.{statement}

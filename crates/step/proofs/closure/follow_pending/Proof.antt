@@ -1,5 +1,5 @@
 -- `step::closure::follow_pending` meets its contract: each turn takes a state from the stack and follows its epsilon
--- transitions, and the turns end since a state is pushed only when it is new. Assumes nothing.
+-- transitions, and the turns end since a state is pushed only when it is new.
 use mathlib.Core.Path.{_≡_, refl, sym, _∙_}
 use Prim.Native.Nat.{_-_}
 use native.Mathlib.Omega.{arith}

@@ -1,4 +1,4 @@
--- `step::index::key` meets its contract: one case a kind, and only the transitions have a key. Assumes nothing.
+-- `step::index::key` meets its contract: one case a kind, and only the transitions have a key.
 use mathlib.Core.Path.{refl, sym}
 use native.Mathlib.Omega.{arith}
 use borrow.Author.Needs.{needs}

@@ -1,5 +1,4 @@
 -- `step::node::sources_contained` meets its contract: before each child, what is left is judged as the whole was.
--- Assumes nothing.
 use Prim.Native.Nat.{_-_}
 use native.Mathlib.Omega.{arith}
 use lib.ListN.{length}

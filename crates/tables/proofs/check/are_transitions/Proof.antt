@@ -1,5 +1,4 @@
 -- `tables::check::are_transitions` meets its contract: before each word the rest is judged as the whole was.
--- Assumes nothing.
 use Prim.Native.Nat.{_-_}
 use lib.ListN.{length}
 use borrow.Author.Needs.{needs}

@@ -1,4 +1,4 @@
--- `tables::check::is_head` meets its contract: the tests in their order are those of the definition. Assumes nothing.
+-- `tables::check::is_head` meets its contract: the tests in their order are those of the definition.
 use mathlib.Core.Path.{_≡_, refl, ap, _∙_}
 use mathlib.Core.Bool.{Bool, _&&_}
 use mathlib.Core.Logic.{⊎-elim}

@@ -1,4 +1,4 @@
--- `tables::check::is_table` meets its contract: each refusal is one test of the definition, in its order. Assumes nothing.
+-- `tables::check::is_table` meets its contract: each refusal is one test of the definition, in its order.
 use mathlib.Core.Path.{sym, _∙_}
 use borrow.Author.Needs.{needs}
 use borrow.Author.Tests.{not-true, not-false}

@@ -1,4 +1,4 @@
--- `tables::check::sources_next` meets its contract: one law for each way out, by the tests on the way. Assumes nothing.
+-- `tables::check::sources_next` meets its contract: one law for each way out, by the tests on the way.
 use mathlib.Core.Path.{sym, _∙_}
 use native.Mathlib.Omega.{arith}
 use borrow.Author.Needs.{needs}

@@ -1,4 +1,4 @@
--- `tables::head::final_state` meets its contract: the head's field is the automaton's final state. Assumes nothing.
+-- `tables::head::final_state` meets its contract: the head's field is the automaton's final state.
 use borrow.Author.Needs.{needs}
 use Rattle.automaton.specs.Transition.{automatonOf}
 use Rattle.operations.specs.Marks.{finalOf}

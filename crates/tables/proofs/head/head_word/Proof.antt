@@ -1,4 +1,4 @@
--- `tables::head::head_word` meets its contract: beyond its words a table reads as 0. Assumes nothing.
+-- `tables::head::head_word` meets its contract: beyond its words a table reads as 0.
 use mathlib.Core.Path.{sym}
 use lib.ListN.{List·getD-eq-default}
 use borrow.Author.Needs.{needs}

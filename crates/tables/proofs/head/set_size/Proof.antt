@@ -1,4 +1,4 @@
--- `tables::head::set_size` meets its contract: a head's state count is below 2,048, as `size_for` asks. Assumes nothing.
+-- `tables::head::set_size` meets its contract: a head's state count is below 2,048, as `size_for` asks.
 use mathlib.Core.Path.{ap, _∙_}
 use native.Mathlib.Omega.{arith}
 use borrow.Author.Needs.{needs}

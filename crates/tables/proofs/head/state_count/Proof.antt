@@ -1,4 +1,4 @@
--- `tables::head::state_count` meets its contract: the head's field is the automaton's state count. Assumes nothing.
+-- `tables::head::state_count` meets its contract: the head's field is the automaton's state count.
 use borrow.Author.Needs.{needs}
 use Rattle.automaton.specs.Transition.{automatonOf}
 use Rattle.tables.proofs.head.state_count.Statement.{statement}

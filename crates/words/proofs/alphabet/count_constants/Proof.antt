@@ -1,5 +1,4 @@
--- `alphabet::count_constants` meets its contract. The loop's invariant: `count` of the first `i` entries are constants. Assumes
--- nothing.
+-- `alphabet::count_constants` meets its contract. The loop's invariant: `count` of the first `i` entries are constants.
 use mathlib.Core.Path.{_∙_, sym}
 use mathlib.Core.Logic.{⊎-elim}
 use Prim.Native.Nat.{_-_}

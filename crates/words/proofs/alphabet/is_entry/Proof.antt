@@ -1,5 +1,4 @@
--- `alphabet::is_entry` meets its contract: `is_of` says whether the word is of the kind, and then its rank decides. Assumes
--- nothing.
+-- `alphabet::is_entry` meets its contract: `is_of` says whether the word is of the kind, and then its rank decides.
 use mathlib.Core.Path.{_≡_, _∙_, sym}
 use mathlib.Core.Bool.{true, false}
 use borrow.Author.Needs.{needs}

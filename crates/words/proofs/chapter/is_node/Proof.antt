@@ -1,5 +1,4 @@
--- `chapter::is_node` meets its contract: `is_of` says whether the word is of the kind, and then its symbol decides. Assumes
--- nothing.
+-- `chapter::is_node` meets its contract: `is_of` says whether the word is of the kind, and then its symbol decides.
 use mathlib.Core.Path.{_≡_, _∙_, sym}
 use mathlib.Core.Bool.{true, false}
 use borrow.Author.Needs.{needs}

@@ -1,9 +1,9 @@
--- `expression::expression_fault` meets its contract: it asks the conditions of 3, 4 and 5 in their order. Assumes nothing.
+-- `expression::expression_fault` meets its contract: it asks the conditions of 3, 4 and 5 in their order.
 use mathlib.Core.Path.{sym}
 use borrow.Author.Needs.{needs}
 use borrow.Author.Tests.{eq-eqb, ne-eqb, lt-ltb, le-ltb}
 use Rattle.words.specs.Postfix.{notOneTree}
-use Rattle.words.specs.Expression.{wrongLength, noExpressionWords}
+use Rattle.words.specs.Expression.{wrongLength, notExpressionWords}
 use Rattle.words.proofs.expression.expression_fault.Statement.{statement}
 use Rattle.words.proofs.expression.expression_fault.Tie as tie
 
@@ -19,7 +19,7 @@ expression-words-only-requires : tie.Need-expression-words-only-requires
 expression-words-only-requires c κs = search needs
 
 returns-3 : tie.Need-returns-3
-unfolding wrongLength noExpressionWords
+unfolding wrongLength notExpressionWords
 returns-3 c =
     let e = c .before .before in
     simp (
@@ -33,7 +33,7 @@ one-tree-requires : tie.Need-one-tree-requires
 one-tree-requires c κs = search needs
 
 returns-4 : tie.Need-returns-4
-unfolding wrongLength noExpressionWords notOneTree
+unfolding wrongLength notExpressionWords notOneTree
 returns-4 c =
     let d = c .before .before in
     let e = d .before .before in
@@ -47,7 +47,7 @@ returns-4 c =
     )
 
 returns-5 : tie.Need-returns-5
-unfolding wrongLength noExpressionWords notOneTree
+unfolding wrongLength notExpressionWords notOneTree
 returns-5 c =
     let d = c .before .before in
     let e = d .before .before in

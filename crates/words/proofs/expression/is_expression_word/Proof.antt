@@ -1,5 +1,5 @@
 -- `expression::is_expression_word` meets its contract: of a word whose spare bits are clear each case has the test of the kind
--- with that number, and any other number has no kind. Assumes nothing.
+-- with that number, and any other number has no kind.
 use mathlib.Core.Path.{_≡_, _∙_, sym}
 use mathlib.Core.Bool.{Bool, true, false, not}
 use borrow.Author.Needs.{needs}

@@ -1,5 +1,5 @@
 -- `postfix::arity` meets its contract: each case has the arity of the kind with that number, and any other number has no
--- kind. Assumes nothing.
+-- kind.
 use mathlib.Core.Path.{_∙_}
 use borrow.Author.Needs.{needs}
 use Rattle.words.specs.Word.{kindAt}

@@ -1,12 +1,12 @@
 -- `postfix::one_tree` meets its contract. The loop's invariant: the words from `i` on, after the trees so far, make one tree
--- exactly if all words do. Assumes nothing.
+-- exactly if all words do.
 use mathlib.Core.Path.{_≡_, _∙_, sym}
 use Prim.Native.Nat.{_-_, _≤_}
 use native.Mathlib.Omega.{arith}
 use lib.ListN.{length, drop}
 use borrow.Author.Needs.{needs}
 use Rattle.words.specs.Postfix.{trees}
-use Rattle.words.proofs.ScanLaws.{trees-lacks, trees-goes, trees-end}
+use Rattle.words.proofs.ScanLaws.{trees-lacks, trees-continues, trees-end}
 use Rattle.words.proofs.postfix.one_tree.Statement.{statement}
 use Rattle.words.proofs.postfix.one_tree.Tie as tie
 
@@ -48,7 +48,7 @@ loop-again c =
     let t = c .before .before .before in (
       search needs,
       omega (arith, t .before .loop .inv),
-      t .before .loop .inv .2 ∙ trees-goes _ _ _ _ _ _ (t .loop-test .taken) (c .before .arity .ensures) (c .if1 .left),
+      t .before .loop .inv .2 ∙ trees-continues _ _ _ _ _ _ (t .loop-test .taken) (c .before .arity .ensures) (c .if1 .left),
     )
 
 returns-2 : tie.Need-returns-2 Inv-loop μ-loop

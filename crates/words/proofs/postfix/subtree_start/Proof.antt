@@ -1,5 +1,5 @@
 -- `postfix::subtree_start` meets its contract. The loop's invariant: the node's subtree begins where the trees that are still
--- needed before `start` begin. Assumes nothing.
+-- needed before `start` begin.
 use mathlib.Core.Path.{sym}
 use native.Mathlib.Omega.{arith}
 use borrow.Author.Needs.{needs}

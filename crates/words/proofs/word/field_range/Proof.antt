@@ -1,5 +1,5 @@
 -- `word::field_range` meets its contract: each case has the range of the kind with that number, and any other number has no
--- kind. Assumes nothing.
+-- kind.
 use Rattle.words.specs.Word.{kindAt}
 use Rattle.words.proofs.KindLaws.{kindAt-rest}
 use Rattle.words.proofs.word.field_range.Statement.{statement}

@@ -1,5 +1,5 @@
 -- `word::is_of` meets its contract: of a word with this kind number the spare bits decide, and no other word is of the
--- kind. Assumes nothing.
+-- kind.
 use mathlib.Core.Path.{_∙_, sym}
 use native.Mathlib.Omega.{arith}
 use borrow.Author.Needs.{needs}

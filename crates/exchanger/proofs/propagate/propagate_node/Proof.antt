@@ -1,9 +1,9 @@
--- `climb::climb_node` meets its contract: the rank tells whether the node is an ancestor.
+-- `propagate::propagate_node` meets its contract: the rank tells whether the node is an ancestor.
 use native.Mathlib.Omega.{arith}
-use Rattle.exchanger.proofs.ClimbLaws.{node-rank, node-pushable, node-passed, step-beside, step-ancestor}
+use Rattle.exchanger.proofs.PropagateLaws.{node-rank, node-pushable, node-passed, step-beside, step-ancestor}
 use borrow.Author.Needs.{needs}
-use Rattle.exchanger.proofs.climb.climb_node.Statement.{statement}
-use Rattle.exchanger.proofs.climb.climb_node.Tie as tie
+use Rattle.exchanger.proofs.propagate.propagate_node.Statement.{statement}
+use Rattle.exchanger.proofs.propagate.propagate_node.Tie as tie
 
 mul-rank : tie.Need-mul-rank
 mul-rank c = search needs
@@ -65,8 +65,8 @@ same-length-9 c = search needs
 returns-2 : tie.Need-returns-2
 returns-2 c = let k = c .before .before .before .before .before .before .before .before .before .before .before .before .before .before .before .before .before .before .before .before .before .before .before .before .before .before in let r = c .before .before .before .before .before .before .before .before .before .before .before .before .before .before .before .before in (step-ancestor _ _ _ _ _ _ _ (node-rank (c .before .before .before .before .before .before .before .before .before .before .before .before .before .before .before .before .before .before .before .before .before .before .before .before .before .before .before .before .before .before .before .before .before .before .before .before .before .before .before .before .pre .at) _ (k .rank .ensures)) (c .before .before .before .before .before .before .before .before .before .before .before .before .before .before .before .before .before .before .before .before .before .before .before .before .before .if1 .left) _ (r .recompute .ensures .0), r .recompute .ensures .1)
 
-pub climb-node-spec : {M : Type 1} → statement M
-climb-node-spec =
+pub propagate-node-spec : {M : Type 1} → statement M
+propagate-node-spec =
     tie.close
     (tie.spec
     mul-rank

@@ -1,11 +1,11 @@
--- `climb::recompute` meets its contract: the words that the node gets are compared with those that stood there, which are kept beside.
+-- `propagate::recompute` meets its contract: the words that the node gets are compared with those that stood there, which are kept beside.
 use native.Mathlib.Omega.{arith}
 use Prim.Native.Nat.{ℕ}
 use lib.ListN.{length-replicate}
-use Rattle.exchanger.proofs.ClimbLaws.{row-room, row-small, row-few, row-part, before-length, node-recomputed}
+use Rattle.exchanger.proofs.PropagateLaws.{row-room, row-small, row-few, row-part, before-length, node-recomputed}
 use borrow.Author.Needs.{needs}
-use Rattle.exchanger.proofs.climb.recompute.Statement.{statement}
-use Rattle.exchanger.proofs.climb.recompute.Tie as tie
+use Rattle.exchanger.proofs.propagate.recompute.Statement.{statement}
+use Rattle.exchanger.proofs.propagate.recompute.Tie as tie
 
 abbrev start : tie.After-set-size → tie.Start
 start s = s .before .before .before .before .before .before .before .before .before .before .before .before .before

@@ -1,5 +1,5 @@
 -- What the loop over the replacement's root and the nodes behind it does, node by node. These definitions serve inner
--- functions. Assumes nothing.
+-- functions.
 use Prim.Native.Nat.{ℕ, zero, suc, _+_, _-_, _≤_}
 use mathlib.Core.Bool.{Bool, true, not, cond}
 use mathlib.Core.List.{List}
@@ -9,7 +9,7 @@ use Rattle.words.specs.Postfix.{arity}
 use Rattle.operations.specs.Marks.{sizeOf, storedSet, sameWords}
 use Rattle.nodes.specs.Nodes.{setFrom, markedAt}
 use Rattle.nodes.specs.Marking.{AtNode, AtNodes}
-use Rattle.exchanger.specs.declared.climb.Rise.{Rise}
+use Rattle.exchanger.specs.declared.propagate.Progress.{Progress}
 
 -- Node i is recomputed: its words are written, and whether they differ from those that stood there.
 unfoldable pub recomputeAt : List ℕ → List ℕ → List ℕ → ℕ → List ℕ → List ℕ × Bool
@@ -19,33 +19,33 @@ recomputeAt a table ch i marks =
 -- Of the trees that the nodes before i make, the last `reach` are the one that holds the replacement and those above it. A
 -- node that takes fewer is no ancestor, and nothing is done. Any other is an ancestor, or the replacement's root, before which
 -- `reach` is 0: it is recomputed, and work goes on if its words have changed.
-unfoldable pub climbStep : List ℕ → List ℕ → List ℕ → ℕ → List ℕ → Rise → List ℕ × Rise
-climbStep a table ch i marks t =
+unfoldable pub propagateStep : List ℕ → List ℕ → List ℕ → ℕ → List ℕ → Progress → List ℕ × Progress
+propagateStep a table ch i marks t =
     let r = arity a (getD ch i 0) in
-    let beside : List ℕ × Rise = (marks, record { reach = t .reach - r + 1; recomputed = t .recomputed; goes = true }) in
+    let beside : List ℕ × Progress = (marks, record { reach = t .reach - r + 1; recomputed = t .recomputed; active = true }) in
     let p = recomputeAt a table ch i marks in
-    let ancestor : List ℕ × Rise = (p .0, record { reach = 1; recomputed = t .recomputed + 1; goes = p .1 }) in
+    let ancestor : List ℕ × Progress = (p .0, record { reach = 1; recomputed = t .recomputed + 1; active = p .1 }) in
     cond (ltb r (t .reach)) beside ancestor
 
 -- the marks behind n nodes from node i on, and how many nodes were recomputed
-unfoldable pub climbFrom : List ℕ → List ℕ → List ℕ → ℕ → ℕ → List ℕ → Rise → List ℕ × ℕ
-climbFrom a table ch i zero marks t = (marks, t .recomputed)
-climbFrom a table ch i (suc n) marks t =
-    let next = climbStep a table ch i marks t in
-    let onward = climbFrom a table ch (suc i) n (next .0) (next .1) in
-    cond (next .1 .goes) onward (next .0, next .1 .recomputed)
+unfoldable pub propagateFrom : List ℕ → List ℕ → List ℕ → ℕ → ℕ → List ℕ → Progress → List ℕ × ℕ
+propagateFrom a table ch i zero marks t = (marks, t .recomputed)
+propagateFrom a table ch i (suc n) marks t =
+    let next = propagateStep a table ch i marks t in
+    let onward = propagateFrom a table ch (suc i) n (next .0) (next .1) in
+    cond (next .1 .active) onward (next .0, next .1 .recomputed)
 
 -- where the loop begins, with so many nodes recomputed before
-abbrev pub foot : ℕ → Rise
-foot count = record { reach = 0; recomputed = count; goes = true }
+abbrev pub initial : ℕ → Progress
+initial count = record { reach = 0; recomputed = count; active = true }
 
 -- what going past node i asks: the counts stay small
-pub record Climbable (a table index ch : List ℕ) (i : ℕ) (marks array : List ℕ) (height : ℕ) (t : Rise) (keys known places owners rows pending : List ℕ) : Type 0 where
+pub record Propagable (a table index ch : List ℕ) (i : ℕ) (marks array : List ℕ) (height : ℕ) (t : Progress) (keys known places owners rows pending : List ℕ) : Type 0 where
   pub at : AtNode a table index ch i marks array height keys known places owners rows pending
   pub few-reached : t .reach ≤ 4096
   pub few-recomputed : t .recomputed ≤ 8192
 
 -- what the whole loop asks, with `count` nodes recomputed before
-pub record ClimbStart (a table index ch : List ℕ) (root : ℕ) (marks array : List ℕ) (height count : ℕ) (keys known places owners rows pending : List ℕ) : Type 0 where
+pub record PropagationStart (a table index ch : List ℕ) (root : ℕ) (marks array : List ℕ) (height count : ℕ) (keys known places owners rows pending : List ℕ) : Type 0 where
   pub nodes : AtNodes a table index ch root (length ch) marks array height keys known places owners rows pending
   pub few : count ≤ 4096

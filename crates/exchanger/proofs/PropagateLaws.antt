@@ -1,4 +1,4 @@
--- Laws of the loop over the replacement's root and the nodes behind it: one node, and the loop's invariant. Assumes nothing.
+-- Laws of the loop over the replacement's root and the nodes behind it: one node, and the loop's invariant.
 use mathlib.Core.Path.{_≡_, refl, ap, ap₂, _∙_, sym, subst}
 use mathlib.Core.Bool.{Bool, true, false, not, cond}
 use mathlib.Core.List.{List, _++_}
@@ -22,8 +22,8 @@ use Rattle.nodes.specs.Marking.{AtNode, Prepared}
 use Rattle.nodes.proofs.WorkableLaws.{size-few, node-arity}
 use Rattle.nodes.proofs.StackLaws.{stack-pushable, represented-more}
 use Rattle.nodes.proofs.MarkLaws.{length-setFrom}
-use Rattle.exchanger.specs.declared.climb.Rise.{Rise}
-use Rattle.exchanger.specs.Climbing.{recomputeAt, climbStep, climbFrom}
+use Rattle.exchanger.specs.declared.propagate.Progress.{Progress}
+use Rattle.exchanger.specs.Propagation.{recomputeAt, propagateStep, propagateFrom}
 
 -- ---- one node is recomputed
 
@@ -122,50 +122,50 @@ module _ {a table index ch : List ℕ} {i : ℕ} {marks array : List ℕ} {heigh
         remembered = remembered-later (g .prepared .remembered);
       })
 
-module _ (a table ch : List ℕ) (i : ℕ) (marks : List ℕ) (t : Rise) where
-  abbrev beside : ℕ → List ℕ × Rise
-  beside r = (marks, record { reach = t .reach - r + 1; recomputed = t .recomputed; goes = true })
+module _ (a table ch : List ℕ) (i : ℕ) (marks : List ℕ) (t : Progress) where
+  abbrev beside : ℕ → List ℕ × Progress
+  beside r = (marks, record { reach = t .reach - r + 1; recomputed = t .recomputed; active = true })
 
-  abbrev ancestor : List ℕ × Bool → List ℕ × Rise
-  ancestor p = (p .0, record { reach = 1; recomputed = t .recomputed + 1; goes = p .1 })
+  abbrev ancestor : List ℕ × Bool → List ℕ × Progress
+  ancestor p = (p .0, record { reach = 1; recomputed = t .recomputed + 1; active = p .1 })
 
   abbrev r : ℕ
   r = arity a (getD ch i 0)
 
-  pub step-beside : (k : ℕ) → k ≡ arity a (getD ch i 0) → k < t .reach → beside k ≡ climbStep a table ch i marks t
-  unfolding climbStep
+  pub step-beside : (k : ℕ) → k ≡ arity a (getD ch i 0) → k < t .reach → beside k ≡ propagateStep a table ch i marks t
+  unfolding propagateStep
   step-beside k e h =
       ap beside e
       ∙ sym (ap (λ (x : Bool). cond x (beside r) (ancestor (recomputeAt a table ch i marks))) (lt-ltb r (t .reach) (subst (λ (x : ℕ). x < t .reach) e h)))
 
   pub step-ancestor : (k : ℕ) → k ≡ arity a (getD ch i 0) → t .reach ≤ k → (p : List ℕ × Bool) → p ≡ recomputeAt a table ch i marks
-      → ancestor p ≡ climbStep a table ch i marks t
-  unfolding climbStep
+      → ancestor p ≡ propagateStep a table ch i marks t
+  unfolding propagateStep
   step-ancestor k e h p q =
       ap ancestor q
       ∙ sym (ap (λ (x : Bool). cond x (beside r) (ancestor (recomputeAt a table ch i marks))) (le-ltb r (t .reach) (subst (λ (x : ℕ). t .reach ≤ x) e h)))
 
   -- what one node adds to the counts
-  pub record Small (next : Rise) : Type 0 where
+  pub record Small (next : Progress) : Type 0 where
     pub reach : next .reach ≤ t .reach + 1
     pub recomputed : next .recomputed ≤ t .recomputed + 1
 
-  pub step-small : (m : List ℕ) (next : Rise) → (m, next) ≡ climbStep a table ch i marks t → Small next
-  unfolding climbStep
-  step-small m next e = subst Small (sym (ap (λ (p : List ℕ × Rise). p .1) e)) (go (ltb r (t .reach)))
+  pub step-small : (m : List ℕ) (next : Progress) → (m, next) ≡ propagateStep a table ch i marks t → Small next
+  unfolding propagateStep
+  step-small m next e = subst Small (sym (ap (λ (p : List ℕ × Progress). p .1) e)) (go (ltb r (t .reach)))
     where
       go : (x : Bool) → Small (cond x (beside r) (ancestor (recomputeAt a table ch i marks)) .1)
       go true = record { reach = omega arith; recomputed = omega arith }
       go false = record { reach = omega arith; recomputed = omega arith }
 
-  module _ (n : ℕ) (m : List ℕ) (next : Rise) (e : (m, next) ≡ climbStep a table ch i marks t) where
-    turn : climbFrom a table ch i (suc n) marks t ≡ cond (next .goes) (climbFrom a table ch (suc i) n m next) (m, next .recomputed)
-    unfolding climbFrom
+  module _ (n : ℕ) (m : List ℕ) (next : Progress) (e : (m, next) ≡ propagateStep a table ch i marks t) where
+    turn : propagateFrom a table ch i (suc n) marks t ≡ cond (next .active) (propagateFrom a table ch (suc i) n m next) (m, next .recomputed)
+    unfolding propagateFrom
     turn =
-        ap (λ (p : List ℕ × Rise). cond (p .1 .goes) (climbFrom a table ch (suc i) n (p .0) (p .1)) (p .0, p .1 .recomputed)) (sym e)
+        ap (λ (p : List ℕ × Progress). cond (p .1 .active) (propagateFrom a table ch (suc i) n (p .0) (p .1)) (p .0, p .1 .recomputed)) (sym e)
 
-    pub climb-goes : next .goes ≡ true → climbFrom a table ch i (suc n) marks t ≡ climbFrom a table ch (suc i) n m next
-    climb-goes h = turn ∙ ap (λ (x : Bool). cond x (climbFrom a table ch (suc i) n m next) (m, next .recomputed)) h
+    pub propagate-continues : next .active ≡ true → propagateFrom a table ch i (suc n) marks t ≡ propagateFrom a table ch (suc i) n m next
+    propagate-continues h = turn ∙ ap (λ (x : Bool). cond x (propagateFrom a table ch (suc i) n m next) (m, next .recomputed)) h
 
-    pub climb-stops : next .goes ≡ false → climbFrom a table ch i (suc n) marks t ≡ (m, next .recomputed)
-    climb-stops h = turn ∙ ap (λ (x : Bool). cond x (climbFrom a table ch (suc i) n m next) (m, next .recomputed)) h
+    pub propagate-stops : next .active ≡ false → propagateFrom a table ch i (suc n) marks t ≡ (m, next .recomputed)
+    propagate-stops h = turn ∙ ap (λ (x : Bool). cond x (propagateFrom a table ch (suc i) n m next) (m, next .recomputed)) h

@@ -3,7 +3,7 @@ ghost use mathlib.Core.Path.{_≡_};
 ghost use Prim.Native.Nat.{_+_, _-_};
 ghost use lib.ListN.{length};
 ghost use Rattle.nodes.specs.Marking.{Prepared, AtNode};
-ghost use Rattle.exchanger.specs.Climbing.{recomputeAt, climbStep, climbFrom, foot, Climbable, ClimbStart};
+ghost use Rattle.exchanger.specs.Propagation.{recomputeAt, propagateStep, propagateFrom, initial, Propagable, PropagationStart};
 use nodes::marking::mark_node;
 use nodes::stack::push_node;
 use sets::whole::same_words;
@@ -14,10 +14,10 @@ use words::alphabet::rank;
 
 // How far the loop is: how many roots on the stack, counted from the top, reach down to the one whose tree holds the
 // replacement (0 before the replacement's root is put there), how many nodes were recomputed, and whether work goes on.
-pub struct Rise {
+pub struct Progress {
     pub reach: usize,
     pub recomputed: usize,
-    pub goes: bool,
+    pub active: bool,
 }
 
 // A node that was recomputed: whether its words changed, and the stack's height behind it.
@@ -28,7 +28,7 @@ pub struct Recomputed {
 
 // A node that was passed: how far the loop is behind it, and the stack's height.
 pub struct Passed {
-    pub rise: Rise,
+    pub progress: Progress,
     pub height: usize,
 }
 
@@ -90,7 +90,7 @@ fn recompute(
 
 // Goes past node i. A node that takes only roots above the one whose tree holds the replacement is no ancestor of it: its
 // words stay. The replacement's root and its ancestors are recomputed.
-fn climb_node(
+fn propagate_node(
     alphabet: &[u32],
     table: &[u32],
     index: &[u32],
@@ -99,7 +99,7 @@ fn climb_node(
     marks: &mut [u32],
     stack: &mut [u32],
     height: usize,
-    rise: Rise,
+    progress: Progress,
     keys: &mut [u64],
     known: &mut [u32],
     places: &mut [u32],
@@ -108,26 +108,26 @@ fn climb_node(
     pending: &mut [u32],
 ) -> Passed
     requires { ⌜
-        Climbable (now alphabet) (now table) (now index) (now nodes) i (now marks) (now stack) height rise (now keys) (now known) (now places) (now owners) (now rows) (now pending)
+        Propagable (now alphabet) (now table) (now index) (now nodes) i (now marks) (now stack) height progress (now keys) (now known) (now places) (now owners) (now rows) (now pending)
         ⌝ }
     ensures marks { λ r. ⌜
-        (now (marks .exit), r .rise)
-        ≡ climbStep (now (alphabet .entry)) (now (table .entry)) (now (nodes .entry)) i (now (marks .entry)) rise
+        (now (marks .exit), r .progress)
+        ≡ propagateStep (now (alphabet .entry)) (now (table .entry)) (now (nodes .entry)) i (now (marks .entry)) progress
         ⌝ }
     ensures kept { λ r. ⌜
         Prepared (now (alphabet .entry)) (now (table .entry)) (now (nodes .entry)) (i + 1) (now (marks .exit)) (now (stack .exit)) (r .height) (now (keys .exit)) (now (known .exit)) (now (places .exit)) (now (owners .exit)) (now (rows .exit)) (now (pending .exit))
         ⌝ }
 {
     let children = rank(alphabet, (nodes[i] % LOW_BYTE) as usize);
-    let reach = rise.reach;
-    let recomputed = rise.recomputed;
+    let reach = progress.reach;
+    let recomputed = progress.recomputed;
     if children < reach {
         let top = push_node(alphabet, nodes, i, stack, height);
         return Passed {
-            rise: Rise {
+            progress: Progress {
                 reach: reach - children + 1,
                 recomputed,
-                goes: true,
+                active: true,
             },
             height: top,
         };
@@ -149,10 +149,10 @@ fn climb_node(
         pending,
     );
     Passed {
-        rise: Rise {
+        progress: Progress {
             reach: 1,
             recomputed: recomputed + 1,
-            goes: node.changed,
+            active: node.changed,
         },
         height: node.height,
     }
@@ -160,7 +160,7 @@ fn climb_node(
 
 // Goes past the nodes from `root` on, the replacement's root, until one that is recomputed keeps its words or the nodes end.
 // Answers how many nodes were recomputed; `count` of them before.
-pub(crate) fn climb(
+pub(crate) fn propagate(
     alphabet: &[u32],
     table: &[u32],
     index: &[u32],
@@ -178,22 +178,22 @@ pub(crate) fn climb(
     pending: &mut [u32],
 ) -> usize
     requires { ⌜
-        ClimbStart (now alphabet) (now table) (now index) (now nodes) root (now marks) (now stack) height count (now keys) (now known) (now places) (now owners) (now rows) (now pending)
+        PropagationStart (now alphabet) (now table) (now index) (now nodes) root (now marks) (now stack) height count (now keys) (now known) (now places) (now owners) (now rows) (now pending)
         ⌝ }
     ensures { λ r. ⌜
         (now (marks .exit), r)
-        ≡ climbFrom (now (alphabet .entry)) (now (table .entry)) (now (nodes .entry)) root (length (now (nodes .entry)) - root) (now (marks .entry)) (foot count)
+        ≡ propagateFrom (now (alphabet .entry)) (now (table .entry)) (now (nodes .entry)) root (length (now (nodes .entry)) - root) (now (marks .entry)) (initial count)
         ⌝ }
 {
-    let mut rise = Rise {
+    let mut progress = Progress {
         reach: 0,
         recomputed: count,
-        goes: true,
+        active: true,
     };
     let mut top = height;
     let mut i = root;
     while i < nodes.len() {
-        let passed = climb_node(
+        let passed = propagate_node(
             alphabet,
             table,
             index,
@@ -202,7 +202,7 @@ pub(crate) fn climb(
             marks,
             stack,
             top,
-            rise,
+            progress,
             keys,
             known,
             places,
@@ -211,11 +211,11 @@ pub(crate) fn climb(
             pending,
         );
         top = passed.height;
-        rise = passed.rise;
-        if !rise.goes {
-            return rise.recomputed;
+        progress = passed.progress;
+        if !progress.active {
+            return progress.recomputed;
         }
         i += 1;
     }
-    rise.recomputed
+    progress.recomputed
 }

@@ -1,5 +1,5 @@
 -- Laws of the nodes behind a replaced subtree: what each does, and that where the stored state sets are those of the old
--- tree, the sets behind are those of the new one. Assumes nothing.
+-- tree, the sets behind are those of the new one.
 use mathlib.Core.Path.{_≡_, refl, ap, ap₂, _∙_, sym, subst}
 use mathlib.Core.Bool.{Bool, true, false}
 use mathlib.Core.List.{List, [], _∷_, _++_, map}
@@ -17,7 +17,7 @@ use Rattle.words.proofs.StackLaws.{Right, right-list, on-top}
 use Rattle.words.proofs.HoldingLaws.{HoldingTree, takes-others, holding-others, takes-holding, holding-ancestor}
 use Rattle.automaton.specs.StateSet.{StateSet}
 use Rattle.operations.specs.Marks.{nodeSet, sameWords}
-use Rattle.operations.specs.Exchange.{Outcome, kept, recomputed, setIn, recomputedIn, keptFrom, climb}
+use Rattle.operations.specs.Exchange.{Outcome, kept, recomputed, setIn, recomputedIn, keptFrom, propagate}
 use Rattle.operations.proofs.MarksLaws.{same-words}
 
 -- ---- one node
@@ -27,20 +27,20 @@ module _ (a table : List ℕ) (stored : ℕ → StateSet) (above : ℕ → Bool)
   new = valueOn a (nodeSet table) w stack
 
   abbrev from : ℕ → List ℕ → List StateSet → List Outcome
-  from = climb a table stored above
+  from = propagate a table stored above
 
-  pub climb-beside : above j ≡ false → from j (w ∷ ws) stack ≡ kept (stored j) ∷ from (suc j) ws (stored j ∷ drop (arity a w) stack)
-  unfolding climb
-  climb-beside e = rw e
+  pub propagate-beside : above j ≡ false → from j (w ∷ ws) stack ≡ kept (stored j) ∷ from (suc j) ws (stored j ∷ drop (arity a w) stack)
+  unfolding propagate
+  propagate-beside e = rw e
 
-  pub climb-last : above j ≡ true → sameWords new (stored j) ≡ true → from j (w ∷ ws) stack ≡ recomputed new ∷ keptFrom stored (suc j) (length ws)
-  unfolding climb
-  climb-last e f = rw (e, f)
+  pub propagate-last : above j ≡ true → sameWords new (stored j) ≡ true → from j (w ∷ ws) stack ≡ recomputed new ∷ keptFrom stored (suc j) (length ws)
+  unfolding propagate
+  propagate-last e f = rw (e, f)
 
-  pub climb-onward : above j ≡ true → sameWords new (stored j) ≡ false
+  pub propagate-onward : above j ≡ true → sameWords new (stored j) ≡ false
       → from j (w ∷ ws) stack ≡ recomputed new ∷ from (suc j) ws (new ∷ drop (arity a w) stack)
-  unfolding climb
-  climb-onward e f = rw (e, f)
+  unfolding propagate
+  propagate-onward e f = rw (e, f)
 
 pub sets-kept : (stored : ℕ → StateSet) (n j : ℕ) → map setIn (keptFrom stored j n) ≡ listFrom stored j n
 sets-kept stored zero j = refl
@@ -72,7 +72,7 @@ module _ (a table p : List ℕ) (e : ℕ) (stored : ℕ → StateSet) where
   on = valueOn a (nodeSet table)
 
   abbrev up : ℕ → List ℕ → List StateSet → List Outcome
-  up = climb a table stored (isAncestor a p e)
+  up = propagate a table stored (isAncestor a p e)
 
   abbrev RightFrom : ℕ → List ℕ → List StateSet → Type 0
   RightFrom = Right a (nodeSet table) stored
@@ -105,7 +105,7 @@ module _ (a table p : List ℕ) (e : ℕ) (stored : ℕ → StateSet) where
         let h′ : RightFrom (suc j) ws (on w t ∷ (drop k t ++ r₀ ∷ s)) =
         subst (λ (x : StateSet). RightFrom (suc j) ws (x ∷ (drop k t ++ r₀ ∷ s))) (on-top a (nodeSet table) w t (r₀ ∷ s) l)
         (subst (λ (x : List StateSet). RightFrom (suc j) ws (on w (t ++ r₀ ∷ s) ∷ x)) d₀ (h .1)) in
-        ap (map setIn) (climb-beside a table stored (isAncestor a p e) j w ws (t ++ r ∷ s) (takes-others a p e j (length t) y l′))
+        ap (map setIn) (propagate-beside a table stored (isAncestor a p e) j w ws (t ++ r ∷ s) (takes-others a p e j (length t) y l′))
         ∙ ap₂ (λ (x : StateSet) (z : List StateSet). x ∷ map setIn (up (suc j) ws (x ∷ z))) v d
         ∙ ap (λ (z : List StateSet). on w t ∷ z) (ih (on w t ∷ drop k t) s r₀ r (tail-drop p j w ws q .1) y′ h′)
         ∙ sym (ap₂ (λ (x : StateSet) (z : List StateSet). x ∷ vals ws (x ∷ z)) u d)
@@ -138,21 +138,21 @@ module _ (a table p : List ℕ) (e : ℕ) (stored : ℕ → StateSet) where
 
         go : Tested (sameWords nu (stored j)) → map setIn (up j (w ∷ ws) (t ++ r ∷ s)) ≡ nu ∷ vals ws (nu ∷ drop k (t ++ r ∷ s))
         go (holds same) =
-            ap (map setIn) (climb-last a table stored (isAncestor a p e) j w ws (t ++ r ∷ s) above same)
+            ap (map setIn) (propagate-last a table stored (isAncestor a p e) j w ws (t ++ r ∷ s) above same)
             ∙ ap (λ (z : List StateSet). nu ∷ z)
             (sets-kept stored (length ws) (suc j) ∙ right-list a (nodeSet table) stored ws (suc j) (old ∷ rest) h′
             ∙ ap₂ (λ (x : StateSet) (z : List StateSet). vals ws (x ∷ z)) (sym (same-words nu (stored j) same ∙ h .0)) (sym d))
         go (fails other) =
-            ap (map setIn) (climb-onward a table stored (isAncestor a p e) j w ws (t ++ r ∷ s) above other)
+            ap (map setIn) (propagate-onward a table stored (isAncestor a p e) j w ws (t ++ r ∷ s) above other)
             ∙ ap (λ (z : List StateSet). nu ∷ z)
             (ap (λ (z : List StateSet). map setIn (up (suc j) ws (nu ∷ z))) d
             ∙ ih [] rest old nu (tail-drop p j w ws q .1) (holding-ancestor a p e j (length t) y l′) h′
             ∙ ap (λ (z : List StateSet). vals ws (nu ∷ z)) (sym d))
 
-  pub climb-right : (ws : List ℕ) (j : ℕ) → Onward ws j
-  unfolding values climb
-  climb-right [] j t s r₀ r q y h = refl
-  climb-right (w ∷ ws) j t s r₀ r q y h = choose (decLe (arity a w) (length t)) (climb-right ws (suc j))
+  pub propagate-right : (ws : List ℕ) (j : ℕ) → Onward ws j
+  unfolding values propagate
+  propagate-right [] j t s r₀ r q y h = refl
+  propagate-right (w ∷ ws) j t s r₀ r q y h = choose (decLe (arity a w) (length t)) (propagate-right ws (suc j))
     where
       choose : Dec (arity a w ≤ length t) → Onward ws (suc j) → map setIn (up j (w ∷ ws) (t ++ r ∷ s)) ≡ vals (w ∷ ws) (t ++ r ∷ s)
       choose (yes l) ih = beside w ws j t s r₀ r q y h ih l

@@ -1,0 +1,65 @@
+-- Laws of the loop over the constants that writes the epsilon transitions from a word's entries.
+use mathlib.Core.Path.{_≡_, refl, ap, _∙_, sym}
+use mathlib.Core.List.{List, [], _∷_, _++_, append-nil}
+use Prim.Native.Nat.{ℕ, suc, _+_, _*_, _<_, _≤_}
+use native.Mathlib.Omega.{arith}
+use native.Mathlib.Numerals.{add-one}
+use lib.ListN.{length, getD, take}
+use lib.Seq.{take-suc, take-all, length-take-le}
+use Rattle.automaton.specs.Transition.{Transition, transitionsWords}
+use Rattle.automaton.specs.Numbering.{numbered, epsilons, entryEpsilons}
+use Rattle.automaton.proofs.TransitionLaws.{transitionsWords-append, numbered-append, entryEpsilons-append}
+use Rattle.emitter.specs.Writing.{Wrote, lastIndex}
+use Rattle.emitter.proofs.WritingLaws.{wrote-none, wrote-more, wrote-same, wrote-next}
+
+-- the words of the transitions from the entries for the constants, where x is the word's exit
+abbrev pub entryEpsilonWords : ℕ → List ℕ → (ℕ → List ℕ) → List ℕ
+entryEpsilonWords x cs targets = transitionsWords (entryEpsilons (numbered (suc x) cs) targets)
+
+-- one constant more
+pub entryEpsilonWords-more : (x : ℕ) (cs : List ℕ) (targets : ℕ → List ℕ) (k : ℕ) → k < length cs
+    → entryEpsilonWords x (take (k + 1) cs) targets
+    ≡ entryEpsilonWords x (take k cs) targets ++ transitionsWords (epsilons (x + 1 + k) (targets (getD cs k 0)))
+entryEpsilonWords-more x cs targets k h =
+    let c = getD cs k 0 in
+    let es = numbered (suc x) (take k cs) in
+    let n : suc x + length (take k cs) ≡ x + 1 + k = rw (length-take-le k cs (omega arith)) (omega arith) in
+    ap (λ (l : List ℕ). entryEpsilonWords x l targets) (ap (λ (i : ℕ). take i cs) (add-one k) ∙ take-suc cs k 0 h)
+    ∙ ap (λ (l : List (ℕ × ℕ)). transitionsWords (entryEpsilons l targets)) (numbered-append (suc x) (take k cs) (c ∷ []) ∙ ap (λ (i : ℕ). es ++
+    (c, i) ∷ []) n)
+    ∙ ap transitionsWords
+    (entryEpsilons-append targets es ((c, x + 1 + k) ∷ [])
+    ∙ ap (λ (l : List Transition). entryEpsilons es targets ++ l) (append-nil (epsilons (x + 1 + k) (targets c))))
+    ∙ transitionsWords-append (entryEpsilons es targets) (epsilons (x + 1 + k) (targets c))
+
+-- the loop after k constants
+pub record EntriesWritten (cs : List ℕ) (targets : ℕ → List ℕ) (x at : ℕ) (out out′ : List ℕ) (next k : ℕ) : Type 0 where
+  pub within : k ≤ length cs
+  pub long : length out′ ≡ length out
+  pub wrote : Wrote (5 * k) at (entryEpsilonWords x (take k cs) targets) out out′ next
+
+pub entriesWritten-none : (cs : List ℕ) (targets : ℕ → List ℕ) (x at : ℕ) (out : List ℕ) → EntriesWritten cs targets x at out out at 0
+entriesWritten-none cs targets x at out = record { within = omega arith; long = refl; wrote = wrote-none at out }
+
+module _ {cs : List ℕ} {targets : ℕ → List ℕ} {x at : ℕ} {out out′ : List ℕ} {next k : ℕ} (w : EntriesWritten cs targets x at out out′ next k) where
+  -- there is room for the next constant's transitions
+  pub entriesWritten-room : k < length cs → length cs ≤ 16 → at + 80 ≤ lastIndex → next + 5 ≤ lastIndex
+  entriesWritten-room h few room = let n = wrote-next _ _ _ _ _ _ (w .wrote) in omega arith
+
+  pub entriesWritten-more : (m : ℕ) (out″ : List ℕ) (r : ℕ) → k < length cs → m ≤ 5 → length out″ ≡ length out′
+      → Wrote m next (transitionsWords (epsilons (x + 1 + k) (targets (getD cs k 0)))) out′ out″ r → EntriesWritten cs targets x at out out″ r
+      (k + 1)
+  entriesWritten-more m out″ r h le l q =
+      record {
+        within = omega arith;
+        long = l ∙ w .long;
+        wrote =
+            wrote-same (5 * k + m) (5 * (k + 1)) at r _ _ out out″ (wrote-more (5 * k) m at next r _ _ out out′ out″ (w .wrote) q)
+            (omega arith)
+            (sym (entryEpsilonWords-more x cs targets k h));
+      }
+
+  pub entriesWritten-end : length cs ≤ k → length cs ≤ 16 → Wrote 80 at (entryEpsilonWords x cs targets) out out′ next
+  entriesWritten-end h few =
+      let i = w .within in
+      wrote-same (5 * k) 80 at next _ _ out out′ (w .wrote) (omega arith) (rw (take-all k cs h))
