@@ -15,7 +15,7 @@ HEADER = '''\
 use Prim.Native.Nat.{{ℕ}}
 use mathlib.Core.Path.{{_≡_, refl}}
 use mathlib.Core.List.{{List, [], _∷_, flatMap, flatten}}
-use Rattle.operations.specs.Answer.{{Answer, accepted, refused}}
+use Rattle.words.specs.Answer.{{Answer, accepted, refused}}
 '''
 
 
