@@ -1,6 +1,7 @@
--- The closure of a state, from the empty set to the end of the search, and the row that it is kept in.
+-- The closure of a state, from a closed set to the end of the search, and the row that it is kept in.
 use mathlib.Core.Path.{_≡_, refl, ap, _∙_, sym, subst}
-use mathlib.Core.Bool.{true, false, true≢false}
+use mathlib.Core.Bool.{Bool, true, false, true≢false}
+use mathlib.Core.Logic.{inl, inr, ⊎-elim}
 use mathlib.Core.List.{List, List·Memᴰ}
 use Prim.Native.Nat.{ℕ, _+_, _-_, _*_, _%_, _<_, _≤_}
 use native.Mathlib.Omega.{arith}
@@ -9,56 +10,83 @@ use lib.ListN.{length, getD, set, take, drop, replicate, length-set, length-repl
 use lib.Seq.{paste, length-paste, getD-set-same, getD-set-other}
 use Rattle.automaton.specs.Transition.{epsilon, automatonOf}
 use Rattle.automaton.specs.StateSet.{StateSet, contains, insert}
-use Rattle.automaton.proofs.BitLaws.{contains-replicate}
+use Rattle.automaton.proofs.BitLaws.{contains-replicate, words-replicate}
 use Rattle.operations.specs.Marks.{storedSet}
 use Rattle.sets.proofs.StoredLaws.{stored-written, stored-other}
 use Rattle.sets.specs.Joined.{joined}
-use Rattle.step.specs.Closure.{Stack, Settled, Room, Put, Followed, Closable, ClosureOf, Closures, Keepable, Kept, JoinedClosure}
+use Rattle.sets.proofs.JoinLaws.{joined-length, words-joined, joined-cases, joined-left, joined-right}
+use Rattle.step.specs.Closure.{Stack, Settled, Room, Put, Followed, Closable, ClosureOf, Closures, ClosedSet, Addable, Added, Keepable, Kept, Joinable, JoinedClosure}
 use Rattle.step.proofs.StartLaws.{member-starts, table-transitions}
+use Rattle.step.proofs.WordLaws.{closed-at}
 use Rattle.step.proofs.StackLaws.{missing-most, stack-room, stack-put, put-cases}
-use Rattle.step.proofs.SearchLaws.{search-first, settled-all}
+use Rattle.step.proofs.SearchLaws.{search-here, search-first, settled-all}
 use Rattle.step.proofs.FollowLaws.{states-most}
 
 -- ---- the search
 
-stack-none : (table pending : List ℕ) → automatonOf table .states ≤ length pending → Stack table (replicate 32 0) pending 0
-stack-none table pending room =
-    record {
-      size = length-replicate {A = ℕ} 32 0;
-      below = λ q e. absurd (true≢false (sym e ∙ contains-replicate 32 q));
-      room = room;
-      few = omega (arith, missing-most (automatonOf table .states) (replicate 32 0));
-      inside = λ k l. absurd (omega arith);
-    }
+module _ {table index : List ℕ} {s : ℕ} {pending : List ℕ} {r : StateSet} (g : Addable table index s pending r) where
+  start : Stack table r pending 0
+  start =
+      record {
+        size = g .set .size;
+        below = g .set .below;
+        room = g .closable .room;
+        few = omega (arith, missing-most (automatonOf table .states) r);
+        inside = λ k l. absurd (omega arith);
+      }
 
-module _ {table index : List ℕ} {s : ℕ} {pending : List ℕ} (g : Closable table index s pending) where
-  start : Stack table (replicate 32 0) pending 0
-  start = stack-none table pending (g .room)
+  pub add-room : Room r pending 0 s
+  add-room = stack-room (states-most (g .closable .checked)) start (g .closable .state)
 
-  pub close-room : Room (replicate 32 0) pending 0 s
-  close-room = stack-room (states-most (g .checked)) start (g .state)
+  module _ {t : StateSet} {pushed : List ℕ} {height : ℕ} (p : Put r pending 0 s t pushed height) where
+    pub add-stack : Stack table t pushed height
+    add-stack = stack-put (states-most (g .closable .checked)) start (g .closable .state) p
 
-  module _ {t : StateSet} {pushed : List ℕ} {height : ℕ} (p : Put (replicate 32 0) pending 0 s t pushed height) where
-    pub close-stack : Stack table t pushed height
-    close-stack = stack-put (states-most (g .checked)) start (g .state) p
+    add-search : Settled table r s t pushed height
+    add-search =
+        let at = closed-at (g .closable .checked) r (g .set .closed) in
+        put-cases (λ t k n. Settled table r s t k n) p (search-here table r pending s (g .set) at)
+        (λ e. search-first table r pending s (g .set) at (omega (arith, states-most (g .closable .checked), g .closable .state))
+        (omega (arith, g .closable .state, g .closable .room)))
 
-    close-search : Settled table s t pushed height
-    close-search =
-        put-cases (λ t k n. Settled table s t k n) p (λ e. absurd (true≢false (sym e ∙ contains-replicate 32 s)))
-        (λ e. search-first table pending s (omega (arith, states-most (g .checked), g .state)) (omega (arith, g .state, g .room)))
-
-    pub close-end : {u : StateSet} {left : List ℕ} → Followed table 0 (length table) t pushed height u left 0 → ClosureOf table s u
-    close-end f =
-        let done = f .settled s close-search in
+    pub add-end : {u : StateSet} {left : List ℕ} → Followed table 0 (length table) t pushed height u left 0 → Added table s r u
+    add-end f =
+        let done = f .settled r s (g .set .closed) add-search in
+        let c = g .closable .checked in
         record {
           size = f .stack .size;
           words = done .words;
+          grown = done .grown;
           holds = done .holds;
           closed = λ p q m e.
-              let k = member-starts table (epsilon p q) (subst (List·Memᴰ (epsilon p q)) (sym (table-transitions (g .checked .alphabet) table (g .checked .checked))) m) in
+              let k = member-starts table (epsilon p q) (subst (List·Memᴰ (epsilon p q)) (sym (table-transitions (c .alphabet) table (c .checked))) m) in
               settled-all done (k .index) (k .inside) p q (k .member) e;
           within = done .reached;
         }
+
+-- ---- a set of its own
+
+pub close-empty : {table index : List ℕ} {s : ℕ} {pending : List ℕ} → Closable table index s pending → Addable table index s pending (replicate 32 0)
+close-empty g =
+    record {
+      closable = g;
+      set = record {
+        size = length-replicate {A = ℕ} 32 0;
+        words = words-replicate 32;
+        below = λ q e. absurd (true≢false (sym e ∙ contains-replicate 32 q));
+        closed = λ p q m e. absurd (true≢false (sym e ∙ contains-replicate 32 p));
+      };
+    }
+
+pub close-end : {table : List ℕ} {s : ℕ} {t : StateSet} → Added table s (replicate 32 0) t → ClosureOf table s t
+close-end a =
+    record {
+      size = a .size;
+      words = a .words;
+      holds = a .holds;
+      closed = a .closed;
+      within = λ q e. ⊎-elim (λ d. absurd (true≢false (sym d ∙ contains-replicate 32 q))) (λ d. d) (a .within q e);
+    }
 
 -- ---- the row
 
@@ -72,11 +100,15 @@ module _ {table index : List ℕ} {s : ℕ} {owners rows pending : List ℕ} (g 
   pub row-room : s % 64 * 32 + 32 ≤ length rows
   row-room = omega (arith, g .closures .rows-are)
 
-  pub keep-known : getD owners (s % 64) 0 ≡ s + 1 → Kept table s owners rows
-  keep-known e = record { closures = g .closures; closure = g .closures .kept (s % 64) s row-small e }
+  pub keep-known : getD owners (s % 64) 0 ≡ s + 1 → Kept table s true owners rows
+  keep-known e = record { closures = g .closures; closure = λ _. g .closures .kept (s % 64) s row-small e }
+
+  -- the row is another state's
+  pub keep-other : Kept table s false owners rows
+  keep-other = record { closures = g .closures; closure = λ e. absurd (true≢false (sym e)) }
 
   pub keep-new : {closure rows′ : List ℕ} → ClosureOf table s closure → rows′ ≡ paste rows (s % 64 * 32) closure (length closure)
-      → Kept table s (set owners (s % 64) (s + 1)) rows′
+      → Kept table s true (set owners (s % 64) (s + 1)) rows′
   keep-new {closure} {rows′} c e =
       record {
         closures = record {
@@ -84,7 +116,7 @@ module _ {table index : List ℕ} {s : ℕ} {owners rows pending : List ℕ} (g 
           rows-are = ap length written ∙ length-paste rows (s % 64 * 32) closure 32 (omega (arith, row-room)) (omega (arith, c .size)) ∙ g .closures .rows-are;
           kept = λ k t h o. kept k t h o (ℕ-discrete k (s % 64));
         };
-        closure = here;
+        closure = λ _. here;
       }
     where
       written : rows′ ≡ paste rows (s % 64 * 32) closure 32
@@ -101,15 +133,33 @@ module _ {table index : List ℕ} {s : ℕ} {owners rows pending : List ℕ} (g 
           let other = ap (λ (l : List ℕ). storedSet 32 l k) written ∙ stored-other 32 rows (s % 64) closure (c .size) row-room k i in
           subst (ClosureOf table t) (sym other) (g .closures .kept k t h (sym (getD-set-other owners (s % 64) k (s + 1) 0 i) ∙ o))
 
+-- ---- the closure in the set
+
+-- both sets are closed
+added-joined : {table : List ℕ} {s : ℕ} {r c : StateSet} → ClosedSet table r → ClosureOf table s c → Added table s r (joined r c)
+added-joined {r = r} {c = c} k d =
+    let same : length c ≡ length r = d .size ∙ sym (k .size) in
+    record {
+      size = joined-length (length c) r c ∙ k .size;
+      words = words-joined r c same (k .words) (d .words);
+      grown = joined-left r c same;
+      holds = joined-right r c same _ (d .holds);
+      closed = λ p q m e. ⊎-elim (λ h. joined-left r c same q (k .closed p q m h)) (λ h. joined-right r c same q (d .closed p q m h)) (joined-cases r c same p e);
+      within = λ q e. ⊎-elim inl (λ h. inr (d .within q h)) (joined-cases r c same q e);
+    }
+
+-- the stack has kept its length
+pub add-again : {table index : List ℕ} {s : ℕ} {owners rows pending : List ℕ} {r : StateSet} → Joinable table index s owners rows pending r
+    → {pending′ : List ℕ} → length pending′ ≡ length pending → Addable table index s pending′ r
+add-again g e =
+    let k = g .keepable .closable in
+    record { closable = record { checked = k .checked; state = k .state; room = rw e (k .room) }; set = g .set }
+
 -- the row as a part of the rows
-pub join-end : {table : List ℕ} {s : ℕ} {owners rows : List ℕ} → Kept table s owners rows → {r t : StateSet}
+pub join-end : {table : List ℕ} {s : ℕ} {b : Bool} {owners rows : List ℕ} → b ≡ true → Kept table s b owners rows → {r t : StateSet} → ClosedSet table r
     → t ≡ joined r (take (s % 64 * 32 + 32 - s % 64 * 32) (drop (s % 64 * 32) rows)) → JoinedClosure table s r t owners rows
 unfolding storedSet
-join-end {s = s} {rows = rows} k {r} e =
+join-end {table} {s} {rows = rows} y k {r} {t} c e =
     let n : s % 64 * 32 + 32 - s % 64 * 32 ≡ 32 = omega arith in
-    record {
-      closures = k .closures;
-      closure = storedSet 32 rows (s % 64);
-      is-closure = k .closure;
-      joined-is = e ∙ ap (λ (x : ℕ). joined r (take x (drop (s % 64 * 32) rows))) n;
-    }
+    let q : t ≡ joined r (storedSet 32 rows (s % 64)) = e ∙ ap (λ (x : ℕ). joined r (take x (drop (s % 64 * 32) rows))) n in
+    record { closures = k .closures; added = subst (Added table s r) (sym q) (added-joined c (k .closure y)) }

@@ -10,7 +10,7 @@ use Rattle.words.specs.Word.{stateBelow}
 use Rattle.automaton.specs.Transition.{automatonOf}
 use Rattle.automaton.specs.StateSet.{StateSet, contains}
 use Rattle.step.specs.Ready.{Checked}
-use Rattle.step.specs.Closure.{Stack, Search, Room, Put, ClosingAt, Followed, work}
+use Rattle.step.specs.Closure.{Closed, Stack, Search, Room, Put, ClosingAt, Followed, work}
 use Rattle.step.proofs.ChainLaws.{Next, EpsilonWord, nextWith, next-some, next-none, epsilon-word}
 use Rattle.step.proofs.WordLaws.{closed-epsilon, epsilon-below, epsilon-reached}
 use Rattle.step.proofs.StackLaws.{stack-room, stack-put, put-less, put-length, put-present, put-keeps}
@@ -28,7 +28,7 @@ pub record EpsilonsAt (table index : List ℕ) (p : ℕ) (r₀ : StateSet) (pend
   pub stack : Stack table r pending top
   pub less : work table r top ≤ work table r₀ top₀
   pub present : contains r p ≡ true
-  pub search : (o : ℕ) → Search table o (256 + p) 0 r₀ pending₀ top₀ → Search table o (256 + p) from r pending top
+  pub search : (base : StateSet) (o : ℕ) → Closed table base → Search table base o (256 + p) 0 r₀ pending₀ top₀ → Search table base o (256 + p) from r pending top
 
 -- a state of the set has a chain
 pub key-inside : {table index : List ℕ} {p : ℕ} {r : StateSet} {pending : List ℕ} {top : ℕ} → ClosingAt table index p r pending top → 256 + p < 1280
@@ -45,7 +45,7 @@ epsilons-first {p = p} g =
       stack = g .closing .stack;
       less = omega arith;
       present = g .present;
-      search = λ o h. h;
+      search = λ base o k h. h;
     }
 
 module _ {table index : List ℕ} {p : ℕ} {r₀ : StateSet} {pending₀ : List ℕ} {top₀ i : ℕ} {r : StateSet} {pending : List ℕ} {top : ℕ}
@@ -58,7 +58,7 @@ module _ {table index : List ℕ} {p : ℕ} {r₀ : StateSet} {pending₀ : List
       record {
         stack = s .stack;
         less = s .less;
-        settled = λ o g. search-end (s .search o g) (next-none (s .at) (keyed (s .checked)) key-small (omega arith));
+        settled = λ base o k g. search-end (s .search base o k g) (next-none (s .at) (keyed (s .checked)) key-small (omega arith));
       }
 
   module _ (h : 0 < i) where
@@ -92,13 +92,14 @@ module _ {table index : List ℕ} {p : ℕ} {r₀ : StateSet} {pending₀ : List
           stack = stack-put most (s .stack) reaches-below q;
           less = let u = put-less most (s .stack) reaches-below q in let v = s .less in omega arith;
           present = put-keeps most (s .stack) reaches-below q p (s .present);
-          search = λ o g. search o (s .search o g);
+          search = λ base o k g. search base o k (s .search base o k g);
         }
       where
-        search : (o : ℕ) → Search table o (256 + p) (s .from) r pending top → Search table o (256 + p) (i + 1) t pushed height
-        search o g =
+        search : (base : StateSet) (o : ℕ) → Closed table base → Search table base o (256 + p) (s .from) r pending top
+            → Search table base o (256 + p) (i + 1) t pushed height
+        search base o k g =
             let most = states-most (s .checked) in
-            let reached = epsilon-reached (s .checked) i (epsilons-next .inside) epsilons-at o (g .reached p (s .present)) in
+            let reached = epsilon-reached (s .checked) i (epsilons-next .inside) epsilons-at base o k (g .reached p (s .present)) in
             search-word (search-put g most (s .stack) reaches-below reached q) epsilons-next
             (closed-epsilon table i t epsilons-at (put-present most (s .stack) reaches-below q))
 
@@ -106,7 +107,7 @@ module _ {table index : List ℕ} {p : ℕ} {r₀ : StateSet} {pending₀ : List
 
 module _ {table : List ℕ} {r₀ : StateSet} {pending₀ : List ℕ} {top₀ : ℕ} where
   pub pending-none : Stack table r₀ pending₀ top₀ → Followed table 0 (length table) r₀ pending₀ top₀ r₀ pending₀ top₀
-  pending-none stack = record { stack = stack; less = omega arith; settled = λ o g. g }
+  pending-none stack = record { stack = stack; less = omega arith; settled = λ base o k g. g }
 
   module _ {r : StateSet} {pending : List ℕ} {top : ℕ} (s : Followed table 0 (length table) r₀ pending₀ top₀ r pending top) (below : ℕ) (e : below + 1 ≡ top) where
     -- without the top state
@@ -124,7 +125,7 @@ module _ {table : List ℕ} {r₀ : StateSet} {pending₀ : List ℕ} {top₀ : 
           record {
             stack = g .stack;
             less = let u = s .less in let v = g .less in omega arith;
-            settled = λ o h. g .settled o (search-pop (s .settled o h) below e);
+            settled = λ base o k h. g .settled base o k (search-pop (s .settled base o k h) below e);
           }
 
       pub pending-less : work table t height < work table r top

@@ -12,6 +12,8 @@ use Rattle.words.specs.Word.{stateBelow}
 use Rattle.automaton.specs.Transition.{Transition, automatonOf, sourcesAt}
 use Rattle.automaton.specs.StateSet.{StateSet, contains, allContained}
 use Rattle.automaton.specs.Reached.{Reached, byEpsilon}
+use Rattle.automaton.proofs.ClosureLaws.{targets-below, reached-below}
+use Rattle.automaton.proofs.TableLaws.{isTable-automaton}
 use Rattle.step.specs.Index.{keyOf}
 use Rattle.step.specs.Ready.{Prepared, Checked, RowsInside, childSets}
 use Rattle.step.specs.Closure.{ReachedFrom, itself, onward, Closures, Joinable, JoinedClosure}
@@ -19,7 +21,6 @@ use Rattle.step.specs.Node.{Sources, Growing, Satisfied, Steppable, Seed
 use Rattle.step.proofs.ChainLaws.{Next, SymbolWord, nextWith, next-some, next-none, symbol-word}
 use Rattle.step.proofs.WordLaws.{symbol-below, symbol-reached, symbol-sources}
 use Rattle.step.proofs.FollowLaws.{InChain, left, states-most, keyed, first, in-chain, next, left-less}
-use Rattle.sets.proofs.JoinLaws.{joined-length, words-joined, joined-cases, joined-left, joined-right}
 
 pub prepared-checked : {table index : List ℕ} {f : ℕ} {marks children : List ℕ} → Prepared table index f marks children → Checked table index
 prepared-checked p =
@@ -62,13 +63,22 @@ module _ {table index : List ℕ} {size : ℕ} {marks children owners rows pendi
       }
 
   pub transition-joinable : Joinable table index (stateBelow (getD table i 0)) owners rows pending r
+  unfolding checked prepared-checked
   transition-joinable =
+      let k = g .seeding .growing in
+      let short = checked .short in
+      let over = targets-below (isTable-automaton (checked .alphabet) (omega arith) table (checked .checked)) in
       record {
         keepable = record {
           closable = record { checked = checked; state = target-below; room = g .seeding .steppable .room };
           closures = g .seeding .steppable .closures;
         };
-        size = g .seeding .growing .size;
+        set = record {
+          size = k .size;
+          words = k .words;
+          below = λ q e. reached-below (automatonOf table) (keyOf (getD table i 0)) (childSets size marks children) over (k .reached q e);
+          closed = k .closed;
+        };
       }
 
   -- the set stays: it has the target, or the part states are not in the children's sets
@@ -80,22 +90,19 @@ module _ {table index : List ℕ} {size : ℕ} {marks children owners rows pendi
       → JoinedClosure table (stateBelow (getD table i 0)) r t owners′ rows′
       → Joined table (keyOf (getD table i 0)) (childSets size marks children) i r t owners′ rows′
   transition-more h {t} j =
-      let c = j .is-closure in
-      let k = g .seeding .growing in
-      let same : length (j .closure) ≡ length r = c .size ∙ sym (k .size) in
+      let a = j .added in
       let target = symbol-reached checked i (g .inside) symbol (childSets size marks children) h in
-      rw (j .joined-is) (record {
+      record {
         closures = j .closures;
         growing = record {
-          size = joined-length (length (j .closure)) r (j .closure) ∙ k .size;
-          words = words-joined r (j .closure) same (k .words) (c .words);
-          reached = λ q e. ⊎-elim (k .reached q) (λ d. reached-on (c .within q d) target) (joined-cases r (j .closure) same q e);
-          closed = λ p q m e. ⊎-elim (λ d. joined-left r (j .closure) same q (k .closed p q m d)) (λ d. joined-right r (j .closure) same q (c .closed p q m d))
-              (joined-cases r (j .closure) same p e);
+          size = a .size;
+          words = a .words;
+          reached = λ q e. ⊎-elim (g .seeding .growing .reached q) (λ d. reached-on d target) (a .within q e);
+          closed = a .closed;
         };
-        grown = joined-left r (j .closure) same;
-        satisfied = λ _. joined-right r (j .closure) same (stateBelow (getD table i 0)) (c .holds);
-      })
+        grown = a .grown;
+        satisfied = λ _. a .holds;
+      }
 
 -- ---- all of them
 

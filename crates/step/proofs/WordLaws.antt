@@ -18,7 +18,7 @@ use Rattle.automaton.proofs.ClosureLaws.{transition-over, targets-below}
 use Rattle.automaton.proofs.TableLaws.{isTable-automaton}
 use Rattle.step.specs.Index.{keyOf}
 use Rattle.step.specs.Ready.{Checked}
-use Rattle.step.specs.Closure.{ReachedFrom, onward, ClosedAt, startsAt}
+use Rattle.step.specs.Closure.{ReachedFrom, onward, Closed, ClosedAt, startsAt}
 use Rattle.step.proofs.ChainLaws.{SymbolWord, EpsilonWord, key-symbol, key-epsilon}
 use Rattle.step.proofs.StartLaws.{starts-member, table-transitions}
 
@@ -95,6 +95,10 @@ module _ {table index : List ℕ} (c : Checked table index) (i : ℕ) (inside : 
     pub epsilon-below : stateBelow (getD table i 0) < automatonOf table .states
     epsilon-below = targets-below over _ epsilon-member
 
-    pub epsilon-reached : (o : ℕ) → ReachedFrom (automatonOf table .transitions) o p
-        → ReachedFrom (automatonOf table .transitions) o (stateBelow (getD table i 0))
-    epsilon-reached o h = onward epsilon-member h
+    pub epsilon-reached : (base : StateSet) (o : ℕ) → Closed table base → (contains base p ≡ true) ⊎ ReachedFrom (automatonOf table .transitions) o p
+        → (contains base (stateBelow (getD table i 0)) ≡ true) ⊎ ReachedFrom (automatonOf table .transitions) o (stateBelow (getD table i 0))
+    epsilon-reached base o k h = ⊎-elim (λ d. inl (k p (stateBelow (getD table i 0)) epsilon-member d)) (λ d. inr (onward epsilon-member d)) h
+
+-- a set that is closed is closed at each word
+pub closed-at : {table index : List ℕ} → Checked table index → (r : StateSet) → Closed table r → (i : ℕ) → i < length table → ClosedAt table r i
+closed-at c r k i l p q m e = k p q (member c i l (epsilon p q) m) e

@@ -3,14 +3,14 @@
 -- serve inner functions.
 use Prim.Native.Nat.{ℕ, _+_, _-_, _^_, _%_, _<_, _≤_}
 use mathlib.Core.Path.{_≡_}
-use mathlib.Core.Bool.{true, false, cond}
-use mathlib.Core.List.{List, [], _∷_, List·Memᴰ}
+use mathlib.Core.Bool.{Bool, true, false, cond}
+use mathlib.Core.Logic.{_⊎_}
+use mathlib.Core.List.{List, List·Memᴰ}
 use lib.ListN.{length, getD, drop, set}
 use Rattle.words.specs.Lists.{count, listFrom}
 use Rattle.automaton.specs.Transition.{Transition, epsilon, transitionAt, automatonOf}
 use Rattle.automaton.specs.StateSet.{StateSet, contains, insert}
 use Rattle.operations.specs.Marks.{storedSet}
-use Rattle.sets.specs.Joined.{joined}
 use Rattle.step.specs.Index.{keyOf}
 use Rattle.step.specs.Ready.{Checked}
 
@@ -70,17 +70,18 @@ pub record Stack (table : List ℕ) (r : StateSet) (pending : List ℕ) (top : �
   pub few : missing (automatonOf table .states) r + top ≤ automatonOf table .states
   pub inside : (k : ℕ) → k < top → contains r (getD pending k 0) ≡ true
 
--- The closure of state s while it is worked out: the set holds s and only states that are reached from it, and every word is
--- settled, but for those with this key from word `from` on.
-pub record Search (table : List ℕ) (s key from : ℕ) (r : StateSet) (pending : List ℕ) (top : ℕ) : Type 0 where
+-- The closure of state s while it is put into a set that was `base`: the set holds s, the states of `base`, and otherwise only
+-- states that are reached from s; every word is settled, but for those with this key from word `from` on.
+pub record Search (table : List ℕ) (base : StateSet) (s key from : ℕ) (r : StateSet) (pending : List ℕ) (top : ℕ) : Type 0 where
   pub words : (i : ℕ) → getD r i 0 < 2 ^ 32
+  pub grown : (q : ℕ) → contains base q ≡ true → contains r q ≡ true
   pub holds : contains r s ≡ true
-  pub reached : (q : ℕ) → contains r q ≡ true → ReachedFrom (automatonOf table .transitions) s q
+  pub reached : (q : ℕ) → contains r q ≡ true → (contains base q ≡ true) ⊎ ReachedFrom (automatonOf table .transitions) s q
   pub settled : (i : ℕ) → i < length table → (keyOf (getD table i 0) ≡ key → i < from) → SettledAt table r pending top i
 
 -- every word is settled
-abbrev pub Settled : List ℕ → ℕ → StateSet → List ℕ → ℕ → Type 0
-Settled table s r pending top = Search table s 0 (length table) r pending top
+abbrev pub Settled : List ℕ → StateSet → ℕ → StateSet → List ℕ → ℕ → Type 0
+Settled table base s r pending top = Search table base s 0 (length table) r pending top
 
 -- ---- what the inner functions are given, and what they leave
 
@@ -113,7 +114,7 @@ work table r top = missing (automatonOf table .states) r + missing (automatonOf 
 pub record Followed (table : List ℕ) (key from : ℕ) (r : StateSet) (pending : List ℕ) (top : ℕ) (t : StateSet) (pushed : List ℕ) (height : ℕ) : Type 0 where
   pub stack : Stack table t pushed height
   pub less : work table t height ≤ work table r top
-  pub settled : (s : ℕ) → Search table s key from r pending top → Settled table s t pushed height
+  pub settled : (base : StateSet) (s : ℕ) → Closed table base → Search table base s key from r pending top → Settled table base s t pushed height
 
 -- a checked table with its index, one of its states, and a stack with room for every state
 pub record Closable (table index : List ℕ) (s : ℕ) (pending : List ℕ) : Type 0 where
@@ -121,24 +122,43 @@ pub record Closable (table index : List ℕ) (s : ℕ) (pending : List ℕ) : Ty
   pub state : s < automatonOf table .states
   pub room : automatonOf table .states ≤ length pending
 
--- the same with the closures that are kept
+-- a set of 32 words with states of the table, closed under the epsilon transitions
+pub record ClosedSet (table : List ℕ) (r : StateSet) : Type 0 where
+  pub size : length r ≡ 32
+  pub words : (i : ℕ) → getD r i 0 < 2 ^ 32
+  pub below : (q : ℕ) → contains r q ≡ true → q < automatonOf table .states
+  pub closed : Closed table r
+
+-- a state, and a closed set for its closure to be put into
+pub record Addable (table index : List ℕ) (s : ℕ) (pending : List ℕ) (r : StateSet) : Type 0 where
+  pub closable : Closable table index s pending
+  pub set : ClosedSet table r
+
+-- t has the states of r and of the closure of state s, and no other
+pub record Added (table : List ℕ) (s : ℕ) (r t : StateSet) : Type 0 where
+  pub size : length t ≡ 32
+  pub words : (i : ℕ) → getD t i 0 < 2 ^ 32
+  pub grown : (q : ℕ) → contains r q ≡ true → contains t q ≡ true
+  pub holds : contains t s ≡ true
+  pub closed : Closed table t
+  pub within : (q : ℕ) → contains t q ≡ true → (contains r q ≡ true) ⊎ ReachedFrom (automatonOf table .transitions) s q
+
+-- a state, and the closures that are kept
 pub record Keepable (table index : List ℕ) (s : ℕ) (owners rows pending : List ℕ) : Type 0 where
   pub closable : Closable table index s pending
   pub closures : Closures table owners rows
 
--- the closure of state s is kept in the row with its number modulo 64
-pub record Kept (table : List ℕ) (s : ℕ) (owners rows : List ℕ) : Type 0 where
+-- if the answer is true, the closure of state s is in the row with its number modulo 64
+pub record Kept (table : List ℕ) (s : ℕ) (b : Bool) (owners rows : List ℕ) : Type 0 where
   pub closures : Closures table owners rows
-  pub closure : ClosureOf table s (storedSet 32 rows (s % 64))
+  pub closure : b ≡ true → ClosureOf table s (storedSet 32 rows (s % 64))
 
--- the same, and a set for the closure to be put into
+-- the same, and a closed set for the closure to be put into
 pub record Joinable (table index : List ℕ) (s : ℕ) (owners rows pending : List ℕ) (r : StateSet) : Type 0 where
   pub keepable : Keepable table index s owners rows pending
-  pub size : length r ≡ 32
+  pub set : ClosedSet table r
 
--- the set r with the closure of state s
+-- the closure of state s was put into the set
 pub record JoinedClosure (table : List ℕ) (s : ℕ) (r t : StateSet) (owners rows : List ℕ) : Type 0 where
   pub closures : Closures table owners rows
-  pub closure : StateSet
-  pub is-closure : ClosureOf table s closure
-  pub joined-is : t ≡ joined r closure
+  pub added : Added table s r t

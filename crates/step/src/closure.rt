@@ -1,8 +1,7 @@
 // The epsilon closure of a state, worked out along the index; closures that were worked out are kept for other nodes.
-ghost use Prim.Native.Nat.{_+_, _≤_};
-ghost use mathlib.Core.Path.{_≡_};
+ghost use Prim.Native.Nat.{_+_};
 ghost use lib.ListN.{length};
-ghost use Rattle.step.specs.Closure.{Room, Put, Closing, ClosingAt, Followed, Closable, ClosureOf, Keepable, Kept, Joinable, JoinedClosure};
+ghost use Rattle.step.specs.Closure.{Room, Put, Closing, ClosingAt, Followed, Closable, ClosureOf, Addable, Added, Keepable, Kept, Joinable, JoinedClosure};
 use super::index::KEYS;
 use super::index::STATE_KEYS;
 use sets::state::contains;
@@ -69,18 +68,28 @@ fn follow_pending(table: &[u32], index: &[u32], set: &mut [u32], pending: &mut [
     }
 }
 
-// The closure of a state: the states that epsilon transitions reach from it, itself among them.
+// Puts the closure of a state, the states that epsilon transitions reach from it, into a closed set. States that are in the set
+// are not followed again.
+fn add_closure(table: &[u32], index: &[u32], state: usize, set: &mut [u32], pending: &mut [u32])
+    requires { ⌜ Addable (now table) (now index) state (now pending) (now set) ⌝ }
+    ensures { λ _. ⌜ Added (now (table .entry)) state (now (set .entry)) (now (set .exit)) ⌝ }
+{
+    let top = reach(set, pending, 0, state);
+    follow_pending(table, index, set, pending, top);
+}
+
+// The closure of a state as a set of its own.
 fn close_state(table: &[u32], index: &[u32], state: usize, pending: &mut [u32]) -> [u32; 32]
     requires { ⌜ Closable (now table) (now index) state (now pending) ⌝ }
     ensures { λ r. ⌜ ClosureOf (now (table .entry)) state r ⌝ }
 {
     let mut set = [0u32; 32];
-    let top = reach(&mut set, pending, 0, state);
-    follow_pending(table, index, &mut set, pending, top);
+    add_closure(table, index, state, &mut set, pending);
     set
 }
 
-// Keeps the closure of a state in its row, if another one or none is there.
+// Keeps the closure of a state in its row, if none is there. Answers whether the row has it. A row is never given to another
+// state, so that at most as many closures are worked out by themselves in a call as there are rows.
 fn keep_closure(
     table: &[u32],
     index: &[u32],
@@ -88,21 +97,26 @@ fn keep_closure(
     owners: &mut [u32],
     rows: &mut [u32],
     pending: &mut [u32],
-)
+) -> bool
     requires { ⌜ Keepable (now table) (now index) state (now owners) (now rows) (now pending) ⌝ }
-    ensures { λ _. ⌜ Kept (now (table .entry)) state (now (owners .exit)) (now (rows .exit)) ⌝ }
+    ensures { λ r. ⌜ Kept (now (table .entry)) state r (now (owners .exit)) (now (rows .exit)) ⌝ }
 {
     let row = state % ROWS;
     let owner = state as u32 + 1;
-    if owners[row] == owner {
-        return;
+    let found = owners[row];
+    if found == owner {
+        return true;
+    }
+    if found != 0 {
+        return false;
     }
     let closure = close_state(table, index, state, pending);
     write_set_at(rows, row * SET_WORDS, &closure);
     owners[row] = owner;
+    true
 }
 
-// Puts the closure of a state into a set.
+// Puts the closure of a state into a closed set: from its row, or by a search in the set itself.
 pub(crate) fn join_closure(
     table: &[u32],
     index: &[u32],
@@ -115,7 +129,10 @@ pub(crate) fn join_closure(
     requires { ⌜ Joinable (now table) (now index) state (now owners) (now rows) (now pending) (now set) ⌝ }
     ensures { λ _. ⌜ JoinedClosure (now (table .entry)) state (now (set .entry)) (now (set .exit)) (now (owners .exit)) (now (rows .exit)) ⌝ }
 {
-    keep_closure(table, index, state, owners, rows, pending);
+    if !keep_closure(table, index, state, owners, rows, pending) {
+        add_closure(table, index, state, set, pending);
+        return;
+    }
     let at = state % ROWS * SET_WORDS;
     join(set, &rows[at..at + SET_WORDS]);
 }

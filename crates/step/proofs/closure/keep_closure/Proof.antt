@@ -1,8 +1,8 @@
--- `step::closure::keep_closure` meets its contract: the row has the closure already, or gets it.
+-- `step::closure::keep_closure` meets its contract: the row has the closure already, is another state's, or gets it.
 use mathlib.Core.Path.{sym}
 use native.Mathlib.Omega.{arith}
 use Rattle.step.proofs.FollowLaws.{states-most}
-use Rattle.step.proofs.ClosureLaws.{row-inside, row-room, keep-known, keep-new}
+use Rattle.step.proofs.ClosureLaws.{row-inside, row-room, keep-known, keep-other, keep-new}
 use borrow.Author.Needs.{needs}
 use Rattle.step.proofs.closure.keep_closure.Statement.{statement}
 use Rattle.step.proofs.closure.keep_closure.Tie as tie
@@ -13,17 +13,20 @@ cast-owner c = omega (arith, c .before .before .before .before .before .pre .clo
 add-owner : tie.Need-add-owner
 add-owner c = omega (arith, c .before .before .before .before .before .pre .closable .state, states-most (c .before .before .before .before .before .pre .closable .checked))
 
-mul-if1 : tie.Need-mul-if1
-mul-if1 c = search needs
+mul-found : tie.Need-mul-found
+mul-found c = search needs
 
-slice-read-if1 : tie.Need-slice-read-if1
-slice-read-if1 c = row-inside (c .before .before .before .before .before .before .pre)
+slice-read-found : tie.Need-slice-read-found
+slice-read-found c = row-inside (c .before .before .before .before .before .before .pre)
 
 returns : tie.Need-returns
 returns c = keep-known (c .before .before .before .before .before .before .before .pre) (c .if1 .taken)
 
+returns-2 : tie.Need-returns-2
+returns-2 c = keep-other (c .before .before .before .before .before .before .before .before .pre)
+
 close-state-requires : tie.Need-close-state-requires
-close-state-requires c κs = c .before .before .before .before .before .before .before .before .pre .closable
+close-state-requires c κs = c .before .before .before .before .before .before .before .before .before .pre .closable
 
 mul-write-set-at : tie.Need-mul-write-set-at
 mul-write-set-at c = search needs
@@ -32,13 +35,13 @@ slice-aggregate-write-set-at : tie.Need-slice-aggregate-write-set-at
 slice-aggregate-write-set-at c = sym (c .before .before .before .before .close-state .ensures .size)
 
 write-set-at-requires : tie.Need-write-set-at-requires
-write-set-at-requires c κs = rw (c .before .before .before .before .close-state .ensures .size) (row-room (c .before .before .before .before .before .before .before .before .before .before .before .before .before .pre))
+write-set-at-requires c κs = rw (c .before .before .before .before .close-state .ensures .size) (row-room (c .before .before .before .before .before .before .before .before .before .before .before .before .before .before .pre))
 
 mul-owners : tie.Need-mul-owners
 mul-owners c = search needs
 
 slice-write-owners : tie.Need-slice-write-owners
-slice-write-owners c = row-inside (c .before .before .before .before .before .before .before .before .before .before .before .before .before .before .before .before .pre)
+slice-write-owners c = row-inside (c .before .before .before .before .before .before .before .before .before .before .before .before .before .before .before .before .before .pre)
 
 same-length : tie.Need-same-length
 same-length c = search needs
@@ -49,8 +52,8 @@ same-length-2 c = search needs
 same-length-3 : tie.Need-same-length-3
 same-length-3 c = search needs
 
-returns-2 : tie.Need-returns-2
-returns-2 c = keep-new (c .before .before .before .before .before .before .before .before .before .before .before .before .before .before .before .before .pre) (c .before .before .before .before .before .before .before .close-state .ensures) (c .before .before .write-set-at .ensures)
+returns-3 : tie.Need-returns-3
+returns-3 c = keep-new (c .before .before .before .before .before .before .before .before .before .before .before .before .before .before .before .before .before .pre) (c .before .before .before .before .before .before .before .close-state .ensures) (c .before .before .write-set-at .ensures)
 
 pub keep-closure-spec : {M : Type 1} → statement M
 keep-closure-spec =
@@ -58,9 +61,10 @@ keep-closure-spec =
     (tie.spec
     cast-owner
     add-owner
-    mul-if1
-    slice-read-if1
+    mul-found
+    slice-read-found
     returns
+    returns-2
     close-state-requires
     mul-write-set-at
     slice-aggregate-write-set-at
@@ -70,4 +74,4 @@ keep-closure-spec =
     same-length
     same-length-2
     same-length-3
-    returns-2)
+    returns-3)
