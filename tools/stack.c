@@ -1,9 +1,9 @@
 /* How much stack each C function takes: it is called on a painted stack with the largest rule (1,024 states, 1,147 table
- * words) and a chapter of 4,093 elements, and with the source's rule. Printed are the bytes below the caller's frame that
+ * words) and a chapter of 4,089 elements, and with the source's rule. Printed are the bytes below the caller's frame that
  * were written, the return address included. What is measured is this build on this machine: no theorem bounds a stack.
  *
  *   rt staticlib haqbylur
- *   gcc -O2 -Iinclude tools/stack.c target/staticlib/libhaqbylur.a -lpthread -o target/stack && target/stack */
+ *   gcc -O2 -static -Iinclude tools/stack.c target/staticlib/libhaqbylur.a -lpthread -o target/stack && target/stack */
 #include <pthread.h>
 #include <stdio.h>
 #include <stdlib.h>

@@ -220,6 +220,8 @@ def make(text):
     counts = [len(words[name]) for name in SECTIONS]
     if "counts" in sections:
         counts = [int(count) for count in sections["counts"].split()]
+        if len(counts) != 3 or not all(0 <= count < 1 << 32 for count in counts):
+            raise Wrong("counts: three numbers of 32 bits are asked for")
     elif "bytes" in sections and missing:
         counts = []
     numbers = counts + [w for name in SECTIONS for w in words[name]]
@@ -340,9 +342,18 @@ def show(data, names=None):
 def hits(data, output, names=None):
     """Each line of the output that names a hit, with the hit's subtree behind it."""
     sections = split(data)[1]
-    lines = output.split("\n")[:-1]
-    if not lines or not lines[0].startswith("nodes "):
-        return output
+    lines = output.split("\n")
+    if lines[-1] == "":
+        lines.pop()
+    if not lines or not re.fullmatch(r"nodes \d+ states \d+ hits \d+", lines[0]):
+        if len(lines) == 1 and re.fullmatch(r"refused \d+", lines[0]):
+            return output
+        raise Wrong("the output is neither a head line with hits nor `refused N`")
+    if int(lines[0].split()[5]) != len(lines) - 1:
+        raise Wrong("the head says %s hits, and %d lines follow" % (lines[0].split()[5], len(lines) - 1))
+    for line in lines[1:]:
+        if not re.fullmatch(r"\d+ \d+ \d+", line) or int(line.split()[0]) >= len(sections[2]):
+            raise Wrong("no hit of this input: " + line)
     alphabet = Alphabet.of_words(sections[0], names)
     trees = []
 
@@ -380,6 +391,9 @@ def main(arguments):
         else:
             sys.stderr.write(__doc__)
             return 2
+    except RecursionError:
+        sys.stderr.write("words.py: the text is nested too deeply\n")
+        return 1
     except (Wrong, ValueError, OSError, struct.error) as error:
         sys.stderr.write("words.py: %s\n" % error)
         return 1

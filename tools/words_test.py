@@ -132,6 +132,10 @@ class Words(unittest.TestCase):
             "nodes 7 states 29 hits 3\n2 4 3  f(a, b)\n3 3 1  d\n4 5 2  g(d)\n",
         )
         self.assertEqual(words.hits(data, "refused 5\n", names), "refused 5\n")
+        self.assertEqual(words.hits(data, printed[:-1], names), words.hits(data, printed, names))
+        for wrong in ("", "nodes 7\n", printed[:-6], printed + "4 5 2\n", printed.replace("4 5 2", "7 5 2"), printed.replace("4 5", "x 5")):
+            with self.assertRaises(words.Wrong):
+                words.hits(data, wrong, names)
 
     def test_comb(self):
         text = "alphabet: a/0 g/1\nrule: a\nchapter: " + "g(" * 4095 + "a" + ")" * 4095 + "\n"

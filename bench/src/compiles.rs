@@ -8,7 +8,7 @@ pub fn print(measure: &Measure, workloads: &[Workload]) {
     println!("Compile: microseconds a call.\n");
     println!("| workload | rule words | table words | library |");
     println!("|---|---|---|---|");
-    for work in workloads {
+    for work in workloads.iter().filter(|work| work.has_rule()) {
         let table = vec![0; work.table.len()];
         let seconds = library_call(measure, Call::compile(&work.alphabet, &work.expression, table));
         println!(

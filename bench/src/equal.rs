@@ -65,9 +65,11 @@ fn timed(comparison: &mut Comparison, work: &Workload) {
         let call = Call::run(&work.alphabet, &work.table, tree, lent);
         accepted(comparison, work, &call);
     }
-    let lent = vec![0; work.table.len()];
-    let call = Call::compile(&work.alphabet, &work.expression, lent);
-    accepted(comparison, work, &call);
+    if work.has_rule() {
+        let lent = vec![0; work.table.len()];
+        let call = Call::compile(&work.alphabet, &work.expression, lent);
+        accepted(comparison, work, &call);
+    }
 }
 
 /// Compares a call that is to be timed: a refusal would be timed for nothing.

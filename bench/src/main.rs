@@ -5,6 +5,7 @@
 
 mod automaton;
 mod books;
+mod byhand;
 mod compiles;
 mod consed;
 mod equal;

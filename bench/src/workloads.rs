@@ -1,6 +1,7 @@
 //! The inputs that are timed: a rule and a chapter each, made from a fixed seed.
 
 use crate::books;
+use crate::byhand;
 use peer::automaton;
 use peer::cases::{examples, largest};
 use peer::chance::Random;
@@ -28,6 +29,18 @@ impl Workload {
         tree: impl Fn(&[u32], usize) -> Vec<usize>,
     ) -> Workload {
         let table = automaton::table(&alphabet, &expression).expect("an expression");
+        Workload {
+            expression,
+            ..Workload::with_table(name, (alphabet, table), tree)
+        }
+    }
+
+    /// A table that no rule gives: the expression is left empty.
+    fn with_table(
+        name: &'static str,
+        (alphabet, table): (Vec<u32>, Vec<u32>),
+        tree: impl Fn(&[u32], usize) -> Vec<usize>,
+    ) -> Workload {
         let [tree, eighth] = [NODE_LIMIT, NODE_LIMIT / 8].map(|nodes| {
             let tree = tree(&alphabet, nodes);
             let height = height(&alphabet, &tree);
@@ -37,11 +50,15 @@ impl Workload {
         Workload {
             name,
             alphabet,
-            expression,
+            expression: Vec::new(),
             table,
             tree,
             eighth,
         }
+    }
+
+    pub fn has_rule(&self) -> bool {
+        !self.expression.is_empty()
     }
 
     /// How many words a node's state set takes.
@@ -50,7 +67,7 @@ impl Workload {
     }
 
     pub fn states(&self) -> usize {
-        automaton::states(&self.alphabet, &self.expression)
+        (self.table[0] >> 10 & 0x7ff) as usize
     }
 }
 
@@ -77,6 +94,7 @@ pub fn all() -> Vec<Workload> {
             books::repetitive,
         ),
         Workload::new("book, many sets", books::emphasis_at_sixteen(), books::random),
+        Workload::with_table("table by hand, chains", byhand::table(), byhand::chains),
     ]
 }
 

@@ -8,6 +8,9 @@ mod exported;
 /// Whether this build holds the library.
 pub const LINKED: bool = cfg!(linked);
 
+/// Length and sum of the archive that is linked.
+pub const ARCHIVE: Option<&str> = option_env!("HAQBYLUR_ARCHIVE");
+
 /// The library, or the model in its place where the library is not linked.
 pub fn matcher() -> Box<dyn Matcher> {
     #[cfg(linked)]

@@ -23,6 +23,9 @@ fn main() -> ExitCode {
         return ExitCode::from(2);
     };
     println!("peer: seed {seed}, {cases} random cases");
+    if let Some(archive) = library::ARCHIVE {
+        println!("peer: the library has {archive}");
+    }
     let mut comparison = Comparison::with(library::matcher());
     let mut section = |name: &str, compare: &mut dyn FnMut(&mut Comparison)| {
         let (start, before) = (Instant::now(), comparison.cases);

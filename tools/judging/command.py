@@ -64,7 +64,7 @@ def judge(place, input_file, claim_files):
     given = book.read_input(content_of(input_file))
     answer = matcher.answer(given)
     if isinstance(given, book.Book) and len(given.chapter) > book.MARKLIST_MOST:
-        print(f'over {book.MARKLIST_MOST} elements, for which marklist says 9: judged with the limit of {book.MOST_ELEMENTS} that Run has')
+        print(f'over {book.MARKLIST_MOST} elements, for which marklist says 9: judged with the limit of {book.MOST_ELEMENTS} that Run has (a board that says `refused 9` follows marklist)')
     if not certify(certificate.text_of(given, answer), place or Path(input_file).name + '.certificate'):
         return COULD_NOT_TELL
     if not claims:
@@ -120,6 +120,8 @@ def main(words):
             how, words = judge_exchange, words[1:]
         if not words or any(word.startswith('--') for word in words):
             raise BadUsage(USAGE)
+        if place is not None and any(Path(place).resolve() == Path(word).resolve() for word in words):
+            raise BadUsage(f'{place}: the certificate would replace a file that is to be judged')
         return how(place, words[0], words[1:])
     except (BadUsage, book.BadForm) as error:
         print(error, file=sys.stderr)

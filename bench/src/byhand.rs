@@ -1,0 +1,54 @@
+//! A table that no rule compiles to: many targets, of which each leads into one long chain of empty moves, and a chapter in
+//! which almost every step is new. A matcher that works out a closure for each target at each node is slow here.
+
+use peer::words::entry_word;
+
+const CONSTANTS: usize = 8;
+/// The symbols behind the constants: one of rank 1, one of rank 2.
+const UNARY: usize = CONSTANTS;
+const BINARY: usize = CONSTANTS + 1;
+/// The unary symbol turns each target into the next of its cycle; cycles of these lengths together come round late.
+const CYCLES: [usize; 13] = [2, 3, 5, 7, 11, 13, 17, 19, 23, 29, 31, 37, 41];
+const CHAIN: usize = 500;
+
+/// Alphabet and table.
+pub fn table() -> (Vec<u32>, Vec<u32>) {
+    let mut alphabet = vec![entry_word(0); CONSTANTS];
+    alphabet.extend([entry_word(1), entry_word(2)]);
+    let targets: usize = CYCLES.iter().sum();
+    let states = targets + CHAIN;
+    let mut table = vec![word(8, states, states - 1)];
+    for constant in 0..CONSTANTS {
+        let own = (0..targets).filter(|target| target % 4 == constant % 4 && target % 3 != constant / 4);
+        table.extend(own.map(|target| word(9, constant, target)));
+    }
+    let mut first = 0;
+    for cycle in CYCLES {
+        for place in 0..cycle {
+            table.push(word(9, UNARY, first + (place + 1) % cycle));
+            table.push(word(11, 0, first + place));
+        }
+        first += cycle;
+    }
+    table.extend((0..targets).map(|target| word(10, target, targets)));
+    table.extend((targets..states - 1).map(|state| word(10, state, state + 1)));
+    (alphabet, table)
+}
+
+fn word(kind: u32, above: usize, below: usize) -> u32 {
+    kind << 28 | (above as u32) << 10 | below as u32
+}
+
+/// One chain of the unary symbol over each constant, joined by the binary one.
+pub fn chains(_: &[u32], nodes: usize) -> Vec<usize> {
+    let long = nodes / CONSTANTS - 8;
+    let mut tree = Vec::new();
+    for constant in 0..CONSTANTS {
+        tree.push(constant);
+        tree.extend(vec![UNARY; long]);
+        if constant > 0 {
+            tree.push(BINARY);
+        }
+    }
+    tree
+}
