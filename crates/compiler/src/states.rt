@@ -9,20 +9,10 @@ ghost use Rattle.compiler.specs.Compiling.{Counted, Exited};
 use ports::port::EVERY;
 use ports::port::NONE;
 use ports::port::port_of;
-use words::alphabet::LOW_BYTE;
 use words::postfix::arity;
-use words::word::CLOSURE;
-use words::word::EMPTY;
-use words::word::ENTRY;
-use words::word::EPSILON;
-use words::word::HEAD;
-use words::word::KIND_UNIT;
-use words::word::NODE;
-use words::word::PRODUCT;
-use words::word::SOURCE;
-use words::word::SYMBOL;
-use words::word::TRANSITION;
-use words::word::UNION;
+use words::word::Kind;
+use words::word::LOW_BYTE;
+use words::word::kind_of;
 
 // How many states a word has, where `count` is the number of constants.
 pub(crate) fn states_of(alphabet: &[u32], count: usize, w: u32) -> u32
@@ -58,19 +48,9 @@ pub(crate) fn word_port(alphabet: &[u32], exit: u32, w: u32) -> u32
     if arity(alphabet, w) != 0 {
         return port_of(exit, EVERY);
     }
-    let kind = w / KIND_UNIT;
+    let kind = kind_of(w);
     match kind {
-        ENTRY => port_of(exit, NONE),
-        SYMBOL => port_of(exit, w % LOW_BYTE),
-        EMPTY => port_of(exit, NONE),
-        UNION => port_of(exit, NONE),
-        PRODUCT => port_of(exit, NONE),
-        CLOSURE => port_of(exit, NONE),
-        NODE => port_of(exit, NONE),
-        HEAD => port_of(exit, NONE),
-        TRANSITION => port_of(exit, NONE),
-        EPSILON => port_of(exit, NONE),
-        SOURCE => port_of(exit, NONE),
+        Kind::Symbol => port_of(exit, w % LOW_BYTE),
         _ => port_of(exit, NONE),
     }
 }

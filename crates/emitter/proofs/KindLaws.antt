@@ -1,4 +1,4 @@
--- Which own transitions a word has, told by its kind number.
+-- Which own transitions a word has, told by the number of its kind.
 use mathlib.Core.Path.{_≡_, refl, ap, _∙_, sym}
 use mathlib.Core.List.{List, [], _∷_}
 use Prim.Native.Nat.{ℕ}
@@ -57,10 +57,6 @@ module _ (w : ℕ) (E : Port) (cs : List ℕ) where
   own-other [] n₂ n₄ n₅ n₆ = refl
   own-other (p ∷ ps) n₂ n₄ n₅ n₆ =
       rw (ne-eqb (numberOf w) 2 n₂, ne-eqb (numberOf w) 4 n₄, ne-eqb (numberOf w) 5 n₅, ne-eqb (numberOf w) 6 n₆)
-
-  -- the same of a kind whose number is known
-  pub own-beside : (ps : List ℕ) (k : ℕ) → numberOf w ≡ k → (k ≡ 2 → ⊥) → (k ≡ 4 → ⊥) → (k ≡ 5 → ⊥) → (k ≡ 6 → ⊥) → own ps ≡ []
-  own-beside ps k e n₂ n₄ n₅ n₆ = own-other ps (λ q. n₂ (sym e ∙ q)) (λ q. n₄ (sym e ∙ q)) (λ q. n₅ (sym e ∙ q)) (λ q. n₆ (sym e ∙ q))
 
 -- the words of transitions that are written, said otherwise
 pub wrote-transitions : (m at r : ℕ) (ts us : List Transition) (out out′ : List ℕ) → us ≡ ts → Wrote m at (transitionsWords ts) out out′ r → Wrote m at (transitionsWords us) out out′ r

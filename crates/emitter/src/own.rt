@@ -16,19 +16,11 @@ use super::writer::push_epsilon;
 use super::writer::push_transition;
 use ports::port::entry_at;
 use ports::port::exit_of;
-use words::alphabet::LOW_BYTE;
-use words::word::CLOSURE;
-use words::word::EMPTY;
-use words::word::ENTRY;
-use words::word::EPSILON;
-use words::word::HEAD;
 use words::word::KIND_UNIT;
-use words::word::NODE;
-use words::word::PRODUCT;
+use words::word::Kind;
+use words::word::LOW_BYTE;
 use words::word::SOURCE;
-use words::word::SYMBOL;
-use words::word::TRANSITION;
-use words::word::UNION;
+use words::word::kind_of;
 
 // The index of a constant.
 fn index_of(constants: &[u32], c: u32) -> usize
@@ -181,19 +173,12 @@ pub fn push_own(
     if ports.len() == 0 {
         return at;
     }
-    let kind = w / KIND_UNIT;
+    let kind = kind_of(w);
     match kind {
-        ENTRY => at,
-        SYMBOL => push_symbol(constants, ports, out, at, exit, w % LOW_BYTE),
-        EMPTY => at,
-        UNION => push_union(constants, ports, out, at, exit),
-        PRODUCT => push_product(constants, ports, out, at, exit, w % LOW_BYTE),
-        CLOSURE => push_closure(constants, ports, out, at, exit, w % LOW_BYTE),
-        NODE => at,
-        HEAD => at,
-        TRANSITION => at,
-        EPSILON => at,
-        SOURCE => at,
+        Kind::Symbol => push_symbol(constants, ports, out, at, exit, w % LOW_BYTE),
+        Kind::Union => push_union(constants, ports, out, at, exit),
+        Kind::Product => push_product(constants, ports, out, at, exit, w % LOW_BYTE),
+        Kind::Closure => push_closure(constants, ports, out, at, exit, w % LOW_BYTE),
         _ => at,
     }
 }

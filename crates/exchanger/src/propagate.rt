@@ -9,8 +9,8 @@ use nodes::stack::push_node;
 use sets::whole::same_words;
 use sets::whole::write_set;
 use tables::head::set_size;
-use words::alphabet::LOW_BYTE;
 use words::alphabet::rank;
+use words::word::LOW_BYTE;
 
 // How far the loop is: how many roots on the stack, counted from the top, reach down to the one whose tree holds the
 // replacement (0 before the replacement's root is put there), how many nodes were recomputed, and whether work goes on.

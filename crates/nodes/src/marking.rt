@@ -6,8 +6,8 @@ ghost use Rattle.nodes.specs.Nodes.{markedAt, markedFrom};
 ghost use Rattle.nodes.specs.Marking.{Prepared, AtNode, AtNodes};
 use super::stack::STACK_BASE;
 use memo::marking::mark_next;
-use words::alphabet::LOW_BYTE;
 use words::alphabet::rank;
+use words::word::LOW_BYTE;
 
 // Marks node i, and puts its representative on the stack in the place of its children's; answers the stack's height.
 pub fn mark_node(

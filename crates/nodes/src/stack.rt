@@ -7,8 +7,8 @@ ghost use lib.ListN.{getD, set};
 ghost use Rattle.words.specs.Alphabet.{rankOf};
 ghost use Rattle.words.specs.Chapter.{symbolOf};
 ghost use Rattle.nodes.specs.Nodes.{rootsOf, Held, Pushable, Stackable};
-use words::alphabet::LOW_BYTE;
 use words::alphabet::rank;
+use words::word::LOW_BYTE;
 
 // The zeros at the bottom.
 pub const STACK_BASE: usize = 4;

@@ -1,20 +1,10 @@
 // An index of a table, made once for all nodes: for each symbol and each state a chain of the words at which transitions begin.
 ghost use mathlib.Core.Path.{_≡_};
 ghost use Rattle.step.specs.Index.{keyOf, indexedAt, indexOf, Insertable, Indexable};
-use tables::head::SYMBOL_RANGE;
-use words::word::CLOSURE;
-use words::word::EMPTY;
-use words::word::ENTRY;
-use words::word::EPSILON;
-use words::word::HEAD;
-use words::word::KIND_UNIT;
-use words::word::NODE;
-use words::word::PRODUCT;
-use words::word::SOURCE;
+use words::word::Kind;
 use words::word::STATE_RANGE;
-use words::word::SYMBOL;
-use words::word::TRANSITION;
-use words::word::UNION;
+use words::word::SYMBOL_RANGE;
+use words::word::kind_of;
 
 // The numbers that a symbol may have; the keys of the states stand behind them, and behind all keys the words' next words.
 pub(crate) const STATE_KEYS: usize = 256;
@@ -25,21 +15,12 @@ pub(crate) const KEYS: usize = 1280;
 fn key(w: u32) -> usize
     ensures { λ r. ⌜ r ≡ keyOf w ⌝ }
 {
-    let kind = w / KIND_UNIT;
+    let kind = kind_of(w);
     let symbol = (w / STATE_RANGE % SYMBOL_RANGE) as usize;
     let from = (w / STATE_RANGE % STATE_RANGE) as usize;
     match kind {
-        ENTRY => KEYS,
-        SYMBOL => KEYS,
-        EMPTY => KEYS,
-        UNION => KEYS,
-        PRODUCT => KEYS,
-        CLOSURE => KEYS,
-        NODE => KEYS,
-        HEAD => KEYS,
-        TRANSITION => symbol,
-        EPSILON => STATE_KEYS + from,
-        SOURCE => KEYS,
+        Kind::Transition => symbol,
+        Kind::Epsilon => STATE_KEYS + from,
         _ => KEYS,
     }
 }

@@ -8,6 +8,7 @@ use native.Mathlib.Numerals.{add-one}
 use lib.ListN.{length}
 use lib.Dec.{ltb, leb}
 use borrow.Author.Tests.{eq-eqb, ne-eqb, lt-ltb, le-ltb}
+use Rattle.words.proofs.TestLaws.{and-none}
 use Rattle.words.specs.Word.{Kind, headKind, transitionKind, epsilonKind, sourceKind, kindNumber, numberOf, hasKind, spareBitsClear, isOf, symbolAbove, countAbove, stateAbove, stateBelow}
 use Rattle.words.specs.Alphabet.{rankOf}
 use Rattle.automaton.specs.Table.{isHead, isTableWord, sourcesLeft}
@@ -28,10 +29,6 @@ unfolding isHead
 head-value w p q r s ep eq er es = es ∙ rw (er, eq, ep)
 
 -- ---- a word behind the head
-
-and-none : (b : Bool) → b && false ≡ false
-and-none true = refl
-and-none false = refl
 
 module _ (k : Kind) (w : ℕ) where
   not-clear : spareBitsClear w ≡ false → isOf k w ≡ false
@@ -70,9 +67,6 @@ module _ (a : List ℕ) (n w : ℕ) where
   unfolding isTableWord
   no-table-word zero h i j = sym (rw (not-of transitionKind w h, not-of epsilonKind w i))
   no-table-word (suc k) h i j = no-source (suc k) (omega arith) j
-
-  pub lower-kind : (k : ℕ) → numberOf w < 9 → Next k 0
-  lower-kind k h = no-table-word k (λ e. omega arith) (λ e. omega arith) (λ e. omega arith)
 
   pub symbol-unknown : (k : ℕ) → k ≤ 0 → numberOf w ≡ 9 → length a ≤ symbolAbove w → Next k 0
   unfolding isTableWord

@@ -4,24 +4,13 @@ ghost use mathlib.Core.Path.{_≡_};
 ghost use Prim.Native.Nat.{_+_};
 ghost use lib.ListN.{drop};
 ghost use Rattle.automaton.specs.Table.{isHead, isTableWord, sourcesLeft, areTransitions, isTable};
-use super::head::COUNT_RANGE;
-use super::head::SYMBOL_RANGE;
 use words::alphabet::rank;
-use words::word::CLOSURE;
-use words::word::EMPTY;
-use words::word::ENTRY;
-use words::word::EPSILON;
-use words::word::HEAD;
-use words::word::KIND_UNIT;
-use words::word::NODE;
-use words::word::PRODUCT;
-use words::word::SOURCE;
+use words::word::COUNT_RANGE;
+use words::word::Kind;
 use words::word::STATE_RANGE;
 use words::word::STATES_MOST;
-use words::word::SYMBOL;
-use words::word::TRANSITION;
-use words::word::UNION;
-use words::word::is_of;
+use words::word::SYMBOL_RANGE;
+use words::word::kind_of;
 use words::word::spare_bits_clear;
 
 // The most words of a table.
@@ -32,7 +21,14 @@ fn is_head(w: u32) -> bool
     ensures { λ r. ⌜ r ≡ isHead w ⌝ }
 {
     let states = w / STATE_RANGE % COUNT_RANGE;
-    is_of(HEAD, w) && 0 < states && states <= STATES_MOST && w % STATE_RANGE < states
+    let kind = kind_of(w);
+    match kind {
+        Kind::Head => spare_bits_clear(w)
+            && 0 < states
+            && states <= STATES_MOST
+            && w % STATE_RANGE < states,
+        _ => false,
+    }
 }
 
 // One more than the part states that are to come behind the word, or 0 where the word may not stand: where `left` part states
@@ -47,17 +43,9 @@ fn sources_next(alphabet: &[u32], states: usize, left: usize, w: u32) -> usize
     if below >= states {
         return 0;
     }
-    let kind = w / KIND_UNIT;
+    let kind = kind_of(w);
     match kind {
-        ENTRY => 0,
-        SYMBOL => 0,
-        EMPTY => 0,
-        UNION => 0,
-        PRODUCT => 0,
-        CLOSURE => 0,
-        NODE => 0,
-        HEAD => 0,
-        TRANSITION => {
+        Kind::Transition => {
             let symbol = (w / STATE_RANGE % SYMBOL_RANGE) as usize;
             if 0 < left {
                 return 0;
@@ -67,7 +55,7 @@ fn sources_next(alphabet: &[u32], states: usize, left: usize, w: u32) -> usize
             }
             0
         }
-        EPSILON => {
+        Kind::Epsilon => {
             let above = (w / STATE_RANGE % STATE_RANGE) as usize;
             if 0 < left {
                 return 0;
@@ -77,7 +65,7 @@ fn sources_next(alphabet: &[u32], states: usize, left: usize, w: u32) -> usize
             }
             0
         }
-        SOURCE => left,
+        Kind::Source => left,
         _ => 0,
     }
 }

@@ -4,13 +4,8 @@ ghost use lib.ListN.{getD};
 ghost use Rattle.automaton.specs.Transition.{automatonOf};
 ghost use Rattle.operations.specs.Marks.{sizeOf, finalOf};
 use sets::state::size_for;
+use words::word::COUNT_RANGE;
 use words::word::STATE_RANGE;
-
-// A head's state count is below this.
-pub(crate) const COUNT_RANGE: u32 = 2048;
-
-// A symbol transition's symbol is below this.
-pub const SYMBOL_RANGE: u32 = 256;
 
 // The first word, or 0 of a table with none.
 fn head_word(table: &[u32]) -> u32

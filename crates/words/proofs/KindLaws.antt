@@ -171,20 +171,3 @@ isOf-noKind w = go (tested (hasKind noKind w))
     go : Tested (hasKind noKind w) → isOf noKind w ≡ false
     go (holds e) = rw (e, spare-noKind w (hasKind-kindOf noKind w e))
     go (fails e) = rw e
-
--- ---- the kind of a number n: of a word of that number the spare bits decide, and no other word is of it
-
-module _ (n w : ℕ) where
-  pub isOf-same : numberOf w ≡ n → isOf (kindAt n) w ≡ spareBitsClear w
-  unfolding isOf
-  isOf-same h =
-      ⊎-elim (λ e. rw (eq-eqb (numberOf w) (kindNumber (kindAt n)) (h ∙ sym e)))
-      (λ e. ap (λ (k : Kind). isOf k w) e ∙ isOf-noKind w ∙ sym (spare-noKind w (ap kindAt h ∙ e)))
-      (number-cases n)
-
-  pub isOf-other : (numberOf w ≡ n → ⊥) → isOf (kindAt n) w ≡ false
-  unfolding isOf
-  isOf-other h =
-      ⊎-elim (λ e. rw (ne-eqb (numberOf w) (kindNumber (kindAt n)) (λ q. h (q ∙ e))))
-      (λ e. ap (λ (k : Kind). isOf k w) e ∙ isOf-noKind w)
-      (number-cases n)

@@ -14,6 +14,7 @@ pub mod TestLaws
 pub mod RefusalLaws
 pub mod ReadingLaws
 pub mod KindLaws
+pub mod DecodedLaws
 pub mod ChildLaws
 pub mod ExactlyOneLaws
 pub mod TreeLaws

@@ -31,6 +31,10 @@ and-true false c e = absurd (false≢true e)
 pub true-and : (b c : Bool) → b ≡ true → c ≡ true → b && c ≡ true
 true-and b c e f = rw (e, f)
 
+pub and-none : (b : Bool) → b && false ≡ false
+and-none true = refl
+and-none false = refl
+
 pub or-false : (b c : Bool) → b || c ≡ false → (b ≡ false) × (c ≡ false)
 or-false true c e = absurd (true≢false e)
 or-false false c e = (refl, e)

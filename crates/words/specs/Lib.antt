@@ -3,6 +3,7 @@ pub mod Refusal
 pub mod Answer
 pub mod ExactlyOne
 pub mod Word
+pub mod Decoded
 pub mod Alphabet
 pub mod Tree
 pub mod Postfix

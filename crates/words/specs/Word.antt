@@ -3,7 +3,6 @@ use Prim.Native.Nat.{ℕ, _+_, _*_, _/_, _%_}
 use mathlib.Core.List.{List, [], _∷_}
 use mathlib.Core.Bool.{Bool, cond, _&&_}
 use lib.Dec.{ltb, eqb}
-
 -- document 01's kinds: alphabet entry; the rule words symbol, empty language, union, product, closure; chapter element;
 -- table head, symbol move, empty move, part state of a move; and no kind of document 01
 pub data Kind : Type 0 where
@@ -12,18 +11,18 @@ pub data Kind : Type 0 where
 
 -- document 01's number of a kind; 0 is that of none
 abbrev pub kindNumber : Kind → ℕ
-kindNumber entryKind = 1
-kindNumber symbolKind = 2
-kindNumber emptyKind = 3
-kindNumber unionKind = 4
-kindNumber productKind = 5
-kindNumber closureKind = 6
-kindNumber nodeKind = 7
-kindNumber headKind = 8
-kindNumber transitionKind = 9
-kindNumber epsilonKind = 10
-kindNumber sourceKind = 11
-kindNumber noKind = 0
+kindNumber entryKind = 0x1
+kindNumber symbolKind = 0x2
+kindNumber emptyKind = 0x3
+kindNumber unionKind = 0x4
+kindNumber productKind = 0x5
+kindNumber closureKind = 0x6
+kindNumber nodeKind = 0x7
+kindNumber headKind = 0x8
+kindNumber transitionKind = 0x9
+kindNumber epsilonKind = 0xA
+kindNumber sourceKind = 0xB
+kindNumber noKind = 0x0
 
 -- the one of these kinds that has the number n, or no kind
 abbrev pub kindAmong : List Kind → ℕ → Kind
@@ -58,18 +57,18 @@ bodyOf w = w % 0x1000_0000
 
 -- The named bits of each kind are its lowest ones: a word's other 28 bits stay below this number.
 abbrev pub fieldRange : Kind → ℕ
-fieldRange entryKind = 256
-fieldRange symbolKind = 256
-fieldRange emptyKind = 1
-fieldRange unionKind = 1
-fieldRange productKind = 256
-fieldRange closureKind = 256
-fieldRange nodeKind = 256
-fieldRange headKind = 2097152
-fieldRange transitionKind = 262144
-fieldRange epsilonKind = 1048576
-fieldRange sourceKind = 1024
-fieldRange noKind = 0
+fieldRange entryKind = 0x100
+fieldRange symbolKind = 0x100
+fieldRange emptyKind = 0x1
+fieldRange unionKind = 0x1
+fieldRange productKind = 0x100
+fieldRange closureKind = 0x100
+fieldRange nodeKind = 0x100
+fieldRange headKind = 0x20_0000
+fieldRange transitionKind = 0x4_0000
+fieldRange epsilonKind = 0x10_0000
+fieldRange sourceKind = 0x400
+fieldRange noKind = 0x0
 
 -- "Bits not named are zero."
 unfoldable pub spareBitsClear : ℕ → Bool
@@ -85,20 +84,20 @@ wordOf k body = kindNumber k * 0x1000_0000 + body
 
 -- bits 7..0: a rank, a symbol or a substitution symbol (document 01's c)
 abbrev pub lowByte : ℕ → ℕ
-lowByte w = w % 256
+lowByte w = w % 0x100
 
 -- bits 17..10: the symbol of a transition (a symbol move)
 abbrev pub symbolAbove : ℕ → ℕ
-symbolAbove w = w / 1024 % 256
+symbolAbove w = w / 0x400 % 0x100
 
 -- bits 20..10: the state count of a head
 abbrev pub countAbove : ℕ → ℕ
-countAbove w = w / 1024 % 2048
+countAbove w = w / 0x400 % 0x800
 
 -- bits 19..10: the from state of an epsilon transition (an empty move)
 abbrev pub stateAbove : ℕ → ℕ
-stateAbove w = w / 1024 % 1024
+stateAbove w = w / 0x400 % 0x400
 
 -- bits 9..0: a state
 abbrev pub stateBelow : ℕ → ℕ
-stateBelow w = w % 1024
+stateBelow w = w % 0x400

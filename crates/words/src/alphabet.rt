@@ -4,8 +4,10 @@ ghost use lib.ListN.{length, take};
 ghost use lib.Seq.{sets};
 ghost use Rattle.words.specs.Lists.{all};
 ghost use Rattle.words.specs.Alphabet.{isEntry, isConstant, rankOf, constantsOf, alphabetFault};
-use super::word::ENTRY;
-use super::word::is_of;
+use super::word::Kind;
+use super::word::LOW_BYTE;
+use super::word::kind_of;
+use super::word::spare_bits_clear;
 
 // The most entries of an alphabet.
 const ALPHABET_MOST: usize = 64;
@@ -15,9 +17,6 @@ const CONSTANTS_MOST: usize = 16;
 
 // The highest rank.
 const RANK_MOST: u32 = 4;
-
-// Bits 7..0 of an entry are its rank, those of other words a symbol.
-pub const LOW_BYTE: u32 = 256;
 
 // The rank of a symbol; 0 for an unknown one.
 pub fn rank(alphabet: &[u32], symbol: usize) -> usize
@@ -43,10 +42,11 @@ pub(crate) fn is_constant(alphabet: &[u32], symbol: usize) -> bool
 fn is_entry(w: u32) -> bool
     ensures { λ r. ⌜ r ≡ isEntry w ⌝ }
 {
-    if is_of(ENTRY, w) {
-        return w % LOW_BYTE <= RANK_MOST;
+    let kind = kind_of(w);
+    match kind {
+        Kind::Entry => spare_bits_clear(w) && w % LOW_BYTE <= RANK_MOST,
+        _ => false,
     }
-    false
 }
 
 // Whether every word is an alphabet entry.

@@ -2,20 +2,22 @@
 ghost use mathlib.Core.Path.{_≡_};
 ghost use Rattle.words.specs.Lists.{all};
 ghost use Rattle.words.specs.Chapter.{isNode, treeFault};
-use super::alphabet::LOW_BYTE;
 use super::alphabet::rank;
-use super::word::NODE;
-use super::word::is_of;
+use super::word::Kind;
+use super::word::LOW_BYTE;
+use super::word::kind_of;
+use super::word::spare_bits_clear;
 
 // Whether a word is a chapter element with a symbol that the alphabet has.
 fn is_node(alphabet: &[u32], w: u32) -> bool
     ensures { λ r. ⌜ r ≡ isNode (now (alphabet .entry)) w ⌝ }
 {
-    if is_of(NODE, w) {
-        let symbol = (w % LOW_BYTE) as usize;
-        return symbol < alphabet.len();
+    let kind = kind_of(w);
+    let symbol = (w % LOW_BYTE) as usize;
+    match kind {
+        Kind::Node => spare_bits_clear(w) && symbol < alphabet.len(),
+        _ => false,
     }
-    false
 }
 
 // Whether every word is one.

@@ -2,21 +2,11 @@
 ghost use mathlib.Core.Path.{_≡_};
 ghost use Rattle.words.specs.Lists.{all};
 ghost use Rattle.words.specs.Expression.{isExpressionWord, expressionFault};
-use super::alphabet::LOW_BYTE;
 use super::alphabet::is_constant;
 use super::postfix::one_tree;
-use super::word::CLOSURE;
-use super::word::EMPTY;
-use super::word::ENTRY;
-use super::word::EPSILON;
-use super::word::HEAD;
-use super::word::KIND_UNIT;
-use super::word::NODE;
-use super::word::PRODUCT;
-use super::word::SOURCE;
-use super::word::SYMBOL;
-use super::word::TRANSITION;
-use super::word::UNION;
+use super::word::Kind;
+use super::word::LOW_BYTE;
+use super::word::kind_of;
 use super::word::spare_bits_clear;
 
 // The most words of a rule.
@@ -30,19 +20,13 @@ fn is_expression_word(alphabet: &[u32], w: u32) -> bool
         return false;
     }
     let symbol = (w % LOW_BYTE) as usize;
-    let kind = w / KIND_UNIT;
+    let kind = kind_of(w);
     match kind {
-        ENTRY => false,
-        SYMBOL => symbol < alphabet.len(),
-        EMPTY => true,
-        UNION => true,
-        PRODUCT => is_constant(alphabet, symbol),
-        CLOSURE => is_constant(alphabet, symbol),
-        NODE => false,
-        HEAD => false,
-        TRANSITION => false,
-        EPSILON => false,
-        SOURCE => false,
+        Kind::Symbol => symbol < alphabet.len(),
+        Kind::Empty => true,
+        Kind::Union => true,
+        Kind::Product => is_constant(alphabet, symbol),
+        Kind::Closure => is_constant(alphabet, symbol),
         _ => false,
     }
 }

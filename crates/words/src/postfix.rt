@@ -1,38 +1,22 @@
 // Words in postfix order: how many children a word takes, which words make one tree, and where subtrees begin.
 ghost use mathlib.Core.Path.{_≡_};
 ghost use Rattle.words.specs.Postfix.{arity, oneTree, startOf};
-use super::alphabet::LOW_BYTE;
 use super::alphabet::rank;
-use super::word::CLOSURE;
-use super::word::EMPTY;
-use super::word::ENTRY;
-use super::word::EPSILON;
-use super::word::HEAD;
-use super::word::KIND_UNIT;
-use super::word::NODE;
-use super::word::PRODUCT;
-use super::word::SOURCE;
-use super::word::SYMBOL;
-use super::word::TRANSITION;
-use super::word::UNION;
+use super::word::Kind;
+use super::word::LOW_BYTE;
+use super::word::kind_of;
 
 // How many children a word takes.
 pub fn arity(alphabet: &[u32], w: u32) -> usize
     ensures { λ r. ⌜ r ≡ arity (now (alphabet .entry)) w ⌝ }
 {
-    let kind = w / KIND_UNIT;
+    let kind = kind_of(w);
     match kind {
-        ENTRY => 0,
-        SYMBOL => rank(alphabet, (w % LOW_BYTE) as usize),
-        EMPTY => 0,
-        UNION => 2,
-        PRODUCT => 2,
-        CLOSURE => 1,
-        NODE => rank(alphabet, (w % LOW_BYTE) as usize),
-        HEAD => 0,
-        TRANSITION => 0,
-        EPSILON => 0,
-        SOURCE => 0,
+        Kind::Symbol => rank(alphabet, (w % LOW_BYTE) as usize),
+        Kind::Union => 2,
+        Kind::Product => 2,
+        Kind::Closure => 1,
+        Kind::Node => rank(alphabet, (w % LOW_BYTE) as usize),
         _ => 0,
     }
 }

@@ -1,67 +1,114 @@
-// The kinds of words and which bits each kind names.
+// The kinds of words, and which bits each kind names.
 ghost use mathlib.Core.Path.{_≡_};
-ghost use Rattle.words.specs.Word.{kindAt, fieldRange, spareBitsClear, isOf};
+ghost use Rattle.words.specs.Word.{kindOf, fieldRange, spareBitsClear};
+ghost use Rattle.words.specs.Decoded.{kindIn};
 
 // Bits 31..28 of a word are its kind.
-pub const KIND_UNIT: u32 = 268435456;
+pub const KIND_UNIT: u32 = 0x1000_0000;
 
 // An alphabet entry.
-pub const ENTRY: u32 = 1;
+const ENTRY: u32 = 0x1;
 
 // A symbol of a rule.
-pub const SYMBOL: u32 = 2;
+const SYMBOL: u32 = 0x2;
 
 // The empty language.
-pub const EMPTY: u32 = 3;
+const EMPTY: u32 = 0x3;
 
 // A union of two rules.
-pub const UNION: u32 = 4;
+const UNION: u32 = 0x4;
 
 // A product over a constant.
-pub const PRODUCT: u32 = 5;
+const PRODUCT: u32 = 0x5;
 
 // A closure over a constant.
-pub const CLOSURE: u32 = 6;
+const CLOSURE: u32 = 0x6;
 
 // A chapter element.
-pub const NODE: u32 = 7;
+const NODE: u32 = 0x7;
 
 // The head of a table.
-pub const HEAD: u32 = 8;
+pub const HEAD: u32 = 0x8;
 
 // A symbol move of a table.
-pub const TRANSITION: u32 = 9;
+pub const TRANSITION: u32 = 0x9;
 
 // An empty move of a table.
-pub const EPSILON: u32 = 10;
+pub const EPSILON: u32 = 0xA;
 
 // A part state of a symbol move.
-pub const SOURCE: u32 = 11;
+pub const SOURCE: u32 = 0xB;
+
+// Bits 7..0 of an entry are its rank, those of other words a symbol.
+pub const LOW_BYTE: u32 = 0x100;
 
 // Bits 9..0 of a word of a table are a state. Above them stand a head's state count, a symbol transition's symbol, or the
-// from state of an epsilon transition.
-pub const STATE_RANGE: u32 = 1024;
+// from state of an epsilon transition, which is in the same range.
+pub const STATE_RANGE: u32 = 0x400;
+
+// A head's state count is below this.
+pub const COUNT_RANGE: u32 = 0x800;
+
+// A symbol transition's symbol is below this.
+pub const SYMBOL_RANGE: u32 = 0x100;
 
 // The most states of a table.
 pub const STATES_MOST: u32 = 1024;
 
+// The kinds of document 01, in the order of their numbers, and no kind of it.
+pub enum Kind {
+    Entry,
+    Symbol,
+    Empty,
+    Union,
+    Product,
+    Closure,
+    Node,
+    Head,
+    Transition,
+    Epsilon,
+    Source,
+    Other,
+}
+
+// The kind of a word. Only here is a kind told by its number.
+pub fn kind_of(w: u32) -> Kind
+    ensures { λ r. ⌜ kindIn r ≡ kindOf w ⌝ }
+{
+    let kind = w / KIND_UNIT;
+    match kind {
+        ENTRY => Kind::Entry,
+        SYMBOL => Kind::Symbol,
+        EMPTY => Kind::Empty,
+        UNION => Kind::Union,
+        PRODUCT => Kind::Product,
+        CLOSURE => Kind::Closure,
+        NODE => Kind::Node,
+        HEAD => Kind::Head,
+        TRANSITION => Kind::Transition,
+        EPSILON => Kind::Epsilon,
+        SOURCE => Kind::Source,
+        _ => Kind::Other,
+    }
+}
+
 // The other 28 bits of a word of this kind stay below the answer.
-fn field_range(kind: u32) -> u32
-    ensures { λ r. ⌜ r ≡ fieldRange (kindAt kind) ⌝ }
+fn field_range(kind: Kind) -> u32
+    ensures { λ r. ⌜ r ≡ fieldRange (kindIn kind) ⌝ }
 {
     match kind {
-        ENTRY => 256,
-        SYMBOL => 256,
-        EMPTY => 1,
-        UNION => 1,
-        PRODUCT => 256,
-        CLOSURE => 256,
-        NODE => 256,
-        HEAD => 2097152,
-        TRANSITION => 262144,
-        EPSILON => 1048576,
-        SOURCE => 1024,
-        _ => 0,
+        Kind::Entry => 0x100,
+        Kind::Symbol => 0x100,
+        Kind::Empty => 0x1,
+        Kind::Union => 0x1,
+        Kind::Product => 0x100,
+        Kind::Closure => 0x100,
+        Kind::Node => 0x100,
+        Kind::Head => 0x20_0000,
+        Kind::Transition => 0x4_0000,
+        Kind::Epsilon => 0x10_0000,
+        Kind::Source => 0x400,
+        Kind::Other => 0x0,
     }
 }
 
@@ -69,15 +116,6 @@ fn field_range(kind: u32) -> u32
 pub fn spare_bits_clear(w: u32) -> bool
     ensures { λ r. ⌜ r ≡ spareBitsClear w ⌝ }
 {
-    w % KIND_UNIT < field_range(w / KIND_UNIT)
-}
-
-// Whether the word is of this kind and its spare bits are clear.
-pub fn is_of(kind: u32, w: u32) -> bool
-    ensures { λ r. ⌜ r ≡ isOf (kindAt kind) w ⌝ }
-{
-    if w / KIND_UNIT != kind {
-        return false;
-    }
-    spare_bits_clear(w)
+    let kind = kind_of(w);
+    w % KIND_UNIT < field_range(kind)
 }

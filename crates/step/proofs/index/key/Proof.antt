@@ -1,10 +1,17 @@
--- `step::index::key` meets its contract: one case a kind, and only the transitions have a key.
+-- `step::index::key` meets its contract: only the transitions have a key.
 use mathlib.Core.Path.{refl, sym}
+use mathlib.Core.List.{[], _∷_}
 use native.Mathlib.Omega.{arith}
 use borrow.Author.Needs.{needs}
+use Rattle.words.specs.Word.{transitionKind, epsilonKind}
+use Rattle.words.specs.declared.word.Kind.the-variants.{Transition, Epsilon}
+use Rattle.words.proofs.DecodedLaws.{told-number, left-number}
 use Rattle.step.proofs.ChainLaws.{key-symbol, key-epsilon, key-none}
 use Rattle.step.proofs.index.key.Statement.{statement}
 use Rattle.step.proofs.index.key.Tie as tie
+
+kind-of-requires : tie.Need-kind-of-requires
+kind-of-requires c κs = search needs
 
 cast-symbol : tie.Need-cast-symbol
 cast-symbol c = search needs
@@ -12,61 +19,43 @@ cast-symbol c = search needs
 cast-from : tie.Need-cast-from
 cast-from c = search needs
 
+enum-told : tie.Need-enum-told
+enum-told c = search needs
+
+enum-told-2 : tie.Need-enum-told-2
+enum-told-2 c = search needs
+
 add-result : tie.Need-add-result
 add-result c = search needs
 
 returns : tie.Need-returns
-returns c = sym (key-none _ (λ e. omega arith) (λ e. omega arith))
+returns c =
+    let m = c .before .before in
+    sym (key-symbol _ (told-number _ _ (m .kind-of .ensures) Transition (c .enum-told .given .1) (omega arith)) refl)
 
 returns-2 : tie.Need-returns-2
-returns-2 c = sym (key-none _ (λ e. omega arith) (λ e. omega arith))
+returns-2 c =
+    let m = c .before .before in
+    sym (key-epsilon _ (told-number _ _ (m .kind-of .ensures) Epsilon (c .enum-told2 .given .1) (omega arith)) refl)
 
 returns-3 : tie.Need-returns-3
-returns-3 c = sym (key-none _ (λ e. omega arith) (λ e. omega arith))
-
-returns-4 : tie.Need-returns-4
-returns-4 c = sym (key-none _ (λ e. omega arith) (λ e. omega arith))
-
-returns-5 : tie.Need-returns-5
-returns-5 c = sym (key-none _ (λ e. omega arith) (λ e. omega arith))
-
-returns-6 : tie.Need-returns-6
-returns-6 c = sym (key-none _ (λ e. omega arith) (λ e. omega arith))
-
-returns-7 : tie.Need-returns-7
-returns-7 c = sym (key-none _ (λ e. omega arith) (λ e. omega arith))
-
-returns-8 : tie.Need-returns-8
-returns-8 c = sym (key-none _ (λ e. omega arith) (λ e. omega arith))
-
-returns-9 : tie.Need-returns-9
-returns-9 c = sym (key-symbol _ (c .match .keys9) refl)
-
-returns-10 : tie.Need-returns-10
-returns-10 c = sym (key-epsilon _ (c .match .keys10) refl)
-
-returns-11 : tie.Need-returns-11
-returns-11 c = sym (key-none _ (λ e. omega arith) (λ e. omega arith))
-
-returns-12 : tie.Need-returns-12
-returns-12 c = sym (key-none _ (c .match .rest .0 .0 .1) (c .match .rest .0 .1))
+returns-3 c =
+    let k = c .before .kind-of .result in
+    let decoded = c .before .kind-of .ensures in
+    sym
+    (key-none _ (left-number _ k decoded (Transition ∷ Epsilon ∷ []) (c .match .keys3) transitionKind refl)
+    (left-number _ k decoded (Transition ∷ Epsilon ∷ []) (c .match .keys3) epsilonKind refl))
 
 pub key-spec : {M : Type 1} → statement M
 key-spec =
     tie.close
     (tie.spec
+    kind-of-requires
     cast-symbol
     cast-from
+    enum-told
+    enum-told-2
     add-result
     returns
     returns-2
-    returns-3
-    returns-4
-    returns-5
-    returns-6
-    returns-7
-    returns-8
-    returns-9
-    returns-10
-    returns-11
-    returns-12)
+    returns-3)

@@ -1,10 +1,15 @@
 -- `tables::check::sources_next` meets its contract: one law for each way out, by the tests on the way.
-use mathlib.Core.Path.{sym, _∙_}
+use mathlib.Core.Path.{_≡_, refl, sym, _∙_}
+use mathlib.Core.List.{[], _∷_}
+use Prim.Native.Nat.{ℕ}
 use native.Mathlib.Omega.{arith}
 use borrow.Author.Needs.{needs}
 use borrow.Author.Tests.{not-true, not-false}
+use Rattle.words.specs.Word.{transitionKind, epsilonKind, sourceKind}
+use Rattle.words.specs.declared.word.Kind.the-variants.{Transition, Epsilon, Source}
 use Rattle.words.specs.Alphabet.{rankOf}
-use Rattle.tables.proofs.CheckLaws.{spare-bits, state-outside, no-source, no-table-word, lower-kind, symbol-unknown, above-outside, transition-next, epsilon-next, source-next}
+use Rattle.words.proofs.DecodedLaws.{told-number, left-number}
+use Rattle.tables.proofs.CheckLaws.{spare-bits, state-outside, no-source, no-table-word, symbol-unknown, above-outside, transition-next, epsilon-next, source-next}
 use Rattle.tables.proofs.check.sources_next.Statement.{statement}
 use Rattle.tables.proofs.check.sources_next.Tie as tie
 
@@ -20,11 +25,20 @@ cast-below c = search needs
 returns-2 : tie.Need-returns-2
 returns-2 c = state-outside _ _ _ _ (c .if2 .taken)
 
+kind-of-requires : tie.Need-kind-of-requires
+kind-of-requires c κs = search needs
+
+enum-told : tie.Need-enum-told
+enum-told c = search needs
+
 cast-symbol : tie.Need-cast-symbol
 cast-symbol c = search needs
 
 returns-3 : tie.Need-returns-3
-returns-3 c = no-source _ _ _ _ (c .if3 .taken) (λ i. omega arith)
+returns-3 c =
+    let t = c .before in
+    let n = told-number _ _ (t .before .before .kind-of .ensures) Transition (t .enum-told .given .1) (omega arith) in
+    no-source _ _ _ _ (c .if3 .taken) (λ i. omega arith)
 
 rank-requires : tie.Need-rank-requires
 rank-requires c κs = search needs
@@ -35,61 +49,65 @@ add-result c = omega (arith, c .rank .ensures)
 
 returns-4 : tie.Need-returns-4
 returns-4 c =
-    let m = c .before .before .before in
-    let t = m .before .before in
-    transition-next _ _ _ (sym (t .before .spare-bits-clear .ensures) ∙ not-false _ (t .if1 .left)) (m .before .if2 .left) _
-    (c .before .before .if3 .left) (m .match .keys9) (c .before .if4 .taken) _ (c .rank .ensures)
+    let t = c .before .before .before in
+    let m = t .before .before in
+    transition-next _ _ _ (sym (m .before .before .before .spare-bits-clear .ensures) ∙ not-false _ (m .before .before .if1 .left))
+    (m .before .if2 .left) _ (c .before .before .if3 .left)
+    (told-number _ _ (m .kind-of .ensures) Transition (t .enum-told .given .1) (omega arith))
+    (c .before .if4 .taken) _ (c .rank .ensures)
+
+enum-told-2 : tie.Need-enum-told-2
+enum-told-2 c = search needs
 
 cast-above : tie.Need-cast-above
 cast-above c = search needs
 
 returns-5 : tie.Need-returns-5
-returns-5 c = no-source _ _ _ _ (c .if5 .taken) (λ i. omega arith)
+returns-5 c =
+    let t = c .before in
+    let n = told-number _ _ (t .before .before .kind-of .ensures) Epsilon (t .enum-told2 .given .1) (omega arith) in
+    no-source _ _ _ _ (c .if5 .taken) (λ i. omega arith)
 
 returns-6 : tie.Need-returns-6
 returns-6 c =
-    let m = c .before .before in
-    let t = m .before .before in
-    epsilon-next _ _ _ (sym (t .before .spare-bits-clear .ensures) ∙ not-false _ (t .if1 .left)) (m .before .if2 .left) _
-    (c .before .if5 .left) (m .match .keys10) (c .if6 .taken)
+    let t = c .before .before in
+    let m = t .before .before in
+    epsilon-next _ _ _ (sym (m .before .before .before .spare-bits-clear .ensures) ∙ not-false _ (m .before .before .if1 .left))
+    (m .before .if2 .left) _ (c .before .if5 .left)
+    (told-number _ _ (m .kind-of .ensures) Epsilon (t .enum-told2 .given .1) (omega arith))
+    (c .if6 .taken)
+
+enum-told-3 : tie.Need-enum-told-3
+enum-told-3 c = search needs
 
 returns-7 : tie.Need-returns-7
-returns-7 c = lower-kind _ _ _ _ (omega arith)
+returns-7 c =
+    let t = c .before .before in
+    symbol-unknown _ _ _ _ (c .before .if3 .left)
+    (told-number _ _ (t .before .before .kind-of .ensures) Transition (t .enum-told .given .1) (omega arith))
+    (c .if4 .left)
 
 returns-8 : tie.Need-returns-8
-returns-8 c = lower-kind _ _ _ _ (omega arith)
+returns-8 c =
+    let t = c .before .before in
+    above-outside _ _ _ _ (c .before .if5 .left)
+    (told-number _ _ (t .before .before .kind-of .ensures) Epsilon (t .enum-told2 .given .1) (omega arith))
+    (c .if6 .left)
 
 returns-9 : tie.Need-returns-9
-returns-9 c = lower-kind _ _ _ _ (omega arith)
+returns-9 c =
+    let m = c .before .before in
+    source-next _ _ _ (sym (m .before .before .before .spare-bits-clear .ensures) ∙ not-false _ (m .before .before .if1 .left))
+    (m .before .if2 .left) _ (told-number _ _ (m .kind-of .ensures) Source (c .enum-told3 .given .1) (omega arith))
 
 returns-10 : tie.Need-returns-10
-returns-10 c = lower-kind _ _ _ _ (omega arith)
-
-returns-11 : tie.Need-returns-11
-returns-11 c = lower-kind _ _ _ _ (omega arith)
-
-returns-12 : tie.Need-returns-12
-returns-12 c = lower-kind _ _ _ _ (omega arith)
-
-returns-13 : tie.Need-returns-13
-returns-13 c = lower-kind _ _ _ _ (omega arith)
-
-returns-14 : tie.Need-returns-14
-returns-14 c = lower-kind _ _ _ _ (omega arith)
-
-returns-15 : tie.Need-returns-15
-returns-15 c = symbol-unknown _ _ _ _ (c .before .if3 .left) (c .before .before .match .keys9) (c .if4 .left)
-
-returns-16 : tie.Need-returns-16
-returns-16 c = above-outside _ _ _ _ (c .before .if5 .left) (c .before .before .match .keys10) (c .if6 .left)
-
-returns-17 : tie.Need-returns-17
-returns-17 c =
-    let t = c .before .before in
-    source-next _ _ _ (sym (t .before .spare-bits-clear .ensures) ∙ not-false _ (t .if1 .left)) (c .before .if2 .left) _ (c .match .keys11)
-
-returns-18 : tie.Need-returns-18
-returns-18 c = let r = c .match .rest in no-table-word _ _ _ _ (r .0 .0 .1) (r .0 .1) (r .1)
+returns-10 c =
+    let k = c .before .kind-of .result in
+    let decoded = c .before .kind-of .ensures in
+    no-table-word _ _ _ _
+    (left-number _ k decoded (Transition ∷ Epsilon ∷ Source ∷ []) (c .match .keys4) transitionKind refl)
+    (left-number _ k decoded (Transition ∷ Epsilon ∷ Source ∷ []) (c .match .keys4) epsilonKind refl)
+    (left-number _ k decoded (Transition ∷ Epsilon ∷ Source ∷ []) (c .match .keys4) sourceKind refl)
 
 pub sources-next-spec : {M : Type 1} → statement M
 sources-next-spec =
@@ -99,23 +117,19 @@ sources-next-spec =
     returns
     cast-below
     returns-2
+    kind-of-requires
+    enum-told
     cast-symbol
     returns-3
     rank-requires
     add-result
     returns-4
+    enum-told-2
     cast-above
     returns-5
     returns-6
+    enum-told-3
     returns-7
     returns-8
     returns-9
-    returns-10
-    returns-11
-    returns-12
-    returns-13
-    returns-14
-    returns-15
-    returns-16
-    returns-17
-    returns-18)
+    returns-10)

@@ -1,26 +1,43 @@
--- `alphabet::is_entry` meets its contract: `is_of` says whether the word is of the kind, and then its rank decides.
-use mathlib.Core.Path.{_≡_, _∙_, sym}
-use mathlib.Core.Bool.{true, false}
+-- `alphabet::is_entry` meets its contract: of a word of the kind the spare bits and then the field decide, and no other word is one.
+use mathlib.Core.Path.{refl, _∙_, sym}
+use mathlib.Core.List.{[], _∷_}
+use native.Mathlib.Omega.{arith}
 use borrow.Author.Needs.{needs}
-use Rattle.words.specs.Word.{kindAt, entryKind, isOf}
+use Rattle.words.specs.Word.{entryKind}
+use Rattle.words.specs.declared.word.Kind.the-variants.{Entry}
 use Rattle.words.specs.Alphabet.{isEntry}
+use Rattle.words.proofs.DecodedLaws.{told-isOf, left-isOf}
 use Rattle.words.proofs.alphabet.is_entry.Statement.{statement}
 use Rattle.words.proofs.alphabet.is_entry.Tie as tie
 
-is-of-requires : tie.Need-is-of-requires
-is-of-requires c κs = search needs
+kind-of-requires : tie.Need-kind-of-requires
+kind-of-requires c κs = search needs
+
+enum-told : tie.Need-enum-told
+enum-told c = search needs
+
+spare-bits-clear-requires : tie.Need-spare-bits-clear-requires
+spare-bits-clear-requires c κs = search needs
 
 returns : tie.Need-returns
-unfolding isEntry kindAt
+unfolding isEntry
 returns c =
-    let e : isOf entryKind (c .before .before .args .w) ≡ true = sym (c .before .is-of .ensures) ∙ c .if1 .taken in
-    rw e
+    let t = c .before .before in
+    let decides = told-isOf _ _ (t .before .before .kind-of .ensures) Entry (t .enum-told .given .1) (omega arith) in
+    rw (decides ∙ sym (c .before .spare-bits-clear .ensures) ∙ c .if1 .taken)
 
 returns-2 : tie.Need-returns-2
-unfolding isEntry kindAt
+unfolding isEntry
 returns-2 c =
-    let e : isOf entryKind (c .before .before .args .w) ≡ false = sym (c .before .is-of .ensures) ∙ c .if1 .left in
-    rw e
+    let t = c .before .before in
+    let decides = told-isOf _ _ (t .before .before .kind-of .ensures) Entry (t .enum-told .given .1) (omega arith) in
+    rw (c .if1 .left, decides ∙ sym (c .before .spare-bits-clear .ensures) ∙ c .if1 .left)
+
+returns-3 : tie.Need-returns-3
+unfolding isEntry
+returns-3 c = rw (left-isOf _ (c .before .kind-of .result) (c .before .kind-of .ensures) (Entry ∷ []) (c .match .keys2) entryKind refl)
 
 pub is-entry-spec : {M : Type 1} → statement M
-is-entry-spec = tie.close (tie.spec is-of-requires returns returns-2)
+is-entry-spec =
+    tie.close
+    (tie.spec kind-of-requires enum-told spare-bits-clear-requires returns returns-2 returns-3)

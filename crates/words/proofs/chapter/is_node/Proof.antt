@@ -1,32 +1,46 @@
--- `chapter::is_node` meets its contract: `is_of` says whether the word is of the kind, and then its symbol decides.
-use mathlib.Core.Path.{_≡_, _∙_, sym}
-use mathlib.Core.Bool.{true, false}
+-- `chapter::is_node` meets its contract: of a word of the kind the spare bits and then the field decide, and no other word is one.
+use mathlib.Core.Path.{refl, _∙_, sym}
+use mathlib.Core.List.{[], _∷_}
+use native.Mathlib.Omega.{arith}
 use borrow.Author.Needs.{needs}
-use Rattle.words.specs.Word.{kindAt, nodeKind, isOf}
+use Rattle.words.specs.Word.{nodeKind}
+use Rattle.words.specs.declared.word.Kind.the-variants.{Node}
 use Rattle.words.specs.Chapter.{isNode}
+use Rattle.words.proofs.DecodedLaws.{told-isOf, left-isOf}
 use Rattle.words.proofs.chapter.is_node.Statement.{statement}
 use Rattle.words.proofs.chapter.is_node.Tie as tie
 
-is-of-requires : tie.Need-is-of-requires
-is-of-requires c κs = search needs
+kind-of-requires : tie.Need-kind-of-requires
+kind-of-requires c κs = search needs
 
 cast-symbol : tie.Need-cast-symbol
 cast-symbol c = search needs
 
+enum-told : tie.Need-enum-told
+enum-told c = search needs
+
+spare-bits-clear-requires : tie.Need-spare-bits-clear-requires
+spare-bits-clear-requires c κs = search needs
+
 returns : tie.Need-returns
-unfolding isNode kindAt
+unfolding isNode
 returns c =
-    let t = c .before in
-    let e : isOf nodeKind (t .before .before .args .w) ≡ true = sym (t .is-of .ensures) ∙ c .if1 .taken in
-    rw e
+    let t = c .before .before in
+    let decides = told-isOf _ _ (t .before .before .kind-of .ensures) Node (t .enum-told .given .1) (omega arith) in
+    rw (decides ∙ sym (c .before .spare-bits-clear .ensures) ∙ c .if1 .taken)
 
 returns-2 : tie.Need-returns-2
-unfolding isNode kindAt
+unfolding isNode
 returns-2 c =
-    let t = c .before in
-    let e : isOf nodeKind (t .before .before .args .w) ≡ false = sym (t .is-of .ensures) ∙ c .if1 .left in
-    rw e
+    let t = c .before .before in
+    let decides = told-isOf _ _ (t .before .before .kind-of .ensures) Node (t .enum-told .given .1) (omega arith) in
+    rw (c .if1 .left, decides ∙ sym (c .before .spare-bits-clear .ensures) ∙ c .if1 .left)
+
+returns-3 : tie.Need-returns-3
+unfolding isNode
+returns-3 c = rw (left-isOf _ (c .before .kind-of .result) (c .before .kind-of .ensures) (Node ∷ []) (c .match .keys2) nodeKind refl)
 
 pub is-node-spec : {M : Type 1} → statement M
 is-node-spec =
-    tie.close (tie.spec is-of-requires cast-symbol returns returns-2)
+    tie.close
+    (tie.spec kind-of-requires cast-symbol enum-told spare-bits-clear-requires returns returns-2 returns-3)

@@ -1,18 +1,34 @@
--- `expression::is_expression_word` meets its contract: of a word whose spare bits are clear each case has the test of the kind
--- with that number, and any other number has no kind.
-use mathlib.Core.Path.{_≡_, _∙_, sym}
+-- `expression::is_expression_word` meets its contract: of a word whose spare bits are clear each case has the test of its kind,
+-- and none of the kinds that are left is a rule word's.
+use mathlib.Core.Path.{_≡_, refl, sym, _∙_}
 use mathlib.Core.Bool.{Bool, true, false, not}
+use mathlib.Core.List.{List, [], _∷_}
+use Prim.Native.Nat.{ℕ}
 use borrow.Author.Needs.{needs}
 use borrow.Author.Tests.{not-true, not-false}
-use Rattle.words.specs.Word.{kindAt}
-use Rattle.words.specs.Expression.{isExpressionWord}
-use Rattle.words.proofs.KindLaws.{kindAt-rest}
+use Rattle.words.specs.Word.{Kind, kindOf, spareBitsClear, lowByte}
+use Rattle.words.specs.Decoded.{kindIn}
+use Rattle.words.specs.declared.word.Kind.{Kind as Case}
+use Rattle.words.specs.declared.word.Kind.the-variants.{Symbol, Empty, Union, Product, Closure}
+use Rattle.words.specs.Expression.{namesAt, isExpressionWord}
+use Rattle.words.proofs.TestLaws.{and-none}
+use Rattle.words.proofs.DecodedLaws.{Left, left-all, told-kind}
 use Rattle.words.proofs.expression.is_expression_word.Statement.{statement}
 use Rattle.words.proofs.expression.is_expression_word.Tie as tie
 
--- the test that let the word pass
-cleared : {b r : Bool} → r ≡ b → not r ≡ false → b ≡ true
-cleared e h = sym e ∙ not-false _ h
+-- what the test says of a word of kind k whose spare bits are clear
+named : (a : List ℕ) (w : ℕ) (r : Bool) (k j : Case) → r ≡ spareBitsClear w → not r ≡ false → kindIn k ≡ kindOf w → k ≡ j
+    → isExpressionWord a w ≡ namesAt a (lowByte w) (kindIn j)
+unfolding isExpressionWord
+named a w r k j clear h decoded told = rw (sym clear ∙ not-false r h, told-kind w k decoded j told)
+
+no-rule-word : (a : List ℕ) (w : ℕ) (k : Case) → kindIn k ≡ kindOf w → Left (Symbol ∷ Empty ∷ Union ∷ Product ∷ Closure ∷ []) k
+    → isExpressionWord a w ≡ false
+unfolding isExpressionWord
+no-rule-word a w k decoded left =
+    let e = not-true (namesAt a (lowByte w) (kindIn k))
+        (left-all (Symbol ∷ Empty ∷ Union ∷ Product ∷ Closure ∷ []) k left (λ (j : Kind). not (namesAt a (lowByte w) j)) refl) in
+    rw (sym decoded, e) (and-none (spareBitsClear w))
 
 spare-bits-clear-requires : tie.Need-spare-bits-clear-requires
 spare-bits-clear-requires c κs = search needs
@@ -24,65 +40,61 @@ returns c = rw (sym (c .before .spare-bits-clear .ensures) ∙ not-true _ (c .if
 cast-symbol : tie.Need-cast-symbol
 cast-symbol c = search needs
 
+kind-of-requires : tie.Need-kind-of-requires
+kind-of-requires c κs = search needs
+
+enum-told : tie.Need-enum-told
+enum-told c = search needs
+
+enum-told-2 : tie.Need-enum-told-2
+enum-told-2 c = search needs
+
+enum-told-3 : tie.Need-enum-told-3
+enum-told-3 c = search needs
+
+enum-told-4 : tie.Need-enum-told-4
+enum-told-4 c = search needs
+
 is-constant-requires : tie.Need-is-constant-requires
 is-constant-requires c κs = search needs
+
+enum-told-5 : tie.Need-enum-told-5
+enum-told-5 c = search needs
 
 is-constant-requires-2 : tie.Need-is-constant-requires-2
 is-constant-requires-2 c κs = search needs
 
 returns-2 : tie.Need-returns-2
-unfolding isExpressionWord kindAt
-returns-2 c = let t = c .before in rw (cleared (t .before .spare-bits-clear .ensures) (t .if1 .left), c .match .keys1)
+returns-2 c =
+    let t = c .before .before in
+    sym (named _ _ _ _ _ (t .before .before .spare-bits-clear .ensures) (t .before .if1 .left) (t .kind-of .ensures) (c .enum-told .given .1))
 
 returns-3 : tie.Need-returns-3
-unfolding isExpressionWord kindAt
 returns-3 c =
-    let t = c .before in
-    rw (cleared (t .before .spare-bits-clear .ensures) (t .if1 .left), c .match .keys2)
+    let t = c .before .before in
+    sym (named _ _ _ _ _ (t .before .before .spare-bits-clear .ensures) (t .before .if1 .left) (t .kind-of .ensures) (c .enum-told2 .given .1))
 
 returns-4 : tie.Need-returns-4
-unfolding isExpressionWord kindAt
-returns-4 c = let t = c .before in rw (cleared (t .before .spare-bits-clear .ensures) (t .if1 .left), c .match .keys3)
+returns-4 c =
+    let t = c .before .before in
+    sym (named _ _ _ _ _ (t .before .before .spare-bits-clear .ensures) (t .before .if1 .left) (t .kind-of .ensures) (c .enum-told3 .given .1))
 
 returns-5 : tie.Need-returns-5
-unfolding isExpressionWord kindAt
-returns-5 c = let t = c .before in rw (cleared (t .before .spare-bits-clear .ensures) (t .if1 .left), c .match .keys4)
+returns-5 c =
+    let t = c .before .before .before in
+    c .is-constant .ensures
+    ∙ sym (named _ _ _ _ _ (t .before .before .spare-bits-clear .ensures) (t .before .if1 .left) (t .kind-of .ensures)
+    (c .before .enum-told4 .given .1))
 
 returns-6 : tie.Need-returns-6
-unfolding isExpressionWord kindAt
 returns-6 c =
-    let t = c .before .before in
-    c .is-constant .ensures ∙ rw (cleared (t .before .spare-bits-clear .ensures) (t .if1 .left), c .before .match .keys5)
+    let t = c .before .before .before in
+    c .is-constant2 .ensures
+    ∙ sym (named _ _ _ _ _ (t .before .before .spare-bits-clear .ensures) (t .before .if1 .left) (t .kind-of .ensures)
+    (c .before .enum-told5 .given .1))
 
 returns-7 : tie.Need-returns-7
-unfolding isExpressionWord kindAt
-returns-7 c =
-    let t = c .before .before in
-    c .is-constant2 .ensures ∙ rw (cleared (t .before .spare-bits-clear .ensures) (t .if1 .left), c .before .match .keys6)
-
-returns-8 : tie.Need-returns-8
-unfolding isExpressionWord kindAt
-returns-8 c = let t = c .before in rw (cleared (t .before .spare-bits-clear .ensures) (t .if1 .left), c .match .keys7)
-
-returns-9 : tie.Need-returns-9
-unfolding isExpressionWord kindAt
-returns-9 c = let t = c .before in rw (cleared (t .before .spare-bits-clear .ensures) (t .if1 .left), c .match .keys8)
-
-returns-10 : tie.Need-returns-10
-unfolding isExpressionWord kindAt
-returns-10 c = let t = c .before in rw (cleared (t .before .spare-bits-clear .ensures) (t .if1 .left), c .match .keys9)
-
-returns-11 : tie.Need-returns-11
-unfolding isExpressionWord kindAt
-returns-11 c = let t = c .before in rw (cleared (t .before .spare-bits-clear .ensures) (t .if1 .left), c .match .keys10)
-
-returns-12 : tie.Need-returns-12
-unfolding isExpressionWord kindAt
-returns-12 c = let t = c .before in rw (cleared (t .before .spare-bits-clear .ensures) (t .if1 .left), c .match .keys11)
-
-returns-13 : tie.Need-returns-13
-unfolding isExpressionWord
-returns-13 c = let t = c .before in rw (cleared (t .before .spare-bits-clear .ensures) (t .if1 .left), kindAt-rest _ (c .match .rest))
+returns-7 c = sym (no-rule-word _ _ (c .before .kind-of .result) (c .before .kind-of .ensures) (c .match .keys6))
 
 pub is-expression-word-spec : {M : Type 1} → statement M
 is-expression-word-spec =
@@ -91,17 +103,17 @@ is-expression-word-spec =
     spare-bits-clear-requires
     returns
     cast-symbol
+    kind-of-requires
+    enum-told
+    enum-told-2
+    enum-told-3
+    enum-told-4
     is-constant-requires
+    enum-told-5
     is-constant-requires-2
     returns-2
     returns-3
     returns-4
     returns-5
     returns-6
-    returns-7
-    returns-8
-    returns-9
-    returns-10
-    returns-11
-    returns-12
-    returns-13)
+    returns-7)

@@ -1,18 +1,51 @@
--- `postfix::arity` meets its contract: each case has the arity of the kind with that number, and any other number has no
--- kind.
-use mathlib.Core.Path.{_∙_}
+-- `postfix::arity` meets its contract: each case has the arity of its kind, and no kind that is left takes children.
+use mathlib.Core.Path.{_≡_, refl, sym, _∙_}
+use mathlib.Core.List.{List, [], _∷_}
+use Prim.Native.Nat.{ℕ}
+use lib.Dec.{eqb}
 use borrow.Author.Needs.{needs}
-use Rattle.words.specs.Word.{kindAt}
-use Rattle.words.specs.Postfix.{arity}
-use Rattle.words.proofs.KindLaws.{kindAt-rest}
+use borrow.Author.Tests.{eqb-true}
+use Rattle.words.specs.Word.{Kind, kindOf, lowByte}
+use Rattle.words.specs.Decoded.{kindIn}
+use Rattle.words.specs.declared.word.Kind.{Kind as Case}
+use Rattle.words.specs.declared.word.Kind.the-variants.{Symbol, Union, Product, Closure, Node}
+use Rattle.words.specs.Alphabet.{rankOf}
+use Rattle.words.specs.Postfix.{arityAt, arity}
+use Rattle.words.proofs.DecodedLaws.{Left, left-all, told-kind}
+use Rattle.words.proofs.WordLaws.{arity-kind}
 use Rattle.words.proofs.postfix.arity.Statement.{statement}
 use Rattle.words.proofs.postfix.arity.Tie as tie
+
+none-taken : (a : List ℕ) (w : ℕ) (k : Case) → kindIn k ≡ kindOf w → Left (Symbol ∷ Union ∷ Product ∷ Closure ∷ Node ∷ []) k → arity a w ≡ 0
+none-taken a w k decoded left =
+    let r = rankOf a (lowByte w) in
+    arity-kind a w (kindIn k) (sym decoded)
+    ∙ eqb-true (arityAt r (kindIn k)) 0
+    (left-all (Symbol ∷ Union ∷ Product ∷ Closure ∷ Node ∷ []) k left (λ (j : Kind). eqb (arityAt r j) 0) refl)
+
+kind-of-requires : tie.Need-kind-of-requires
+kind-of-requires c κs = search needs
+
+enum-told : tie.Need-enum-told
+enum-told c = search needs
 
 cast-rank : tie.Need-cast-rank
 cast-rank c = search needs
 
 rank-requires : tie.Need-rank-requires
 rank-requires c κs = search needs
+
+enum-told-2 : tie.Need-enum-told-2
+enum-told-2 c = search needs
+
+enum-told-3 : tie.Need-enum-told-3
+enum-told-3 c = search needs
+
+enum-told-4 : tie.Need-enum-told-4
+enum-told-4 c = search needs
+
+enum-told-5 : tie.Need-enum-told-5
+enum-told-5 c = search needs
 
 cast-rank-2 : tie.Need-cast-rank-2
 cast-rank-2 c = search needs
@@ -21,59 +54,39 @@ rank-requires-2 : tie.Need-rank-requires-2
 rank-requires-2 c κs = search needs
 
 returns : tie.Need-returns
-unfolding arity kindAt
-returns c = rw (c .match .keys1)
+returns c =
+    let t = c .before in
+    c .rank .ensures ∙ sym (arity-kind _ _ _ (told-kind _ _ (t .before .before .kind-of .ensures) _ (t .enum-told .given .1)))
 
 returns-2 : tie.Need-returns-2
-unfolding arity kindAt
-returns-2 c = c .rank .ensures ∙ rw (c .before .match .keys2)
+returns-2 c = sym (arity-kind _ _ _ (told-kind _ _ (c .before .before .kind-of .ensures) _ (c .enum-told2 .given .1)))
 
 returns-3 : tie.Need-returns-3
-unfolding arity kindAt
-returns-3 c = rw (c .match .keys3)
+returns-3 c = sym (arity-kind _ _ _ (told-kind _ _ (c .before .before .kind-of .ensures) _ (c .enum-told3 .given .1)))
 
 returns-4 : tie.Need-returns-4
-unfolding arity kindAt
-returns-4 c = rw (c .match .keys4)
+returns-4 c = sym (arity-kind _ _ _ (told-kind _ _ (c .before .before .kind-of .ensures) _ (c .enum-told4 .given .1)))
 
 returns-5 : tie.Need-returns-5
-unfolding arity kindAt
-returns-5 c = rw (c .match .keys5)
+returns-5 c =
+    let t = c .before in
+    c .rank2 .ensures ∙ sym (arity-kind _ _ _ (told-kind _ _ (t .before .before .kind-of .ensures) _ (t .enum-told5 .given .1)))
 
 returns-6 : tie.Need-returns-6
-unfolding arity kindAt
-returns-6 c = rw (c .match .keys6)
-
-returns-7 : tie.Need-returns-7
-unfolding arity kindAt
-returns-7 c = c .rank2 .ensures ∙ rw (c .before .match .keys7)
-
-returns-8 : tie.Need-returns-8
-unfolding arity kindAt
-returns-8 c = rw (c .match .keys8)
-
-returns-9 : tie.Need-returns-9
-unfolding arity kindAt
-returns-9 c = rw (c .match .keys9)
-
-returns-10 : tie.Need-returns-10
-unfolding arity kindAt
-returns-10 c = rw (c .match .keys10)
-
-returns-11 : tie.Need-returns-11
-unfolding arity kindAt
-returns-11 c = rw (c .match .keys11)
-
-returns-12 : tie.Need-returns-12
-unfolding arity
-returns-12 c = rw (kindAt-rest _ (c .match .rest))
+returns-6 c = sym (none-taken _ _ (c .before .kind-of .result) (c .before .kind-of .ensures) (c .match .keys6))
 
 pub arity-spec : {M : Type 1} → statement M
 arity-spec =
     tie.close
     (tie.spec
+    kind-of-requires
+    enum-told
     cast-rank
     rank-requires
+    enum-told-2
+    enum-told-3
+    enum-told-4
+    enum-told-5
     cast-rank-2
     rank-requires-2
     returns
@@ -81,10 +94,4 @@ arity-spec =
     returns-3
     returns-4
     returns-5
-    returns-6
-    returns-7
-    returns-8
-    returns-9
-    returns-10
-    returns-11
-    returns-12)
+    returns-6)

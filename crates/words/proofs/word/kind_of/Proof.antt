@@ -1,9 +1,9 @@
--- `word::field_range` meets its contract: each case has the range of the kind with that number, and any other number has no
--- kind.
+-- `word::kind_of` meets its contract: each number has the kind of its case, and any other number has none.
+use mathlib.Core.Path.{sym}
 use Rattle.words.specs.Word.{kindAt}
 use Rattle.words.proofs.KindLaws.{kindAt-rest}
-use Rattle.words.proofs.word.field_range.Statement.{statement}
-use Rattle.words.proofs.word.field_range.Tie as tie
+use Rattle.words.proofs.word.kind_of.Statement.{statement}
+use Rattle.words.proofs.word.kind_of.Tie as tie
 
 returns : tie.Need-returns
 unfolding kindAt
@@ -50,10 +50,10 @@ unfolding kindAt
 returns-11 c = rw (c .match .keys11)
 
 returns-12 : tie.Need-returns-12
-returns-12 c = rw (kindAt-rest _ (c .match .rest))
+returns-12 c = sym (kindAt-rest _ (c .match .rest))
 
-pub field-range-spec : {M : Type 1} → statement M
-field-range-spec =
+pub kind-of-spec : {M : Type 1} → statement M
+kind-of-spec =
     tie.close
     (tie.spec
     returns
