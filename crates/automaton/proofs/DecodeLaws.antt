@@ -6,7 +6,7 @@ use Prim.Native.Nat.{ℕ, _+_, _*_, _<_, _≤_}
 use native.Mathlib.Omega.{arith}
 use lib.ListN.{length}
 use borrow.Author.Tests.{eq-eqb, ne-eqb}
-use Rattle.words.specs.Word.{transitionKind, epsilonKind, sourceKind, numberOf, hasKind, wordOf, symbolAbove, countAbove, stateAbove, stateBelow}
+use Rattle.words.specs.Word.{transitionKind, epsilonKind, sourceKind, numberOf, hasKind, wordOf, symbolAbove, countAbove, stateAbove, stateBelow, kindNumber}
 use Rattle.automaton.specs.Transition.{Transition, Automaton, onSymbol, epsilon, sourceWords, transitionsWords, headWord, tableWords, sourcesAt, transitionsAt, automatonOf}
 use Rattle.automaton.specs.Table.{AllBelow, TransitionsOver, AutomatonOver}
 
@@ -17,7 +17,7 @@ module _ (f q : ℕ) (ws : List ℕ) (lf : f < 256) (lq : q < 1024) where
   unfolding transitionsAt
   at-symbol =
       let w = wordOf transitionKind (f * 1024 + q) in
-      let k : hasKind transitionKind w ≡ true = eq-eqb (numberOf w) 9 (omega arith) in
+      let k : hasKind transitionKind w ≡ true = eq-eqb (numberOf w) (kindNumber transitionKind) (omega arith) in
       let s : symbolAbove w ≡ f = omega arith in
       let t : stateBelow w ≡ q = omega arith in
       rw (k, s, t)
@@ -25,7 +25,7 @@ module _ (f q : ℕ) (ws : List ℕ) (lf : f < 256) (lq : q < 1024) where
   no-source-symbol : sourcesAt (wordOf transitionKind (f * 1024 + q) ∷ ws) ≡ []
   no-source-symbol =
       let w = wordOf transitionKind (f * 1024 + q) in
-      let k : hasKind sourceKind w ≡ false = ne-eqb (numberOf w) 11 (omega arith) in
+      let k : hasKind sourceKind w ≡ false = ne-eqb (numberOf w) (kindNumber sourceKind) (omega arith) in
       rw k
 
 module _ (p q : ℕ) (ws : List ℕ) (lp : p < 1024) (lq : q < 1024) where
@@ -33,8 +33,8 @@ module _ (p q : ℕ) (ws : List ℕ) (lp : p < 1024) (lq : q < 1024) where
   unfolding transitionsAt
   at-epsilon =
       let w = wordOf epsilonKind (p * 1024 + q) in
-      let n : hasKind transitionKind w ≡ false = ne-eqb (numberOf w) 9 (omega arith) in
-      let k : hasKind epsilonKind w ≡ true = eq-eqb (numberOf w) 10 (omega arith) in
+      let n : hasKind transitionKind w ≡ false = ne-eqb (numberOf w) (kindNumber transitionKind) (omega arith) in
+      let k : hasKind epsilonKind w ≡ true = eq-eqb (numberOf w) (kindNumber epsilonKind) (omega arith) in
       let s : stateAbove w ≡ p = omega arith in
       let t : stateBelow w ≡ q = omega arith in
       rw (n, k, s, t)
@@ -42,7 +42,7 @@ module _ (p q : ℕ) (ws : List ℕ) (lp : p < 1024) (lq : q < 1024) where
   no-source-epsilon : sourcesAt (wordOf epsilonKind (p * 1024 + q) ∷ ws) ≡ []
   no-source-epsilon =
       let w = wordOf epsilonKind (p * 1024 + q) in
-      let k : hasKind sourceKind w ≡ false = ne-eqb (numberOf w) 11 (omega arith) in
+      let k : hasKind sourceKind w ≡ false = ne-eqb (numberOf w) (kindNumber sourceKind) (omega arith) in
       rw k
 
 module _ (p : ℕ) (ws : List ℕ) (lp : p < 1024) where
@@ -50,14 +50,14 @@ module _ (p : ℕ) (ws : List ℕ) (lp : p < 1024) where
   unfolding transitionsAt
   at-source =
       let w = wordOf sourceKind p in
-      let n : hasKind transitionKind w ≡ false = ne-eqb (numberOf w) 9 (omega arith) in
-      let m : hasKind epsilonKind w ≡ false = ne-eqb (numberOf w) 10 (omega arith) in
+      let n : hasKind transitionKind w ≡ false = ne-eqb (numberOf w) (kindNumber transitionKind) (omega arith) in
+      let m : hasKind epsilonKind w ≡ false = ne-eqb (numberOf w) (kindNumber epsilonKind) (omega arith) in
       rw (n, m)
 
   source-source : sourcesAt (wordOf sourceKind p ∷ ws) ≡ p ∷ sourcesAt ws
   source-source =
       let w = wordOf sourceKind p in
-      let k : hasKind sourceKind w ≡ true = eq-eqb (numberOf w) 11 (omega arith) in
+      let k : hasKind sourceKind w ≡ true = eq-eqb (numberOf w) (kindNumber sourceKind) (omega arith) in
       let t : stateBelow w ≡ p = omega arith in
       rw (k, t)
 

@@ -8,7 +8,7 @@ use native.Mathlib.Omega.{arith}
 use lib.ListN.{length}
 use lib.Dec.{ltb}
 use borrow.Author.Tests.{eq-eqb, ne-eqb, eqb-true, lt-ltb, ltb-true}
-use Rattle.words.specs.Word.{transitionKind, epsilonKind, sourceKind, numberOf, isOf, wordOf, symbolAbove, stateAbove, stateBelow}
+use Rattle.words.specs.Word.{transitionKind, epsilonKind, sourceKind, numberOf, isOf, wordOf, symbolAbove, stateAbove, stateBelow, kindNumber}
 use Rattle.words.specs.Alphabet.{isSymbol, rankOf}
 use Rattle.words.proofs.TestLaws.{and-true, true-and, or-true}
 use Rattle.words.proofs.KindLaws.{isOf-facts, isOf-wordOf}
@@ -93,14 +93,14 @@ module _ (a : List ℕ) (n : ℕ) where
   left-symbol w h =
       let b = and-true (isOf transitionKind w && isSymbol a (symbolAbove w)) (ltb (stateBelow w) n) h in
       let i = isOf-facts transitionKind w (and-true (isOf transitionKind w) (isSymbol a (symbolAbove w)) (b .0) .0) in
-      rw (eq-eqb (numberOf w) 9 (i .number))
+      rw (eq-eqb (numberOf w) (kindNumber transitionKind) (i .number))
 
   left-epsilon : (w : ℕ) → epsilonTest w ≡ true → sourcesLeft a 0 w ≡ 0
   unfolding sourcesLeft
   left-epsilon w h =
       let b = and-true (isOf epsilonKind w && ltb (stateAbove w) n) (ltb (stateBelow w) n) h in
       let i = isOf-facts epsilonKind w (and-true (isOf epsilonKind w) (ltb (stateAbove w) n) (b .0) .0) in
-      rw (ne-eqb (numberOf w) 9 (omega arith))
+      rw (ne-eqb (numberOf w) (kindNumber transitionKind) (omega arith))
 
   parsed : (ws : List ℕ) (k : ℕ) → areTransitions a n k ws ≡ true → Parsed a n k ws
   unfolding areTransitions isTableWord sourcesLeft

@@ -8,7 +8,7 @@ use native.Mathlib.Numerals.{add-one}
 use lib.ListN.{length, getD, drop}
 use lib.Dec.{eqb}
 use borrow.Author.Tests.{eq-eqb, ne-eqb}
-use Rattle.words.specs.Word.{symbolKind, kindAt, kindOf, numberOf, lowByte}
+use Rattle.words.specs.Word.{symbolKind, kindAt, kindOf, numberOf, lowByte, kindNumber}
 use Rattle.words.specs.Alphabet.{constantsOf}
 use Rattle.words.specs.Postfix.{arity}
 use Rattle.words.specs.Expression.{isExpressionWord}
@@ -80,24 +80,24 @@ module _ (a : List ℕ) (x w r p : ℕ) (e : r ≡ arity a w) (low : x < 2048) w
   leaf : Bool → Port
   leaf b = record { exit = x; entries = cond b ((lowByte w, x) ∷ []) [] }
 
-  portOf-leaf : r ≡ 0 → (b : Bool) → eqb (numberOf w) 2 ≡ b → portOf a x w ≡ leaf b
+  portOf-leaf : r ≡ 0 → (b : Bool) → eqb (numberOf w) (kindNumber symbolKind) ≡ b → portOf a x w ≡ leaf b
   unfolding portOf hasEntries leaf
   portOf-leaf z b h = rw (← e, eq-eqb r 0 z, h)
 
-  pub port-constant : length a ≤ 64 → lowByte w < length a → r ≡ 0 → numberOf w ≡ 2 → p ≡ x * 128 + lowByte w → portIn (constantsOf a) p ≡ portOf a x w
+  pub port-constant : length a ≤ 64 → lowByte w < length a → r ≡ 0 → numberOf w ≡ kindNumber symbolKind → p ≡ x * 128 + lowByte w → portIn (constantsOf a) p ≡ portOf a x w
   unfolding leaf
   port-constant few l z k q =
       ap (portIn (constantsOf a)) q ∙ port-fields (constantsOf a) x (lowByte w) low (omega arith)
-      ∙ rw (entries-own (constantsOf a) x (lowByte w) (λ m. omega arith) (λ m. omega arith), portOf-leaf z true (eq-eqb (numberOf w) 2 k))
+      ∙ rw (entries-own (constantsOf a) x (lowByte w) (λ m. omega arith) (λ m. omega arith), portOf-leaf z true (eq-eqb (numberOf w) (kindNumber symbolKind) k))
 
-  pub port-empty : r ≡ 0 → (numberOf w ≡ 2 → ⊥) → p ≡ x * 128 + 65 → portIn (constantsOf a) p ≡ portOf a x w
+  pub port-empty : r ≡ 0 → (numberOf w ≡ kindNumber symbolKind → ⊥) → p ≡ x * 128 + 65 → portIn (constantsOf a) p ≡ portOf a x w
   unfolding leaf
   port-empty z k q =
       ap (portIn (constantsOf a)) q ∙ port-fields (constantsOf a) x 65 low (omega arith)
-      ∙ rw (entries-none (constantsOf a) x 65 refl, portOf-leaf z false (ne-eqb (numberOf w) 2 k))
+      ∙ rw (entries-none (constantsOf a) x 65 refl, portOf-leaf z false (ne-eqb (numberOf w) (kindNumber symbolKind) k))
 
 -- the symbol of a symbol word is one of the alphabet's
-pub symbol-known : (a : List ℕ) (w : ℕ) → isExpressionWord a w ≡ true → numberOf w ≡ 2 → lowByte w < length a
+pub symbol-known : (a : List ℕ) (w : ℕ) → isExpressionWord a w ≡ true → numberOf w ≡ kindNumber symbolKind → lowByte w < length a
 symbol-known a w h k = go (expressionWord a w h) (ap kindAt k ∙ kindAt-number symbolKind)
   where
     other : _≡_ {A = ℕ} 0 1 → lowByte w < length a

@@ -5,7 +5,7 @@ use Prim.Native.Nat.{ℕ}
 use native.Mathlib.Omega.{arith}
 use lib.ListN.{length}
 use borrow.Author.Tests.{eq-eqb, ne-eqb}
-use Rattle.words.specs.Word.{numberOf, lowByte}
+use Rattle.words.specs.Word.{numberOf, lowByte, closureKind, productKind, symbolKind, unionKind, kindNumber}
 use Rattle.automaton.specs.Transition.{Transition, transitionsWords}
 use Rattle.automaton.specs.Numbering.{Port, symbolTransitions, unionTransitions, productTransitions, closureTransitions, ownTransitions}
 use Rattle.emitter.specs.Writing.{Wrote}
@@ -23,40 +23,40 @@ module _ (w : ℕ) (E : Port) (cs : List ℕ) where
   own-none [] h = refl
   own-none (p ∷ ps) h = absurd (omega arith)
 
-  pub own-symbol : (ps : List ℕ) → (length ps ≡ 0 → ⊥) → numberOf w ≡ 2 → own ps ≡ symbolTransitions (lowByte w) E (portsIn cs ps)
+  pub own-symbol : (ps : List ℕ) → (length ps ≡ 0 → ⊥) → numberOf w ≡ kindNumber symbolKind → own ps ≡ symbolTransitions (lowByte w) E (portsIn cs ps)
   unfolding ownTransitions
   own-symbol [] n e = absurd (n refl)
-  own-symbol (p ∷ ps) n e = rw (eq-eqb (numberOf w) 2 e)
+  own-symbol (p ∷ ps) n e = rw (eq-eqb (numberOf w) (kindNumber symbolKind) e)
 
-  pub own-union : (ps : List ℕ) → length ps ≡ 2 → numberOf w ≡ 4 → own ps ≡ unionTransitions E (F cs ps) (G cs ps)
+  pub own-union : (ps : List ℕ) → length ps ≡ 2 → numberOf w ≡ kindNumber unionKind → own ps ≡ unionTransitions E (F cs ps) (G cs ps)
   unfolding ownTransitions
   own-union ps h e =
-      ap own (both ps h) ∙ rw (ne-eqb (numberOf w) 2 (λ z. omega arith), eq-eqb (numberOf w) 4 e)
+      ap own (both ps h) ∙ rw (ne-eqb (numberOf w) (kindNumber symbolKind) (λ z. omega arith), eq-eqb (numberOf w) (kindNumber unionKind) e)
 
-  pub own-product : (ps : List ℕ) → length ps ≡ 2 → numberOf w ≡ 5 → own ps ≡ productTransitions (lowByte w) E (F cs ps) (G cs ps)
+  pub own-product : (ps : List ℕ) → length ps ≡ 2 → numberOf w ≡ kindNumber productKind → own ps ≡ productTransitions (lowByte w) E (F cs ps) (G cs ps)
   unfolding ownTransitions
   own-product ps h e =
       ap own (both ps h)
-      ∙ rw (ne-eqb (numberOf w) 2 (λ z. omega arith), ne-eqb (numberOf w) 4 (λ z. omega arith), eq-eqb (numberOf w) 5 e)
+      ∙ rw (ne-eqb (numberOf w) (kindNumber symbolKind) (λ z. omega arith), ne-eqb (numberOf w) (kindNumber unionKind) (λ z. omega arith), eq-eqb (numberOf w) (kindNumber productKind) e)
 
-  pub own-closure : (ps : List ℕ) → length ps ≡ 1 → numberOf w ≡ 6 → own ps ≡ closureTransitions (lowByte w) E (F cs ps)
+  pub own-closure : (ps : List ℕ) → length ps ≡ 1 → numberOf w ≡ kindNumber closureKind → own ps ≡ closureTransitions (lowByte w) E (F cs ps)
   unfolding ownTransitions
   own-closure ps h e =
       ap own (single ps h)
       ∙ rw (
-        ne-eqb (numberOf w) 2 (λ z. omega arith),
-        ne-eqb (numberOf w) 4 (λ z. omega arith),
-        ne-eqb (numberOf w) 5
+        ne-eqb (numberOf w) (kindNumber symbolKind) (λ z. omega arith),
+        ne-eqb (numberOf w) (kindNumber unionKind) (λ z. omega arith),
+        ne-eqb (numberOf w) (kindNumber productKind)
             (λ z. omega arith),
-        eq-eqb (numberOf w) 6 e,
+        eq-eqb (numberOf w) (kindNumber closureKind) e,
       )
 
   -- a word of any other kind has none
-  pub own-other : (ps : List ℕ) → (numberOf w ≡ 2 → ⊥) → (numberOf w ≡ 4 → ⊥) → (numberOf w ≡ 5 → ⊥) → (numberOf w ≡ 6 → ⊥) → own ps ≡ []
+  pub own-other : (ps : List ℕ) → (numberOf w ≡ kindNumber symbolKind → ⊥) → (numberOf w ≡ kindNumber unionKind → ⊥) → (numberOf w ≡ kindNumber productKind → ⊥) → (numberOf w ≡ kindNumber closureKind → ⊥) → own ps ≡ []
   unfolding ownTransitions
   own-other [] n₂ n₄ n₅ n₆ = refl
   own-other (p ∷ ps) n₂ n₄ n₅ n₆ =
-      rw (ne-eqb (numberOf w) 2 n₂, ne-eqb (numberOf w) 4 n₄, ne-eqb (numberOf w) 5 n₅, ne-eqb (numberOf w) 6 n₆)
+      rw (ne-eqb (numberOf w) (kindNumber symbolKind) n₂, ne-eqb (numberOf w) (kindNumber unionKind) n₄, ne-eqb (numberOf w) (kindNumber productKind) n₅, ne-eqb (numberOf w) (kindNumber closureKind) n₆)
 
 -- the words of transitions that are written, said otherwise
 pub wrote-transitions : (m at r : ℕ) (ts us : List Transition) (out out′ : List ℕ) → us ≡ ts → Wrote m at (transitionsWords ts) out out′ r → Wrote m at (transitionsWords us) out out′ r

@@ -5,7 +5,7 @@ use mathlib.Core.List.{List, [], _∷_, _++_}
 use mathlib.Core.Bool.{cond}
 use lib.ListN.{length, getD, drop}
 use lib.Dec.{eqb}
-use Rattle.words.specs.Word.{numberOf, lowByte}
+use Rattle.words.specs.Word.{numberOf, lowByte, closureKind, productKind, unionKind, kindNumber}
 use Rattle.automaton.specs.Numbering.{symbolTargets}
 pub use Rattle.automaton.specs.Numbering.{constantTransitions}
 use Rattle.emitter.specs.Writing.{lastIndex}
@@ -43,9 +43,9 @@ Listed cs c = (k : ℕ) × (k < length cs) × (getD cs k 0 ≡ c)
 
 -- word w takes children with ports ps, and its c is one of the constants
 pub record Takes (cs ps : List ℕ) (w : ℕ) : Type 0 where
-  pub union : numberOf w ≡ 4 → length ps ≡ 2
-  pub product : numberOf w ≡ 5 → (length ps ≡ 2) × Listed cs (lowByte w)
-  pub closure : numberOf w ≡ 6 → (length ps ≡ 1) × Listed cs (lowByte w)
+  pub union : numberOf w ≡ kindNumber unionKind → length ps ≡ 2
+  pub product : numberOf w ≡ kindNumber productKind → (length ps ≡ 2) × Listed cs (lowByte w)
+  pub closure : numberOf w ≡ kindNumber closureKind → (length ps ≡ 1) × Listed cs (lowByte w)
 
 -- the constants are few and symbols, and their moves may be written from index `at` on
 pub record Symbols (cs : List ℕ) (at : ℕ) : Type 0 where

@@ -8,7 +8,7 @@ use native.Mathlib.Decide.{ℕ-discrete}
 use lib.ListN.{length, getD}
 use lib.Dec.{ltb, leb, eqb}
 use borrow.Author.Tests.{eq-eqb, ne-eqb, eqb-true, eqb-false, leb-true}
-use Rattle.words.specs.Word.{headKind, transitionKind, epsilonKind, numberOf, hasKind, isOf, symbolAbove, countAbove, stateAbove, stateBelow}
+use Rattle.words.specs.Word.{headKind, transitionKind, epsilonKind, numberOf, hasKind, isOf, symbolAbove, countAbove, stateAbove, stateBelow, kindNumber}
 use Rattle.words.proofs.TestLaws.{Tested, holds, fails, tested, and-true}
 use Rattle.words.proofs.KindLaws.{isOf-facts}
 use Rattle.automaton.specs.Table.{isHead, areTransitions, isTable}
@@ -18,41 +18,41 @@ use Rattle.step.specs.Index.{keyOf}
 
 -- a symbol transition on f; an epsilon transition from p
 pub record SymbolWord (w f : ℕ) : Type 0 where
-  pub kind : numberOf w ≡ 9
+  pub kind : numberOf w ≡ kindNumber transitionKind
   pub symbol : symbolAbove w ≡ f
 
 pub record EpsilonWord (w p : ℕ) : Type 0 where
-  pub kind : numberOf w ≡ 10
+  pub kind : numberOf w ≡ kindNumber epsilonKind
   pub from : stateAbove w ≡ p
 
 module _ (w : ℕ) where
-  pub key-symbol : {f : ℕ} → numberOf w ≡ 9 → symbolAbove w ≡ f → keyOf w ≡ f
+  pub key-symbol : {f : ℕ} → numberOf w ≡ kindNumber transitionKind → symbolAbove w ≡ f → keyOf w ≡ f
   unfolding keyOf
-  key-symbol e h = rw (eq-eqb (numberOf w) 9 e) h
+  key-symbol e h = rw (eq-eqb (numberOf w) (kindNumber transitionKind) e) h
 
-  pub key-epsilon : {p : ℕ} → numberOf w ≡ 10 → stateAbove w ≡ p → keyOf w ≡ 256 + p
+  pub key-epsilon : {p : ℕ} → numberOf w ≡ kindNumber epsilonKind → stateAbove w ≡ p → keyOf w ≡ 256 + p
   unfolding keyOf
-  key-epsilon e h = rw (ne-eqb (numberOf w) 9 (λ i. omega arith), eq-eqb (numberOf w) 10 e) (omega arith)
+  key-epsilon e h = rw (ne-eqb (numberOf w) (kindNumber transitionKind) (λ i. omega arith), eq-eqb (numberOf w) (kindNumber epsilonKind) e) (omega arith)
 
-  pub key-none : (numberOf w ≡ 9 → ⊥) → (numberOf w ≡ 10 → ⊥) → keyOf w ≡ 1280
+  pub key-none : (numberOf w ≡ kindNumber transitionKind → ⊥) → (numberOf w ≡ kindNumber epsilonKind → ⊥) → keyOf w ≡ 1280
   unfolding keyOf
-  key-none h i = rw (ne-eqb (numberOf w) 9 h, ne-eqb (numberOf w) 10 i)
+  key-none h i = rw (ne-eqb (numberOf w) (kindNumber transitionKind) h, ne-eqb (numberOf w) (kindNumber epsilonKind) i)
 
   pub symbol-word : {f : ℕ} → keyOf w ≡ f → f < 256 → SymbolWord w f
   symbol-word {f} e h = go (tested (hasKind transitionKind w)) (tested (hasKind epsilonKind w))
     where
       go : Tested (hasKind transitionKind w) → Tested (hasKind epsilonKind w) → SymbolWord w f
-      go (holds y) t = let k = eqb-true (numberOf w) 9 y in record { kind = k; symbol = sym (key-symbol k refl) ∙ e }
-      go (fails n) (holds y) = absurd (omega (arith, key-epsilon (eqb-true (numberOf w) 10 y) refl))
-      go (fails n) (fails m) = absurd (omega (arith, key-none (eqb-false (numberOf w) 9 n) (eqb-false (numberOf w) 10 m)))
+      go (holds y) t = let k = eqb-true (numberOf w) (kindNumber transitionKind) y in record { kind = k; symbol = sym (key-symbol k refl) ∙ e }
+      go (fails n) (holds y) = absurd (omega (arith, key-epsilon (eqb-true (numberOf w) (kindNumber epsilonKind) y) refl))
+      go (fails n) (fails m) = absurd (omega (arith, key-none (eqb-false (numberOf w) (kindNumber transitionKind) n) (eqb-false (numberOf w) (kindNumber epsilonKind) m)))
 
   pub epsilon-word : {p : ℕ} → keyOf w ≡ 256 + p → p < 1024 → EpsilonWord w p
   epsilon-word {p} e h = go (tested (hasKind transitionKind w)) (tested (hasKind epsilonKind w))
     where
       go : Tested (hasKind transitionKind w) → Tested (hasKind epsilonKind w) → EpsilonWord w p
-      go (holds y) t = absurd (omega (arith, key-symbol (eqb-true (numberOf w) 9 y) refl))
-      go (fails n) (holds y) = let k = eqb-true (numberOf w) 10 y in record { kind = k; from = omega (arith, key-epsilon k refl) }
-      go (fails n) (fails m) = absurd (omega (arith, key-none (eqb-false (numberOf w) 9 n) (eqb-false (numberOf w) 10 m)))
+      go (holds y) t = absurd (omega (arith, key-symbol (eqb-true (numberOf w) (kindNumber transitionKind) y) refl))
+      go (fails n) (holds y) = let k = eqb-true (numberOf w) (kindNumber epsilonKind) y in record { kind = k; from = omega (arith, key-epsilon k refl) }
+      go (fails n) (fails m) = absurd (omega (arith, key-none (eqb-false (numberOf w) (kindNumber transitionKind) n) (eqb-false (numberOf w) (kindNumber epsilonKind) m)))
 
 -- ---- the words with a key
 

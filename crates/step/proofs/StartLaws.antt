@@ -9,7 +9,7 @@ use native.Mathlib.Nat.{suc-add}
 use lib.ListN.{length, getD, drop}
 use lib.Dec.{ltb, leb}
 use borrow.Author.Tests.{ne-eqb}
-use Rattle.words.specs.Word.{headKind, numberOf, isOf, countAbove, stateBelow}
+use Rattle.words.specs.Word.{headKind, numberOf, isOf, countAbove, stateBelow, epsilonKind, transitionKind, kindNumber}
 use Rattle.words.proofs.TestLaws.{and-true}
 use Rattle.words.proofs.KindLaws.{isOf-facts}
 use Rattle.automaton.specs.Transition.{Transition, transitionAt, transitionsAt, automatonOf}
@@ -53,7 +53,7 @@ starts-member (w ∷ ws) (suc i) t l m =
 
 -- ---- the head
 
-head-number : (w : ℕ) → isHead w ≡ true → numberOf w ≡ 8
+head-number : (w : ℕ) → isHead w ≡ true → numberOf w ≡ kindNumber headKind
 unfolding isHead
 head-number w h =
     let b = and-true (isOf headKind w && ltb 0 (countAbove w) && leb (countAbove w) 1024) (ltb (stateBelow w) (countAbove w)) h in
@@ -66,4 +66,4 @@ table-transitions a [] h = absurd (false≢true h)
 table-transitions a (w ∷ ws) h =
     let b = and-true (leb (length (w ∷ ws)) 2048 && isHead w) (areTransitions a (countAbove w) 0 ws) h in
     let e = head-number w (and-true (leb (length (w ∷ ws)) 2048) (isHead w) (b .0) .1) in
-    rw (ne-eqb (numberOf w) 9 (λ i. omega arith), ne-eqb (numberOf w) 10 (λ i. omega arith))
+    rw (ne-eqb (numberOf w) (kindNumber transitionKind) (λ i. omega arith), ne-eqb (numberOf w) (kindNumber epsilonKind) (λ i. omega arith))

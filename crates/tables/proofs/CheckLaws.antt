@@ -58,35 +58,35 @@ module _ (a : List ℕ) (n w : ℕ) where
   state-outside zero h = sym (simp (le-ltb (stateBelow w) n h, and-none))
   state-outside (suc k) h = sym (simp (le-ltb (stateBelow w) n h, and-none))
 
-  pub no-source : (k : ℕ) → 0 < k → (numberOf w ≡ 11 → ⊥) → Next k 0
+  pub no-source : (k : ℕ) → 0 < k → (numberOf w ≡ kindNumber sourceKind → ⊥) → Next k 0
   unfolding isTableWord
   no-source zero h j = absurd (omega arith)
   no-source (suc k) h j = sym (rw (not-of sourceKind w j))
 
-  pub no-table-word : (k : ℕ) → (numberOf w ≡ 9 → ⊥) → (numberOf w ≡ 10 → ⊥) → (numberOf w ≡ 11 → ⊥) → Next k 0
+  pub no-table-word : (k : ℕ) → (numberOf w ≡ kindNumber transitionKind → ⊥) → (numberOf w ≡ kindNumber epsilonKind → ⊥) → (numberOf w ≡ kindNumber sourceKind → ⊥) → Next k 0
   unfolding isTableWord
   no-table-word zero h i j = sym (rw (not-of transitionKind w h, not-of epsilonKind w i))
   no-table-word (suc k) h i j = no-source (suc k) (omega arith) j
 
-  pub symbol-unknown : (k : ℕ) → k ≤ 0 → numberOf w ≡ 9 → length a ≤ symbolAbove w → Next k 0
+  pub symbol-unknown : (k : ℕ) → k ≤ 0 → numberOf w ≡ kindNumber transitionKind → length a ≤ symbolAbove w → Next k 0
   unfolding isTableWord
   symbol-unknown zero l e h =
       sym (simp (le-ltb (symbolAbove w) (length a) h, not-of epsilonKind w (λ i. omega arith), and-none))
   symbol-unknown (suc k) l e h = absurd (omega arith)
 
-  pub above-outside : (k : ℕ) → k ≤ 0 → numberOf w ≡ 10 → n ≤ stateAbove w → Next k 0
+  pub above-outside : (k : ℕ) → k ≤ 0 → numberOf w ≡ kindNumber epsilonKind → n ≤ stateAbove w → Next k 0
   unfolding isTableWord
   above-outside zero l e h = sym (simp (le-ltb (stateAbove w) n h, not-of transitionKind w (λ i. omega arith), and-none))
   above-outside (suc k) l e h = absurd (omega arith)
 
   module _ (clear : spareBitsClear w ≡ true) (state : stateBelow w < n) where
-    pub transition-next : (k : ℕ) → k ≤ 0 → numberOf w ≡ 9 → symbolAbove w < length a → (r : ℕ) → r ≡ rankOf a (symbolAbove w) → Next k (r + 1)
+    pub transition-next : (k : ℕ) → k ≤ 0 → numberOf w ≡ kindNumber transitionKind → symbolAbove w < length a → (r : ℕ) → r ≡ rankOf a (symbolAbove w) → Next k (r + 1)
     unfolding isTableWord sourcesLeft
     transition-next zero l e h r er =
-        sym (rw (is-of transitionKind w e clear, lt-ltb (symbolAbove w) (length a) h, lt-ltb (stateBelow w) n state, eq-eqb (numberOf w) 9 e, ← er))
+        sym (rw (is-of transitionKind w e clear, lt-ltb (symbolAbove w) (length a) h, lt-ltb (stateBelow w) n state, eq-eqb (numberOf w) (kindNumber transitionKind) e, ← er))
     transition-next (suc k) l e h r er = absurd (omega arith)
 
-    pub epsilon-next : (k : ℕ) → k ≤ 0 → numberOf w ≡ 10 → stateAbove w < n → Next k 1
+    pub epsilon-next : (k : ℕ) → k ≤ 0 → numberOf w ≡ kindNumber epsilonKind → stateAbove w < n → Next k 1
     unfolding isTableWord sourcesLeft
     epsilon-next zero l e h =
         sym
@@ -95,11 +95,11 @@ module _ (a : List ℕ) (n w : ℕ) where
           is-of epsilonKind w e clear,
           lt-ltb (stateAbove w) n h,
           lt-ltb (stateBelow w) n state,
-          ne-eqb (numberOf w) 9 (λ i. omega arith),
+          ne-eqb (numberOf w) (kindNumber transitionKind) (λ i. omega arith),
         ))
     epsilon-next (suc k) l e h = absurd (omega arith)
 
-    pub source-next : (k : ℕ) → numberOf w ≡ 11 → Next k k
+    pub source-next : (k : ℕ) → numberOf w ≡ kindNumber sourceKind → Next k k
     unfolding isTableWord sourcesLeft
     source-next zero e = sym (rw (not-of transitionKind w (λ i. omega arith), not-of epsilonKind w (λ i. omega arith)))
     source-next (suc k) e = sym (rw (is-of sourceKind w e clear, lt-ltb (stateBelow w) n state) (add-one k))

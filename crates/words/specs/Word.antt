@@ -3,6 +3,7 @@ use Prim.Native.Nat.{ℕ, _+_, _*_, _/_, _%_}
 use mathlib.Core.List.{List, [], _∷_}
 use mathlib.Core.Bool.{Bool, cond, _&&_}
 use lib.Dec.{ltb, eqb}
+
 -- document 01's kinds: alphabet entry; the rule words symbol, empty language, union, product, closure; chapter element;
 -- table head, symbol move, empty move, part state of a move; and no kind of document 01
 pub data Kind : Type 0 where

@@ -27,7 +27,7 @@ no-rule-word : (a : List ℕ) (w : ℕ) (k : Case) → kindIn k ≡ kindOf w →
 unfolding isExpressionWord
 no-rule-word a w k decoded left =
     let e = not-true (namesAt a (lowByte w) (kindIn k))
-        (left-all (Symbol ∷ Empty ∷ Union ∷ Product ∷ Closure ∷ []) k left (λ (j : Kind). not (namesAt a (lowByte w) j)) refl) in
+    (left-all (Symbol ∷ Empty ∷ Union ∷ Product ∷ Closure ∷ []) k left (λ (j : Kind). not (namesAt a (lowByte w) j)) refl) in
     rw (sym decoded, e) (and-none (spareBitsClear w))
 
 spare-bits-clear-requires : tie.Need-spare-bits-clear-requires
