@@ -1,5 +1,5 @@
 //! Links the static library libhaqbylur.a where HAQBYLUR_LIB_DIR names its folder. Without that variable
-//! everything still builds, and the model takes the library's place.
+//! everything still builds and the tests run; the comparison and the bench then compare nothing and end with an error.
 
 use std::path::Path;
 

@@ -28,7 +28,7 @@ pub fn all(workloads: &[Workload]) -> bool {
         exchanges::compare(&mut library, work);
         exchanges::compare(&mut incremental, work);
     }
-    simulations_agree && library.differences == 0 && incremental.differences == 0
+    simulations_agree && library.differences() == 0 && incremental.differences() == 0
 }
 
 /// Every pair of faults, changed bits, lists of exchanges, slices of all lengths; every number is answered.

@@ -32,7 +32,7 @@ fn main() -> ExitCode {
         }
     };
     if !library::LINKED {
-        eprintln!("bench: the library is not linked (HAQBYLUR_LIB_DIR)");
+        eprintln!("bench: {}", library::NOT_LINKED);
         return ExitCode::from(2);
     }
     let measure = Measure {

@@ -10,10 +10,32 @@ use std::collections::BTreeMap;
 /// How many differences are printed in full.
 const PRINTED: u64 = 10;
 
-pub struct Comparison {
-    matcher: Box<dyn Matcher>,
+/// How many cases of one sort there were, and how many of them differed.
+#[derive(Clone, Copy, Default)]
+pub struct Tally {
     pub cases: u64,
     pub differences: u64,
+}
+
+impl Tally {
+    fn count(&mut self, agrees: bool) {
+        self.cases += 1;
+        self.differences += u64::from(!agrees);
+    }
+
+    pub fn agreeing(&self) -> u64 {
+        self.cases - self.differences
+    }
+}
+
+pub struct Comparison {
+    matcher: Box<dyn Matcher>,
+    /// Calls made of the compared matcher.
+    pub calls: Tally,
+    /// Runs of the compared program.
+    pub runs: Tally,
+    /// Checks of the model and of the cases: they hold whatever is compared.
+    pub checks: Tally,
     /// How often each operation gave each number, so that a run shows what it covered.
     pub numbers: BTreeMap<Operation, BTreeMap<u32, u64>>,
     /// The random case being compared, as text; empty where the input is fixed.
@@ -25,8 +47,9 @@ impl Comparison {
     pub fn with(matcher: Box<dyn Matcher>) -> Comparison {
         Comparison {
             matcher,
-            cases: 0,
-            differences: 0,
+            calls: Tally::default(),
+            runs: Tally::default(),
+            checks: Tally::default(),
             numbers: BTreeMap::new(),
             case: String::new(),
             quiet: false,
@@ -62,25 +85,39 @@ impl Comparison {
         let found = self.matcher.answer(call);
         let counts = self.numbers.entry(call.operation).or_default();
         *counts.entry(expected.number).or_default() += 1;
-        self.check(wrong, found == expected, || {
+        let agrees = found == expected;
+        self.calls.count(agrees);
+        self.print_unless(agrees, wrong, || {
             format!("    {}\n{call}", difference(&expected, &found))
         });
         expected
     }
 
+    /// Counts one run of the program. `wrong` says what would be wrong if it differed, `input` what it was given.
+    pub fn run(&mut self, wrong: &str, agrees: bool, input: impl FnOnce() -> String) {
+        self.runs.count(agrees);
+        self.print_unless(agrees, wrong, input);
+    }
+
     /// Checks a statement. `wrong` says what would be wrong if it did not hold, `input` of what it was said.
     pub fn check(&mut self, wrong: &str, holds: bool, input: impl FnOnce() -> String) {
-        self.cases += 1;
-        if !holds {
-            self.differences += 1;
-            if !self.quiet && self.differences <= PRINTED {
-                println!(
-                    "difference {}: {}{wrong}\n{}",
-                    self.differences,
-                    self.case,
-                    input()
-                );
-            }
+        self.checks.count(holds);
+        self.print_unless(holds, wrong, input);
+    }
+
+    pub fn cases(&self) -> u64 {
+        self.calls.cases + self.runs.cases + self.checks.cases
+    }
+
+    pub fn differences(&self) -> u64 {
+        self.calls.differences + self.runs.differences + self.checks.differences
+    }
+
+    /// Prints a case that was just counted, if it differs and is one of the first that do.
+    fn print_unless(&self, agrees: bool, wrong: &str, input: impl FnOnce() -> String) {
+        let differences = self.differences();
+        if !agrees && !self.quiet && differences <= PRINTED {
+            println!("difference {differences}: {}{wrong}\n{}", self.case, input());
         }
     }
 

@@ -11,18 +11,24 @@ pub const LINKED: bool = cfg!(linked);
 /// Length and sum of the archive that is linked.
 pub const ARCHIVE: Option<&str> = option_env!("HAQBYLUR_ARCHIVE");
 
-/// The library, or the model in its place where the library is not linked.
+/// What is said where the library is asked for and this build does not hold it.
+pub const NOT_LINKED: &str = "the library is not linked: HAQBYLUR_LIB_DIR names the folder of libhaqbylur.a";
+
+#[cfg(linked)]
 pub fn matcher() -> Box<dyn Matcher> {
-    #[cfg(linked)]
-    return Box::new(exported::Library);
-    #[cfg(not(linked))]
-    Box::new(crate::model::Model)
+    Box::new(exported::Library)
 }
 
 #[cfg(linked)]
 pub use exported::perform;
 
+// Nothing takes the library's place: a comparison with it would always agree.
+#[cfg(not(linked))]
+pub fn matcher() -> Box<dyn Matcher> {
+    panic!("{NOT_LINKED}")
+}
+
 #[cfg(not(linked))]
 pub fn perform(_: &mut crate::call::Call, _: &mut [u32; 2]) -> u32 {
-    panic!("the library is not linked (HAQBYLUR_LIB_DIR)")
+    panic!("{NOT_LINKED}")
 }

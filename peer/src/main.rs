@@ -1,10 +1,11 @@
-//! Compares the library with the model: `peer [SEED [CASES]]`. The line before the last says how many cases agree; the last
-//! is a summary, `peer: N cases, D differences`, with what was left out behind it. The exit status is 0 exactly if nothing
-//! differed.
+//! Compares the library with the model: `peer [SEED [CASES]]`. The lines before the last say how many calls of the library
+//! and how many runs of the program agree, and how many checks of the model itself hold; the last is a summary of all,
+//! `peer: N cases, D differences`, with what was left out behind it. The exit status is 0 exactly if the library is linked and
+//! nothing differed, 1 with a difference, and 2 without a library or with wrong arguments.
 //! HAQBYLUR_LIB_DIR names the folder of the static library when this is built, HAQBYLUR_MARKLIST the program when it runs.
 
 use peer::cases::{damage, examples, faults, histories, largest, lengths, limits, program, random};
-use peer::compare::Comparison;
+use peer::compare::{Comparison, Tally};
 use peer::library;
 use std::process::ExitCode;
 use std::time::Instant;
@@ -22,15 +23,19 @@ fn main() -> ExitCode {
         eprintln!("usage: peer [SEED [CASES]]");
         return ExitCode::from(2);
     };
+    if !library::LINKED {
+        eprintln!("peer: {}", library::NOT_LINKED);
+        return ExitCode::from(2);
+    }
     println!("peer: seed {seed}, {cases} random cases");
     if let Some(archive) = library::ARCHIVE {
         println!("peer: the library has {archive}");
     }
     let mut comparison = Comparison::with(library::matcher());
     let mut section = |name: &str, compare: &mut dyn FnMut(&mut Comparison)| {
-        let (start, before) = (Instant::now(), comparison.cases);
+        let (start, before) = (Instant::now(), comparison.cases());
         compare(&mut comparison);
-        let compared = comparison.cases - before;
+        let compared = comparison.cases() - before;
         let seconds = start.elapsed().as_secs_f64();
         println!("{name}: {compared} comparisons, {seconds:.1} s");
     };
@@ -56,12 +61,18 @@ fn main() -> ExitCode {
     }
     section("numbers answered", &mut Comparison::check_numbers);
     print_numbers(&comparison);
-    let (cases, differences) = (comparison.cases, comparison.differences);
-    println!("peer: {} of {cases} cases agree", cases - differences);
-    println!(
-        "peer: {cases} cases, {differences} differences{}",
-        missing(path.is_some())
-    );
+    print_tally(&comparison.calls, "calls of the library agree");
+    if path.is_some() {
+        print_tally(&comparison.runs, "runs of the program agree");
+    }
+    print_tally(&comparison.checks, "checks of the model itself hold");
+    // A summary without the program is not to be taken for a whole one.
+    let skipped = match path {
+        Some(_) => "",
+        None => "; the program marklist was skipped (HAQBYLUR_MARKLIST)",
+    };
+    let (cases, differences) = (comparison.cases(), comparison.differences());
+    println!("peer: {cases} cases, {differences} differences{skipped}");
     ExitCode::from(u8::from(differences > 0))
 }
 
@@ -75,14 +86,6 @@ fn print_numbers(comparison: &Comparison) {
     }
 }
 
-/// What was not compared, so that a summary without it is not taken for a whole one.
-fn missing(program: bool) -> String {
-    let mut text = String::new();
-    if !library::LINKED {
-        text += "; the library is not linked (HAQBYLUR_LIB_DIR), the model was compared with itself";
-    }
-    if !program {
-        text += "; the program marklist was skipped (HAQBYLUR_MARKLIST)";
-    }
-    text
+fn print_tally(tally: &Tally, agree: &str) {
+    println!("peer: {} of {} {agree}", tally.agreeing(), tally.cases);
 }

@@ -147,7 +147,7 @@ fn differences(fault: Fault) -> u64 {
     damage::compare(&mut comparison, 5, 30);
     random::compare(&mut comparison, 5, 60);
     histories::compare(&mut comparison, 5, 40);
-    comparison.differences
+    comparison.differences()
 }
 
 #[test]
@@ -157,7 +157,7 @@ fn the_model_differs_from_itself() {
     limits::compare(&mut comparison);
     lengths::compare(&mut comparison);
     largest::compare(&mut comparison, 5, 20);
-    assert_eq!(comparison.differences, 0);
+    assert_eq!(comparison.differences(), 0);
 }
 
 #[test]
@@ -179,6 +179,32 @@ fn a_wrong_matcher_is_not_found() {
     ] {
         assert!(differences(fault) > 0, "{fault:?} is not found");
     }
+}
+
+#[cfg(not(linked))]
+#[test]
+fn a_comparison_without_a_library_ends_well() {
+    let output = std::process::Command::new(env!("CARGO_BIN_EXE_peer"))
+        .output()
+        .expect("a run");
+    assert_eq!((output.status.code(), output.stdout), (Some(2), Vec::new()));
+}
+
+#[test]
+fn a_check_of_the_model_is_counted_as_a_call() {
+    let mut comparison = Comparison::quietly_with(Box::new(Wrong {
+        fault: Fault::ListNamesNone,
+        exchanges: 0,
+    }));
+    random::compare(&mut comparison, 5, 60);
+    let calls: u64 = comparison
+        .numbers
+        .values()
+        .flat_map(|numbers| numbers.values())
+        .sum();
+    assert_eq!(comparison.calls.cases, calls);
+    assert!(comparison.calls.differences > 0 && comparison.checks.cases > 0);
+    assert_eq!((comparison.checks.differences, comparison.runs.cases), (0, 0));
 }
 
 #[test]

@@ -19,7 +19,7 @@ fn differences(script: &str, patience: Duration) -> u64 {
     let path = path.to_str().expect("a path");
     let mut comparison = Comparison::quietly_with(Box::new(Model));
     source(&mut comparison, &mut Compared::new(Program { path, patience }));
-    comparison.differences
+    comparison.differences()
 }
 
 // One test, since a script that another thread is writing cannot be started.

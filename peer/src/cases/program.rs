@@ -51,7 +51,7 @@ fn same(comparison: &mut Comparison, program: &mut Compared, wrong: &str, bytes:
     let expected = Outcome::Ended(expected(bytes), Some(0));
     let found = program.program.run(bytes, ended);
     program.hangs = found == Outcome::Hung;
-    comparison.check(wrong, found == expected, || {
+    comparison.run(wrong, found == expected, || {
         // Only inputs with lengths far over the limits are longer, and they are fixed.
         let shown: String = bytes
             .iter()
