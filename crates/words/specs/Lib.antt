@@ -5,6 +5,7 @@ pub mod ExactlyOne
 pub mod Word
 pub mod Alphabet
 pub mod Tree
+pub mod Shape
 pub mod Postfix
 pub mod Expression
 pub mod Chapter
