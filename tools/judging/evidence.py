@@ -163,5 +163,5 @@ report = record {{
 }}
 '''
     return [*table_facts(walk, unfolding), *step_facts(walk), *hit_facts(walk, nodes, words_in_part),
-            fact('one-tree', 'trees alphabet 0 chapter 1 ≡ true', unfolding=READING + ['trees']),
+            fact('one-tree', 'trees alphabet 0 chapter 1 ≡ true', unfolding=READING + ['treesBy']),
             *line_facts(walk, nodes, matcher.starts_of(book.alphabet, book.chapter), lines_in_part), report]

@@ -11,6 +11,7 @@ use lib.ListN.{length}
 use lib.Dec.{leb, eqb}
 use borrow.Author.Tests.{leb-true, leb-false, eqb-true, eqb-false, not-false}
 use Rattle.words.specs.Alphabet.{constantsOf, alphabetFault}
+use Rattle.words.specs.Shape.{treesBy}
 use Rattle.words.specs.Postfix.{arity, trees, oneTree, notOneTree}
 use Rattle.words.specs.Expression.{expressionRefusals, expressionFault}
 use Rattle.words.proofs.TestLaws.{picked}
@@ -27,7 +28,7 @@ use Rattle.automaton.proofs.TableLaws.{words-isTable}
 
 -- only words without children make the trees more
 leaves-some : (a : List ℕ) (ws : List ℕ) (d t : ℕ) → trees a d ws t ≡ true → t ≤ d + leafWords a ws
-unfolding trees hasEntries
+unfolding treesBy hasEntries
 leaves-some a [] d t k = omega (arith, eqb-true d t k)
 leaves-some a (w ∷ ws) d t k =
     let p = picked (leb (arity a w) d) (trees a (d - arity a w + 1) ws t) k in
@@ -43,7 +44,7 @@ leaves-some a (w ∷ ws) d t k =
 module _ (a : List ℕ) (h : AcceptedAlphabet a) where
   -- a tree with several leaves has a word with several children, and such a word has at most four
   leaves-branching : (ws : List ℕ) (d t : ℕ) → trees a d ws t ≡ true → d + leafWords a ws ≤ t + 3 * branchingWords a ws
-  unfolding trees hasEntries
+  unfolding treesBy hasEntries
   leaves-branching [] d t k = omega (arith, eqb-true d t k)
   leaves-branching (w ∷ ws) d t k =
       let p = picked (leb (arity a w) d) (trees a (d - arity a w + 1) ws t) k in

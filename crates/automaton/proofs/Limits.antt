@@ -6,7 +6,8 @@ use mathlib.Core.List.{List, [], _∷_, _++_, flatMap}
 use lib.ListN.{length, replicate}
 use Rattle.words.specs.Word.{spareBitsClear, isOf, kindAt}
 use Rattle.words.specs.Alphabet.{isEntry, rankOf, isConstant, constantsFrom, constantsOf, noAlphabet, wrongConstants, alphabetFault}
-use Rattle.words.specs.Postfix.{arity, trees, notOneTree}
+use Rattle.words.specs.Shape.{treesBy}
+use Rattle.words.specs.Postfix.{arity, notOneTree}
 use Rattle.words.specs.Expression.{isExpressionWord, wrongLength, notExpressionWords, expressionFault}
 use Rattle.automaton.specs.Transition.{tableWords}
 use Rattle.automaton.specs.Numbering.{hasEntries, statesOf, portOf, ownTransitions, portsFrom, statesAfter, transitionsFrom, compiled}
@@ -33,7 +34,7 @@ pub record Limits : Type 0 where
 
 pub limits : Limits
 unfolding
-    kindAt spareBitsClear isOf isEntry rankOf isConstant constantsFrom constantsOf noAlphabet wrongConstants arity trees notOneTree
+    kindAt spareBitsClear isOf isEntry rankOf isConstant constantsFrom constantsOf noAlphabet wrongConstants arity treesBy notOneTree
     isExpressionWord wrongLength notExpressionWords hasEntries statesOf portOf ownTransitions portsFrom statesAfter transitionsFrom
     compiled flatMap
 limits =

@@ -11,6 +11,7 @@ use lib.Seq.{length-take-le}
 use lib.Dec.{ltb, leb, eqb}
 use borrow.Author.Tests.{leb-true, ltb-false, eqb-false, not-false}
 use Rattle.words.specs.Lists.{all}
+use Rattle.words.specs.Shape.{treesBy}
 use Rattle.words.specs.Postfix.{arity, trees, oneTree, notOneTree}
 use Rattle.words.specs.Expression.{isExpressionWord, wrongLength, notExpressionWords, expressionRefusals, expressionFault}
 use Rattle.words.proofs.TestLaws.{and-true, or-false, picked}
@@ -54,7 +55,7 @@ module _ (a : List ℕ) where
 
   pub reading : (ws : List ℕ) (n t : ℕ) (stack : List Port) → all (isExpressionWord a) ws ≡ true → trees a (length stack) ws t ≡ true
       → Stack a n stack → Reading a n ws stack
-  unfolding trees
+  unfolding treesBy
   reading [] n t stack h r s = ended
   reading (w ∷ ws) n t stack h r s =
       let p = and-true (isExpressionWord a w) (all (isExpressionWord a) ws) h in

@@ -12,6 +12,7 @@ use lib.Dec.{leb}
 use borrow.Author.Tests.{leb-true}
 use Rattle.words.specs.Lists.{all}
 use Rattle.words.specs.Alphabet.{constantsOf}
+use Rattle.words.specs.Shape.{treesBy}
 use Rattle.words.specs.Postfix.{arity, trees}
 use Rattle.words.specs.Expression.{isExpressionWord, expressionFault}
 use Rattle.words.proofs.TestLaws.{and-true, picked}
@@ -116,7 +117,7 @@ module _ {a cs e : List ℕ} {at : ℕ} {out out′ stack : List ℕ} {height st
       p (subst (λ (l : List ℕ). all (isExpressionWord a) l ≡ true) (drop-step e i h) (m .words)) .0
 
   step : i < length e → (leb (arity a (getD e i 0)) height ≡ true) × (trees a (height - arity a (getD e i 0) + 1) (drop (i + 1) e) 1 ≡ true)
-  unfolding trees
+  unfolding treesBy
   step h =
       let r = arity a (getD e i 0) in
       picked (leb r height) (trees a (height - r + 1) (drop (i + 1) e) 1) (subst (λ (l : List ℕ). trees a height l 1 ≡ true)

@@ -10,7 +10,8 @@ use lib.ListN.{length, take, drop, take-append-drop}
 use lib.Seq.{length-take-le}
 use Rattle.words.specs.Lists.{all}
 use Rattle.words.specs.Chapter.{isNode}
-use Rattle.words.specs.Postfix.{startOf, splice}
+use Rattle.words.specs.Shape.{spliceBy}
+use Rattle.words.specs.Postfix.{arity, startOf, splice}
 use Rattle.words.proofs.TestLaws.{all-left, all-right, all-append}
 use Rattle.words.proofs.AlphabetLaws.{alphabet-most}
 use Rattle.words.proofs.AcceptedAlphabet.{alphabet-accepted}
@@ -70,7 +71,7 @@ module _ (a table chapter marks : List ℕ) (n e : ℕ) (xs : List ℕ) (ok : fa
     numbers =
         let g = accepted-call in
         let inside = g .element in
-        let low : s ≤ e = rw qs (start-le a used e) in
+        let low : s ≤ e = rw qs (start-le (arity a) used e) in
         let small : size ≤ 32 = rw qz (isTable-sizes a table table-checked .size-most) in
         let m = length xs in
         let k = n - e - 1 in
@@ -115,7 +116,7 @@ module _ (a table chapter marks : List ℕ) (n e : ℕ) (xs : List ℕ) (ok : fa
 
   -- the result is a tree over the alphabet, with room for its state sets
   pub result-nodes : all (isNode a) (splice a (take n chapter) e xs) ≡ true
-  unfolding splice
+  unfolding spliceBy
   result-nodes =
       let g = accepted-call in
       let p = startOf a used e in
@@ -132,7 +133,7 @@ module _ (a table chapter marks : List ℕ) (n e : ℕ) (xs : List ℕ) (ok : fa
         checked = table-checked;
         tree = record {
           nodes = result-nodes;
-          tree = splice-tree a used e (g .tree) (rw length-used (g .element)) xs (g .replacement .tree);
+          tree = splice-tree (arity a) used e (g .tree) (rw length-used (g .element)) xs (g .replacement .tree);
           few = g .fits .few;
         };
         marks-room = rw l (g .fits .marks);

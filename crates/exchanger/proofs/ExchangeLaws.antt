@@ -10,7 +10,8 @@ use native.Mathlib.Numerals.{add-one}
 use lib.ListN.{length, getD, take, drop, length-map, length-append, List·getD-append}
 use lib.Seq.{paste, slice, getD-drop, getD-append-add, getD-set-same, getD-set-other, take-take}
 use Rattle.words.specs.Lists.{listFrom}
-use Rattle.words.specs.Postfix.{startOf, isAncestor, splice}
+use Rattle.words.specs.Shape.{spliceBy}
+use Rattle.words.specs.Postfix.{arity, startOf, isAncestor, splice}
 use Rattle.words.proofs.TestLaws.{Tested, holds, fails, tested}
 use Rattle.words.proofs.ListLaws.{length-listFrom}
 use Rattle.words.proofs.PostfixLaws.{length-splice}
@@ -93,7 +94,7 @@ module _ (a table chapter marks : List ℕ) (n e : ℕ) (xs : List ℕ) (ok : fa
       let g = accepted-call a table chapter marks n e xs ok in
       length-replacedSets a table stored used e xs gap he (g .replacement .tree) (g .replacement .counted .some) length-gap k
       ∙ length-movedSets a table stored used e xs gap he (g .replacement .tree) (g .replacement .counted .some) length-gap
-      ∙ sym (length-splice a used e xs he)
+      ∙ sym (length-splice (arity a) used e xs he)
 
   -- the replacement's nodes, worked out in the marks
   module _ (moved : List ℕ) (held : Holding (sizeOf table) moved (movedSets a table stored used e xs gap) rest) where
@@ -102,7 +103,7 @@ module _ (a table chapter marks : List ℕ) (n e : ℕ) (xs : List ℕ) (ok : fa
     replaced-holds zero h = held
     replaced-holds (suc k) h =
         let t = length-replaced k in
-        let l = length-splice a used e xs he in
+        let l = length-splice (arity a) used e xs he in
         markedAt-rows a table tree (markedFrom a table tree s k moved) (replaced k) rest (s + k) (replaced-holds k (omega arith)) (omega arith) (omega arith)
 
     -- before the root is worked out, and behind it
@@ -140,7 +141,7 @@ module _ (a table chapter marks : List ℕ) (n e : ℕ) (xs : List ℕ) (ok : fa
     left = length (drop (e + 1) used)
 
     length-tree : length tree ≡ s + (length xs + left)
-    length-tree = length-splice a used e xs he
+    length-tree = length-splice (arity a) used e xs he
 
     abbrev v : StateSet
     v = loops.setFrom a table tree (s + m) (replaced m)
@@ -181,7 +182,7 @@ module _ (a table chapter marks : List ℕ) (n e : ℕ) (xs : List ℕ) (ok : fa
               (words-behind a table stored used e xs gap he (g .replacement .tree) (g .replacement .counted .some) length-gap)
               ∙ getD-drop (e + 1) used t 0;
           ancestors = λ t. ap (isAncestor a used e) (omega arith);
-          holding = holding-first a used e;
+          holding = holding-first (arity a) used e;
           inside = omega (arith, length-tree);
           rows-inside = omega (arith, length-tree, length-replaced (suc m));
           sets = work-holds;
@@ -266,7 +267,7 @@ module _ (a table chapter marks : List ℕ) (n e : ℕ) (xs : List ℕ) (ok : fa
   pub chapter-left : (moved filled : List ℕ)
       → moved ≡ refit n (take (place + length xs) chapter ++ slice (e + 1) n chapter) chapter → filled ≡ paste moved place xs (length xs)
       → filled ≡ refit n (newTree a table chapter marks n e xs) chapter
-  unfolding newTree splice
+  unfolding newTree spliceBy
   chapter-left moved filled p q =
       let g = numbers a table chapter marks n e xs ok place refl (sizeOf table) refl in
       let low = g .low in

@@ -10,7 +10,8 @@ use native.Mathlib.Nat.{zero-add, add-zero}
 use lib.ListN.{length, take, drop, set, length-append, length-set, List·getD-append}
 use lib.Seq.{slice, length-take-le, take-at, drop-at, drop-append-add, take-append-add}
 use Rattle.words.specs.Lists.{listFrom}
-use Rattle.words.specs.Postfix.{oneTree, startOf, isAncestor, splice, values, stackAfter, stackGiven}
+use Rattle.words.specs.Shape.{spliceBy}
+use Rattle.words.specs.Postfix.{arity, oneTree, startOf, isAncestor, splice, values, stackAfter, stackGiven}
 use Rattle.words.proofs.TestLaws.{Tested, holds, fails, tested}
 use Rattle.words.proofs.ListLaws.{map-append, length-listFrom, getD-listFrom, Below, map-below}
 use Rattle.words.proofs.PostfixLaws.{start-le, length-splice}
@@ -59,13 +60,13 @@ module _ (a table : List ℕ) (stored : ℕ → StateSet) (ch : List ℕ) (e : �
     σ = stackGiven a stored 0 (take s ch) []
 
     low : s ≤ e
-    low = start-le a ch e
+    low = start-le (arity a) ch e
 
     length-front : length (take s ch) ≡ s
     length-front = length-take-le s ch (let l = low in omega arith)
 
     length-tree : length tree ≡ s + (length x + length behind)
-    length-tree = length-splice a ch e x he
+    length-tree = length-splice (arity a) ch e x he
 
     pub length-movedSets : length movedSets ≡ s + (length x + length behind)
     length-movedSets =
@@ -79,11 +80,11 @@ module _ (a table : List ℕ) (stored : ℕ → StateSet) (ch : List ℕ) (e : �
     length-replacedSets (suc k) = length-set (replacedSets k) (s + k) _ ∙ length-replacedSets k
 
     take-front : take s tree ≡ take s ch
-    unfolding splice
+    unfolding spliceBy
     take-front = take-at (take s ch) (x ++ behind) s length-front
 
     replacement : slice s (s + length x) tree ≡ x
-    unfolding splice
+    unfolding spliceBy
     replacement =
         let n : s + length x ≡ length (take s ch) + length x = ap (λ (i : ℕ). i + length x) (sym length-front) in
         ap (λ (t : List ℕ). drop s t)
@@ -92,24 +93,24 @@ module _ (a table : List ℕ) (stored : ℕ → StateSet) (ch : List ℕ) (e : �
         ∙ drop-at (take s ch) x s length-front
 
     pub words-behind : drop (s + length x) tree ≡ behind
-    unfolding splice
+    unfolding spliceBy
     words-behind =
         ap (λ (i : ℕ). drop (i + length x) tree) (sym length-front) ∙ drop-append-add (take s ch) (x ++ behind) (length x)
         ∙ drop-at x behind (length x) refl
 
-    stack-front : map (setAt movedSets) (numbers a tree s) ≡ σ
+    stack-front : map (setAt movedSets) (numbers (arity a) tree s) ≡ σ
     unfolding σ
     stack-front =
         ap (λ (l : List ℕ). map (setAt movedSets) (stackGiven a (λ k. k) 0 l [])) take-front
         ∙ map-below (setAt movedSets) stored s ns few
         (λ k h. List·getD-append (listFrom stored 0 s) _ [] k (rw (length-listFrom stored s 0) h) ∙ getD-listFrom stored [] s 0 k h ∙ ap stored (zero-add k))
-        ∙ sym (stack-numbers a stored (take s ch) 0 [])
+        ∙ sym (stack-numbers (arity a) stored (take s ch) 0 [])
       where
         ns : List ℕ
         ns = stackGiven a (λ k. k) 0 (take s ch) []
 
         few : Below s ns
-        few = subst (λ (n : ℕ). Below n ns) (zero-add _ ∙ length-front) (stack-below a (take s ch) 0 [] tt)
+        few = subst (λ (n : ℕ). Below n ns) (zero-add _ ∙ length-front) (stack-below (arity a) (take s ch) 0 [] tt)
 
     replaced-recomputing : (k : ℕ) → k ≤ length x → Recomputing a table tree movedSets s σ k (replacedSets k)
     unfolding replacedSets
@@ -120,8 +121,8 @@ module _ (a table : List ℕ) (stored : ℕ → StateSet) (ch : List ℕ) (e : �
     allRecomputed : Recomputing a table tree movedSets s σ (length x) (replacedSets (length x))
     allRecomputed = replaced-recomputing (length x) (omega arith)
 
-    new : Read a step x
-    new = read a step x hx
+    new : Read (arity a) step x
+    new = read (arity a) step x hx
 
     root : rootSet a table x ≡ new .root
     unfolding new
@@ -138,7 +139,7 @@ module _ (a table : List ℕ) (stored : ℕ → StateSet) (ch : List ℕ) (e : �
         ∙ ap₂ (λ (l k : List StateSet). l ++ values a step (slice s (s + length x) tree) σ ++ k) fore back
         ∙ ap (λ (l : List StateSet). listFrom stored 0 s ++ l ++ listFrom stored (e + 1) (length behind)) (ap (λ (l : List ℕ). values a step l σ) replacement ∙ new .values-on σ)
 
-    stack-replaced : map (setAt (replacedSets (length x))) (numbers a tree (s + length x)) ≡ rootSet a table x ∷ σ
+    stack-replaced : map (setAt (replacedSets (length x))) (numbers (arity a) tree (s + length x)) ≡ rootSet a table x ∷ σ
     stack-replaced = allRecomputed .stack-is ∙ ap (λ (l : List ℕ). stackAfter a step l σ) replacement ∙ new .stack-on σ ∙ ap (λ (r : StateSet). r ∷ σ) (sym root)
 
     root-replaced : setAt (replacedSets (length x)) (s + length x - 1) ≡ rootSet a table x
@@ -146,14 +147,14 @@ module _ (a table : List ℕ) (stored : ℕ → StateSet) (ch : List ℕ) (e : �
         let q = s + length x - 1 in
         let n : s + length x ≡ suc q = omega arith in
         head-eq-of-cons-eq
-        (sym (ap (λ (l : List ℕ). map (setAt (replacedSets (length x))) l) (ap (numbers a tree) n ∙ numbers-more a tree q (omega (arith, length-tree)))) ∙ stack-replaced)
+        (sym (ap (λ (l : List ℕ). map (setAt (replacedSets (length x))) l) (ap (numbers (arity a) tree) n ∙ numbers-more (arity a) tree q (omega (arith, length-tree)))) ∙ stack-replaced)
 
     head : List StateSet
     head = listFrom stored 0 s ++ values a step x []
 
     length-head : length head ≡ s + length x
     unfolding head
-    length-head = length-append (listFrom stored 0 s) (values a step x []) ∙ ap₂ (λ (i j : ℕ). i + j) (length-listFrom stored s 0) (length-values a step x [])
+    length-head = length-append (listFrom stored 0 s) (values a step x []) ∙ ap₂ (λ (i j : ℕ). i + j) (length-listFrom stored s 0) (length-values (arity a) step x [])
 
     -- the sets of the outcomes in their three parts
     outcomes-parts : head ++ map setIn (outcomesBehind a table stored ch e x) ≡ map setIn (outcomesAfter a table stored ch e x)

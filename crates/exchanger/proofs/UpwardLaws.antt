@@ -38,7 +38,7 @@ module _ (a table ch used : List ℕ) (e : ℕ) (rest : List ℕ) (above : ℕ �
   pub record Upward (i j d n : ℕ) (marks : List ℕ) (rows : List StateSet) : Type 0 where
     pub words : (t : ℕ) → getD ch (i + t) 0 ≡ getD used (j + t) 0
     pub ancestors : (t : ℕ) → above (i + t) ≡ isAncestor a used e (j + t)
-    pub holding : HoldingTree a used e j d
+    pub holding : HoldingTree (arity a) used e j d
     pub inside : i + n ≤ length ch
     pub rows-inside : i + n ≤ length rows
     pub sets : Holding (sizeOf table) marks rows rest
@@ -71,7 +71,7 @@ module _ (a table ch used : List ℕ) (e : ℕ) (rest : List ℕ) (above : ℕ �
     above-here = here above (isAncestor a used e) i j (g .ancestors)
 
     -- the loop at the next node
-    next : (d′ : ℕ) (marks′ : List ℕ) (rows′ : List StateSet) → HoldingTree a used e (suc j) d′ → length rows′ ≡ length rows
+    next : (d′ : ℕ) (marks′ : List ℕ) (rows′ : List StateSet) → HoldingTree (arity a) used e (suc j) d′ → length rows′ ≡ length rows
         → Holding size marks′ rows′ rest → Upward (suc i) (suc j) d′ n marks′ rows′
     next d′ marks′ rows′ y l s =
         let inside = g .inside in
@@ -88,13 +88,13 @@ module _ (a table ch used : List ℕ) (e : ℕ) (rest : List ℕ) (above : ℕ �
     beside : r ≤ d → Same (propagates i (suc n) marks t) (ups i (suc n) rows (t .recomputed))
     beside l =
         let l′ : arity a (getD used j 0) ≤ d = rw word l in
-        let y : HoldingTree a used e (suc j) (d - r + 1) =
-        subst (λ (k : ℕ). HoldingTree a used e (suc j) (d - k + 1)) word (holding-others a used e j d (g .holding) l′) in
+        let y : HoldingTree (arity a) used e (suc j) (d - r + 1) =
+        subst (λ (k : ℕ). HoldingTree (arity a) used e (suc j) (d - k + 1)) word (holding-others (arity a) used e j d (g .holding) l′) in
         let t′ : Progress = record { reach = t .reach - r + 1; recomputed = t .recomputed; active = true } in
         let p : propagates i (suc n) marks t ≡ propagates (suc i) n marks t′ =
         propagate-continues a table ch i marks t n marks t′ (step-beside a table ch i marks t r refl (omega arith)) refl in
         let q : ups i (suc n) rows (t .recomputed) ≡ ups (suc i) n rows (t .recomputed) =
-        upwards-beside a table ch above i n rows (t .recomputed) (above-here ∙ takes-others a used e j d (g .holding) l′) in
+        upwards-beside a table ch above i n rows (t .recomputed) (above-here ∙ takes-others (arity a) used e j d (g .holding) l′) in
         rw (p, q) (ih (suc i) (suc j) (d - r + 1) marks rows t′ (omega arith) (next (d - r + 1) marks rows y refl (g .sets)))
 
     ancestor : d < r → Same (propagates i (suc n) marks t) (ups i (suc n) rows (t .recomputed))
@@ -110,7 +110,7 @@ module _ (a table ch used : List ℕ) (e : ℕ) (rest : List ℕ) (above : ℕ �
         l′ = rw word l
 
         up : above i ≡ true
-        up = above-here ∙ takes-holding a used e j d (g .holding) l′
+        up = above-here ∙ takes-holding (arity a) used e j d (g .holding) l′
 
         inside : i ≤ length ch
         inside = let h = g .inside in omega arith
@@ -144,7 +144,7 @@ module _ (a table ch used : List ℕ) (e : ℕ) (rest : List ℕ) (above : ℕ �
             upwards-onward a table ch above i n rows (t .recomputed) up (tests ∙ b) in
             rw (p, q)
             (ih (suc i) (suc j) 0 marks′ rows′ t′ refl
-            (next 0 marks′ rows′ (holding-ancestor a used e j d (g .holding) l′) (length-set rows i _)
+            (next 0 marks′ rows′ (holding-ancestor (arity a) used e j d (g .holding) l′) (length-set rows i _)
             (markedAt-rows a table ch marks rows rest i (g .sets) inside-rows inside)))
 
   pub propagate-upwards : (n : ℕ) → Goal n

@@ -52,7 +52,7 @@ module _ (a table ch : List ℕ) where
   -- the sets from i on are those stored from node j of the old tree on
   pub upwards-is : (stored : ℕ → StateSet) (above above′ : ℕ → Bool) (ws : List ℕ) (i j : ℕ) (sets : List StateSet) (count : ℕ) (stack : List StateSet)
       → drop i ch ≡ ws → ((t : ℕ) → above (i + t) ≡ above′ (j + t)) → i ≤ length sets → drop i sets ≡ listFrom stored j (length ws)
-      → map (setAt sets) (numbers a ch i) ≡ stack
+      → map (setAt sets) (numbers (arity a) ch i) ≡ stack
       → upwards above i (length ws) sets count ≡ ended i sets count (propagate a table stored above′ j ws stack)
   unfolding upwards propagate recomputedIn
   upwards-is stored above above′ [] i j sets count stack q same l r e =
@@ -99,7 +99,7 @@ module _ (a table ch : List ℕ) where
       Ih : List StateSet → ℕ → List StateSet → Type 0
       Ih sets′ count′ stack′ =
           drop (suc i) ch ≡ ws → ((t : ℕ) → above (suc i + t) ≡ above′ (suc j + t)) → suc i ≤ length sets′
-          → drop (suc i) sets′ ≡ listFrom stored (suc j) (length ws) → map (setAt sets′) (numbers a ch (suc i)) ≡ stack′
+          → drop (suc i) sets′ ≡ listFrom stored (suc j) (length ws) → map (setAt sets′) (numbers (arity a) ch (suc i)) ≡ stack′
           → upwards above (suc i) (length ws) sets′ count′ ≡ ended (suc i) sets′ count′ (propagate a table stored above′ (suc j) ws stack′)
 
       -- one outcome more

@@ -11,7 +11,7 @@ use Rattle.words.specs.Lists.{all}
 use Rattle.words.specs.Word.{Kind, symbolKind, emptyKind, unionKind, productKind, closureKind, fieldRange, wordOf, lowByte}
 use Rattle.words.specs.Alphabet.{isConstant}
 use Rattle.words.specs.Tree.{Tree, none, more, postfix, postfixAll}
-use Rattle.words.specs.Postfix.{oneTree, stackAfter}
+use Rattle.words.specs.Postfix.{arity, oneTree, stackAfter}
 use Rattle.words.specs.Expression.{namesAt, isExpressionWord}
 use Rattle.language.specs.Expression.{Expression, Expressions, symbol, empty, union, product, closure, noneᵉ, moreᵉ, syntaxTree, syntaxTrees, expressionWords, ExpressionOver, ExpressionsOver, ExpressionOf}
 use Rattle.language.specs.Reading.{expressionOn, expressionOf}
@@ -25,14 +25,14 @@ use Rattle.words.proofs.TreeLaws.{TreeOf, exactly-one-tree}
 use Rattle.language.proofs.ParseLaws.{treeExpression, number-syntaxTrees, tree-expression, constant-small, expression-back}
 
 module _ (a : List ℕ) where
-  expression-read : (e : List ℕ) → all (isExpressionWord a) e ≡ true → (t : Tree) → TreeOf a e t → ExpressionOf a e (treeExpression t)
+  expression-read : (e : List ℕ) → all (isExpressionWord a) e ≡ true → (t : Tree) → TreeOf (arity a) e t → ExpressionOf a e (treeExpression t)
   expression-read e h t k =
       let p = tree-expression a t (k .ranked) (rw (k .words) h) in
       record { over = p .0; words = ap postfix (p .1) ∙ k .words }
 
   module _ (m : length a ≤ 64) where
     mutual
-      pub ranked-syntax : (E : Expression) → ExpressionOver a E → Ranked a (syntaxTree E)
+      pub ranked-syntax : (E : Expression) → ExpressionOver a E → Ranked (arity a) (syntaxTree E)
       ranked-syntax (symbol f es) h =
           let l = h .0 in
           (arity-wordOf a symbolKind f (omega arith) ∙ h .1 ∙ sym (number-syntaxTrees es), ranked-syntaxes es (h .2))
@@ -42,7 +42,7 @@ module _ (a : List ℕ) where
           (arity-wordOf a productKind c (constant-small a m c (h .0)), (ranked-syntax F (h .1), (ranked-syntax G (h .2), tt)))
       ranked-syntax (closure c F) h = (arity-wordOf a closureKind c (constant-small a m c (h .0)), (ranked-syntax F (h .1), tt))
 
-      pub ranked-syntaxes : (es : Expressions) → ExpressionsOver a es → RankedAll a (syntaxTrees es)
+      pub ranked-syntaxes : (es : Expressions) → ExpressionsOver a es → RankedAll (arity a) (syntaxTrees es)
       ranked-syntaxes noneᵉ h = tt
       ranked-syntaxes (moreᵉ E es) h = (ranked-syntax E (h .0), ranked-syntaxes es (h .1))
 
@@ -93,20 +93,20 @@ module _ (a : List ℕ) where
           all-append (isExpressionWord a) (expressionWords E) (postfixAll (syntaxTrees es)) (expression-words E (h .0)) (expressions-words es (h .1))
 
     pub expression-oneTree : (E : Expression) → ExpressionOver a E → oneTree a (expressionWords E) ≡ true
-    expression-oneTree E h = oneTree-tree a (syntaxTree E) (ranked-syntax E h)
+    expression-oneTree E h = oneTree-tree (arity a) (syntaxTree E) (ranked-syntax E h)
 
-    expression-tree : (e : List ℕ) (E : Expression) → ExpressionOf a e E → TreeOf a e (syntaxTree E)
+    expression-tree : (e : List ℕ) (E : Expression) → ExpressionOf a e E → TreeOf (arity a) e (syntaxTree E)
     expression-tree e E k = record { ranked = ranked-syntax E (k .over); words = k .words }
 
     -- and words that pass both are those of exactly one
     pub exactly-one-expression : (e : List ℕ) → all (isExpressionWord a) e ≡ true → oneTree a e ≡ true → ExactlyOne (ExpressionOf a e)
     exactly-one-expression e h o =
-        one-along treeExpression syntaxTree (expression-read e h) (expression-tree e) (λ E k. expression-back a m E (k .over)) (exactly-one-tree a e o)
+        one-along treeExpression syntaxTree (expression-read e h) (expression-tree e) (λ E k. expression-back a m E (k .over)) (exactly-one-tree (arity a) e o)
 
     -- which the reading of the words finds
     pub expression-of : (e : List ℕ) (E : Expression) → ExpressionOf a e E → expressionOf a e ≡ E
     unfolding expressionOf
     expression-of e E k =
         ap (λ (ws : List ℕ). getD (stackAfter a expressionOn ws []) 0 empty) (sym (k .words))
-        ∙ ap (λ (s : List Expression). getD s 0 empty) (stack-tree a expressionOn (syntaxTree E) [] (ranked-syntax E (k .over)))
+        ∙ ap (λ (s : List Expression). getD s 0 empty) (stack-tree (arity a) expressionOn (syntaxTree E) [] (ranked-syntax E (k .over)))
         ∙ expression-back a m E (k .over)

@@ -98,7 +98,7 @@ module _ (a : List ℕ) where
         go (closureWord e c r) = subst (Root w es) (sym e) (root-closure es (facts closureKind e) c (sym r ∙ n) o)
 
   mutual
-    pub tree-expression : (t : Tree) → Ranked a t → all (isExpressionWord a) (postfix t) ≡ true
+    pub tree-expression : (t : Tree) → Ranked (arity a) t → all (isExpressionWord a) (postfix t) ≡ true
         → ExpressionOver a (treeExpression t) × (syntaxTree (treeExpression t) ≡ t)
     tree-expression (node w ts) r h =
         let q = trees-expressions ts (r .1) (all-left (isExpressionWord a) (postfixAll ts) (w ∷ []) h) in
@@ -107,7 +107,7 @@ module _ (a : List ℕ) where
         let f = root w es (and-true (isExpressionWord a w) true (all-right (isExpressionWord a) (postfixAll ts) (w ∷ []) h) .0) n (q .0) in
         (f .over, f .tree ∙ ap (node w) (q .1))
 
-    pub trees-expressions : (ts : Trees) → RankedAll a ts → all (isExpressionWord a) (postfixAll ts) ≡ true
+    pub trees-expressions : (ts : Trees) → RankedAll (arity a) ts → all (isExpressionWord a) (postfixAll ts) ≡ true
         → ExpressionsOver a (childrenᵉ (treeExpressions ts)) × (syntaxTrees (childrenᵉ (treeExpressions ts)) ≡ ts)
     trees-expressions none r h = (tt, refl)
     trees-expressions (more t ts) r h =

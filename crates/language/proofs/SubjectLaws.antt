@@ -9,7 +9,7 @@ use lib.ListN.{length}
 use Rattle.words.specs.Lists.{all}
 use Rattle.words.specs.Word.{nodeKind, wordOf}
 use Rattle.words.specs.Tree.{Tree, Trees, node, none, more, postfix, postfixAll}
-use Rattle.words.specs.Postfix.{oneTree}
+use Rattle.words.specs.Postfix.{arity, oneTree}
 use Rattle.words.specs.Chapter.{symbolOf, isNode}
 use Rattle.language.specs.Expression.{treeWords, TreeOver, TreesOver, SubjectOf}
 use Rattle.words.proofs.RankedTree.{Ranked, RankedAll}
@@ -32,7 +32,7 @@ module _ (a : List ℕ) where
   -- ---- from words to symbols
 
   mutual
-    over-symbols : (t : Tree) → Ranked a t → all (isNode a) (postfix t) ≡ true → TreeOver a (symbolTree t)
+    over-symbols : (t : Tree) → Ranked (arity a) t → all (isNode a) (postfix t) ≡ true → TreeOver a (symbolTree t)
     over-symbols (node w ts) r h =
         let f = isNode-facts a w (and-true (isNode a w) true (all-right (isNode a) (postfixAll ts) (w ∷ []) h) .0) in (
           f .symbol,
@@ -40,7 +40,7 @@ module _ (a : List ℕ) where
           over-symbolsAll ts (r .1) (all-left (isNode a) (postfixAll ts) (w ∷ []) h),
         )
 
-    over-symbolsAll : (ts : Trees) → RankedAll a ts → all (isNode a) (postfixAll ts) ≡ true → TreesOver a (relabelAll symbolOf ts)
+    over-symbolsAll : (ts : Trees) → RankedAll (arity a) ts → all (isNode a) (postfixAll ts) ≡ true → TreesOver a (relabelAll symbolOf ts)
     over-symbolsAll none r h = tt
     over-symbolsAll (more t ts) r h = (
       over-symbols t (r .0) (all-left (isNode a) (postfix t) (postfixAll ts) h),
@@ -54,7 +54,7 @@ module _ (a : List ℕ) where
       let p = and-true (isNode a w) (all (isNode a) ws) h in
       ap₂ (λ (x : ℕ) (y : List ℕ). x ∷ y) (sym (isNode-facts a w (p .0) .word)) (words-symbols ws (p .1))
 
-  subject-read : (ch : List ℕ) → all (isNode a) ch ≡ true → (t : Tree) → TreeOf a ch t → SubjectOf a ch (symbolTree t)
+  subject-read : (ch : List ℕ) → all (isNode a) ch ≡ true → (t : Tree) → TreeOf (arity a) ch t → SubjectOf a ch (symbolTree t)
   subject-read ch h t k =
       record {
         over = over-symbols t (k .ranked) (rw (k .words) h);
@@ -65,12 +65,12 @@ module _ (a : List ℕ) where
 
   module _ (m : length a ≤ 64) where
     mutual
-      ranked-words : (t : Tree) → TreeOver a t → Ranked a (wordTree t)
+      ranked-words : (t : Tree) → TreeOver a t → Ranked (arity a) (wordTree t)
       ranked-words (node s ts) h =
           let l = h .0 in
           (arity-wordOf a nodeKind s (omega arith) ∙ h .1 ∙ sym (number-relabel (λ n. wordOf nodeKind n) ts), ranked-wordsAll ts (h .2))
 
-      ranked-wordsAll : (ts : Trees) → TreesOver a ts → RankedAll a (relabelAll (λ s. wordOf nodeKind s) ts)
+      ranked-wordsAll : (ts : Trees) → TreesOver a ts → RankedAll (arity a) (relabelAll (λ s. wordOf nodeKind s) ts)
       ranked-wordsAll none h = tt
       ranked-wordsAll (more t ts) h = (ranked-words t (h .0), ranked-wordsAll ts (h .1))
 
@@ -96,7 +96,7 @@ module _ (a : List ℕ) where
       symbols-backAll none h = refl
       symbols-backAll (more t ts) h = ap₂ more (symbols-back t (h .0)) (symbols-backAll ts (h .1))
 
-    pub subject-words : (ch : List ℕ) (t : Tree) → SubjectOf a ch t → TreeOf a ch (wordTree t)
+    pub subject-words : (ch : List ℕ) (t : Tree) → SubjectOf a ch t → TreeOf (arity a) ch (wordTree t)
     subject-words ch t k = record { ranked = ranked-words t (k .over); words = postfix-relabel (λ s. wordOf nodeKind s) t ∙ k .words }
 
     -- the words of a tree over the alphabet pass both tests
@@ -104,9 +104,9 @@ module _ (a : List ℕ) where
     subject-nodes t h = rw (postfix-relabel (λ s. wordOf nodeKind s) t) at (nodes-words t h)
 
     pub subject-oneTree : (t : Tree) → TreeOver a t → oneTree a (treeWords t) ≡ true
-    subject-oneTree t h = rw (postfix-relabel (λ s. wordOf nodeKind s) t) at (oneTree-tree a (wordTree t) (ranked-words t h))
+    subject-oneTree t h = rw (postfix-relabel (λ s. wordOf nodeKind s) t) at (oneTree-tree (arity a) (wordTree t) (ranked-words t h))
 
     -- and words that pass both are those of exactly one
     pub exactly-one-subject : (ch : List ℕ) → all (isNode a) ch ≡ true → oneTree a ch ≡ true → ExactlyOne (SubjectOf a ch)
     exactly-one-subject ch h o =
-        one-along symbolTree wordTree (subject-read ch h) (subject-words ch) (λ t k. symbols-back t (k .over)) (exactly-one-tree a ch o)
+        one-along symbolTree wordTree (subject-read ch h) (subject-words ch) (λ t k. symbols-back t (k .over)) (exactly-one-tree (arity a) ch o)

@@ -9,7 +9,7 @@ use lib.ListN.{length, getD, take, drop, take-append-drop}
 use Rattle.words.specs.Lists.{all}
 use Rattle.words.specs.Word.{nodeKind, wordOf}
 use Rattle.words.specs.Tree.{Tree, Trees, node, none, more}
-use Rattle.words.specs.Postfix.{oneTree, startOf, subtreeOf, values}
+use Rattle.words.specs.Postfix.{arity, oneTree, startOf, subtreeOf, values}
 use Rattle.words.specs.Chapter.{symbolOf, isNode}
 use Rattle.language.specs.Expression.{TreeOver, TreesOver, SubjectOf}
 use Rattle.words.proofs.TreeFold.{fold, foldAll}
@@ -29,7 +29,7 @@ subtree-nodes a ch i h =
 module _ (a : List ℕ) (m : length a ≤ 64) where
   pub exactly-one-subtree : (ch : List ℕ) (i : ℕ) → all (isNode a) ch ≡ true → oneTree a ch ≡ true → i < length ch
       → ExactlyOne (SubjectOf a (subtreeOf a ch i))
-  exactly-one-subtree ch i h o hi = exactly-one-subject a m (subtreeOf a ch i) (subtree-nodes a ch i h) (subtree-tree a ch i hi o)
+  exactly-one-subtree ch i h o hi = exactly-one-subject a m (subtreeOf a ch i) (subtree-nodes a ch i h) (subtree-tree (arity a) ch i hi o)
 
   module _ {A : Type 0} (g : ℕ → List A → A) where
     -- the same value of a word: it looks at the symbol
@@ -50,4 +50,4 @@ module _ (a : List ℕ) (m : length a ≤ 64) where
     pub value-subject : (ch : List ℕ) (i : ℕ) (d : A) (t : Tree) → i < length ch → SubjectOf a (subtreeOf a ch i) t
         → getD (values a (λ w rs. g (symbolOf w) rs) ch []) i d ≡ fold g t
     value-subject ch i d t hi k =
-        value-subtree a onWord ch i d (wordTree t) hi (subject-words a m (subtreeOf a ch i) t k) ∙ fold-words t (k .over)
+        value-subtree (arity a) onWord ch i d (wordTree t) hi (subject-words a m (subtreeOf a ch i) t k) ∙ fold-words t (k .over)

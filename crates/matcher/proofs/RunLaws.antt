@@ -7,7 +7,8 @@ use native.Mathlib.Nat.{zero-add}
 use lib.ListN.{length, take, drop, replicate, drop-of-length-le, length-replicate}
 use lib.Seq.{length-take-le, take-length}
 use Rattle.words.specs.Lists.{listFrom}
-use Rattle.words.specs.Postfix.{values, stackGiven}
+use Rattle.words.specs.Shape.{stackGivenBy}
+use Rattle.words.specs.Postfix.{values}
 use Rattle.words.proofs.ListLaws.{length-listFrom}
 use Rattle.automaton.specs.StateSet.{StateSet}
 use Rattle.words.specs.Answer.{refused, accepted}
@@ -48,7 +49,7 @@ tree-marked a table ch marks marks′ e = let z : length ch - 0 ≡ length ch = 
 -- the nodes one after the other leave what the definition says
 marked-run : (a table ch marks : List ℕ) → length ch * sizeOf table ≤ length marks
     → markedFrom a table ch 0 (length ch) marks ≡ runMarks a table ch marks
-unfolding runMarks nodeSets stackGiven
+unfolding runMarks nodeSets stackGivenBy
 marked-run a table ch marks h =
     let size = sizeOf table in
     let n = length ch in

@@ -7,6 +7,7 @@ use native.Mathlib.Omega.{arith}
 use native.Mathlib.Nat.{add-zero, add-suc}
 use lib.ListN.{length, getD, take, drop, set, length-append, take-append-drop}
 use lib.Seq.{slice, slice-empty, length-slice, take-suc, drop-cons, drop-append-le, length-take-le, set-at, getD-set-same}
+use Rattle.words.specs.Shape.{valuesBy, stackAfterBy}
 use Rattle.words.specs.Postfix.{arity, valueOn, values, stackAfter, childrenOf}
 use Rattle.words.proofs.ListLaws.{map-drop, map-set-below}
 use Rattle.words.proofs.StackLaws.{values-append, stack-append, length-values}
@@ -27,47 +28,47 @@ module _ (a table ch : List ℕ) where
   step = nodeSet table
 
   -- the sets that the stack names are the stack of sets
-  pub set-of : (i : ℕ) (sets stack : List StateSet) → map (setAt sets) (numbers a ch i) ≡ stack → setFrom i sets ≡ valueOn a step (getD ch i 0) stack
+  pub set-of : (i : ℕ) (sets stack : List StateSet) → map (setAt sets) (numbers (arity a) ch i) ≡ stack → setFrom i sets ≡ valueOn a step (getD ch i 0) stack
   unfolding setFrom
-  set-of i sets stack e = children-value a ch step (setAt sets) i stack e
+  set-of i sets stack e = children-value (arity a) ch step (setAt sets) i stack e
 
   -- one node more on the stack, its set just written
-  pub stack-push : (i : ℕ) (sets stack : List StateSet) (v : StateSet) → i < length ch → i < length sets → map (setAt sets) (numbers a ch i) ≡ stack
-      → map (setAt (set sets i v)) (numbers a ch (suc i)) ≡ v ∷ drop (arity a (getD ch i 0)) stack
+  pub stack-push : (i : ℕ) (sets stack : List StateSet) (v : StateSet) → i < length ch → i < length sets → map (setAt sets) (numbers (arity a) ch i) ≡ stack
+      → map (setAt (set sets i v)) (numbers (arity a) ch (suc i)) ≡ v ∷ drop (arity a (getD ch i 0)) stack
   stack-push i sets stack v h l e =
       let k = arity a (getD ch i 0) in
-      ap (map (setAt (set sets i v))) (numbers-more a ch i h)
+      ap (map (setAt (set sets i v))) (numbers-more (arity a) ch i h)
       ∙ ap₂ (λ (x : StateSet) (y : List StateSet). x ∷ y) (getD-set-same sets i v [] l)
-      (map-drop (setAt (set sets i v)) k (numbers a ch i) ∙ ap (drop k) (map-set-below sets i v [] (numbers a ch i) (numbers-below a ch i (omega arith)) ∙ e))
+      (map-drop (setAt (set sets i v)) k (numbers (arity a) ch i) ∙ ap (drop k) (map-set-below sets i v [] (numbers (arity a) ch i) (numbers-below (arity a) ch i (omega arith)) ∙ e))
 
   -- one node more on the stack, its set as it stands
-  pub stack-pass : (i : ℕ) (sets stack : List StateSet) → i < length ch → map (setAt sets) (numbers a ch i) ≡ stack
-      → map (setAt sets) (numbers a ch (suc i)) ≡ setAt sets i ∷ drop (arity a (getD ch i 0)) stack
+  pub stack-pass : (i : ℕ) (sets stack : List StateSet) → i < length ch → map (setAt sets) (numbers (arity a) ch i) ≡ stack
+      → map (setAt sets) (numbers (arity a) ch (suc i)) ≡ setAt sets i ∷ drop (arity a (getD ch i 0)) stack
   stack-pass i sets stack h e =
       let k = arity a (getD ch i 0) in
-      ap (map (setAt sets)) (numbers-more a ch i h)
-      ∙ ap (λ (y : List StateSet). setAt sets i ∷ y) (map-drop (setAt sets) k (numbers a ch i) ∙ ap (drop k) e)
+      ap (map (setAt sets)) (numbers-more (arity a) ch i h)
+      ∙ ap (λ (y : List StateSet). setAt sets i ∷ y) (map-drop (setAt sets) k (numbers (arity a) ch i) ∙ ap (drop k) e)
 
   -- ---- nodes from i on, one after the other
 
   -- after k nodes from i on, over the sets `old` and the stack σ
   pub record Recomputing (old : List StateSet) (i : ℕ) (σ : List StateSet) (k : ℕ) (sets : List StateSet) : Type 0 where
     pub sets-are : sets ≡ take i old ++ values a step (slice i (i + k) ch) σ ++ drop (i + k) old
-    pub stack-is : map (setAt sets) (numbers a ch (i + k)) ≡ stackAfter a step (slice i (i + k) ch) σ
+    pub stack-is : map (setAt sets) (numbers (arity a) ch (i + k)) ≡ stackAfter a step (slice i (i + k) ch) σ
 
   module _ (old : List StateSet) (i : ℕ) (σ : List StateSet) where
-    pub recomputing-none : map (setAt old) (numbers a ch i) ≡ σ → Recomputing old i σ 0 old
-    unfolding values stackAfter
+    pub recomputing-none : map (setAt old) (numbers (arity a) ch i) ≡ σ → Recomputing old i σ 0 old
+    unfolding valuesBy stackAfterBy
     recomputing-none e =
         let z : slice i (i + 0) ch ≡ [] = ap (λ (j : ℕ). slice i j ch) (add-zero i) ∙ slice-empty i ch in
         record {
           sets-are = rw (z, add-zero i, append-nil (take i old)) (sym (take-append-drop i old));
-          stack-is = ap (λ (j : ℕ). map (setAt old) (numbers a ch j)) (add-zero i) ∙ e ∙ ap (λ (l : List ℕ). stackAfter a step l σ) (sym z);
+          stack-is = ap (λ (j : ℕ). map (setAt old) (numbers (arity a) ch j)) (add-zero i) ∙ e ∙ ap (λ (l : List ℕ). stackAfter a step l σ) (sym z);
         }
 
     pub recomputing-more : (k : ℕ) (sets : List StateSet) → i + k < length ch → i + k < length old → length sets ≡ length old → Recomputing old i σ k sets
         → Recomputing old i σ (suc k) (set sets (i + k) (setFrom (i + k) sets))
-    unfolding values stackAfter
+    unfolding valuesBy stackAfterBy
     recomputing-more k sets h l n g =
         let w = getD ch (i + k) 0 in
         let run = slice i (i + k) ch in
@@ -80,7 +81,7 @@ module _ (a table ch : List ℕ) where
         let head = take i old ++ values a step run σ in
         let m : length head ≡ i + k =
         length-append (take i old) (values a step run σ)
-        ∙ ap₂ (λ (x y : ℕ). x + y) (length-take-le i old (omega arith)) (length-values a step run σ ∙ length-slice i (i + k) ch (omega arith)) ∙ omega arith in
+        ∙ ap₂ (λ (x y : ℕ). x + y) (length-take-le i old (omega arith)) (length-values (arity a) step run σ ∙ length-slice i (i + k) ch (omega arith)) ∙ omega arith in
         record {
           sets-are =
               ap (λ (r : List StateSet). set r (i + k) v) (g .sets-are ∙ ap (λ (r : List StateSet). head ++ r) (drop-cons old (i + k) [] l))
@@ -88,11 +89,11 @@ module _ (a table ch : List ℕ) where
               ∙ ap₂ (λ (x : StateSet) (j : ℕ). head ++ x ∷ drop j old) e (sym (add-suc i k))
               ∙ sym
               (ap (λ (r : List ℕ). take i old ++ values a step r σ ++ drop (i + suc k) old) one
-              ∙ ap (λ (r : List StateSet). take i old ++ r ++ drop (i + suc k) old) (values-append a step run (w ∷ []) σ)
+              ∙ ap (λ (r : List StateSet). take i old ++ r ++ drop (i + suc k) old) (values-append (arity a) step run (w ∷ []) σ)
               ∙ simp append-assoc);
           stack-is =
-              ap (λ (j : ℕ). map (setAt (set sets (i + k) v)) (numbers a ch j)) (add-suc i k)
+              ap (λ (j : ℕ). map (setAt (set sets (i + k) v)) (numbers (arity a) ch j)) (add-suc i k)
               ∙ stack-push (i + k) sets st v h (omega arith) (g .stack-is)
               ∙ ap (λ (x : StateSet). x ∷ drop (arity a w) st) e
-              ∙ sym (ap (λ (r : List ℕ). stackAfter a step r σ) one ∙ stack-append a step run (w ∷ []) σ);
+              ∙ sym (ap (λ (r : List ℕ). stackAfter a step r σ) one ∙ stack-append (arity a) step run (w ∷ []) σ);
         }

@@ -8,6 +8,7 @@ use lib.ListN.{length, getD, take, drop, set, replicate, length-drop}
 use lib.Seq.{paste, length-take-le, drop-drop, drop-append-add}
 use Rattle.words.specs.Alphabet.{rankOf}
 use Rattle.words.specs.Chapter.{symbolOf}
+use Rattle.words.specs.Shape.{childrenOfBy}
 use Rattle.words.specs.Postfix.{arity, childrenOf}
 use Rattle.words.proofs.ListLaws.{below-drop, map-drop}
 use Rattle.automaton.specs.Table.{AllBelow}
@@ -116,7 +117,7 @@ module _ {a table index ch : List ℕ} {i : ℕ} {marks array : List ℕ} {heigh
       ap length part-is ∙ length-drop (length nodes - r) nodes ∙ omega arith
 
   part-same : map (storedSet (sizeOf table) marks) (drop (4 - r) four) ≡ map (storedSet (sizeOf table) marks) (childrenOf a ch i)
-  unfolding childrenOf
+  unfolding childrenOfBy
   part-same =
       ap (map stored) part-is ∙ map-drop stored (length nodes - r) nodes ∙ ap (drop (length nodes - r)) (g .prepared .represented .same)
       ∙ sym (map-drop stored (length nodes - r) (reverse roots))

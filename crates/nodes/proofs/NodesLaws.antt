@@ -4,7 +4,7 @@ use mathlib.Core.List.{List, reverse}
 use Prim.Native.Nat.{ℕ, suc, _+_, _-_, _<_, _≤_}
 use native.Mathlib.Omega.{arith}
 use lib.ListN.{length, replicate}
-use Rattle.words.specs.Postfix.{stackGiven}
+use Rattle.words.specs.Shape.{stackGivenBy}
 use Rattle.memo.proofs.MemoLaws.{nothing-remembered}
 use Rattle.nodes.specs.Nodes.{rootsOf, Held, markedAt, markedFrom}
 use Rattle.nodes.specs.Marking.{Prepared, AtNode, AtNodes}
@@ -64,5 +64,5 @@ nothing-prepared {table = table} {marks = marks} {i = i} l h g = record { repres
 
 -- the stack before the first node
 pub held-none : (a ch : List ℕ) → Held (replicate 4100 0) 4 (reverse (rootsOf a ch 0))
-unfolding stackGiven
+unfolding stackGivenBy
 held-none a ch = record { words = refl; height-is = refl }

@@ -10,7 +10,8 @@ use lib.ListN.{length, getD, take, drop, set, length-drop, length-reverse, take-
 use lib.Seq.{slice, split-at, take-at, drop-at, take-take, take-suc-set, length-take-le}
 use lib.Dec.{leb}
 use borrow.Author.Tests.{leb-true}
-use Rattle.words.specs.Postfix.{arity, trees, oneTree, stackGiven, childrenOf}
+use Rattle.words.specs.Shape.{treesBy, stackGivenBy, childrenOfBy}
+use Rattle.words.specs.Postfix.{arity, trees, oneTree, childrenOf}
 use Rattle.words.proofs.TestLaws.{picked}
 use Rattle.words.proofs.PostfixLaws.{trees-split}
 use Rattle.words.proofs.ListLaws.{Below}
@@ -53,31 +54,31 @@ below-getD n (x ∷ l) (suc k) h m = below-getD n l k (h .1) (omega arith)
 module _ (a ch : List ℕ) where
   -- no node lacks children
   pub arity-fits : (i : ℕ) → oneTree a ch ≡ true → i < length ch → arity a (getD ch i 0) ≤ length (rootsOf a ch i)
-  unfolding trees
+  unfolding treesBy
   arity-fits i h l =
       let w = getD ch i 0 in
-      let p = trees-split a (take i ch) (w ∷ drop (suc i) ch) 0 1 (subst (λ (t : List ℕ). trees a 0 t 1 ≡ true) (split-at ch i 0 l) h) in
+      let p = trees-split (arity a) (take i ch) (w ∷ drop (suc i) ch) 0 1 (subst (λ (t : List ℕ). trees a 0 t 1 ≡ true) (split-at ch i 0 l) h) in
       let q = picked (leb (arity a w) (p .0)) (trees a (p .0 - arity a w + 1) (drop (suc i) ch) 1) (p .2) in
-      rw (given-height a (λ k. k) (take i ch) 0 [] (p .0) (p .1)) (leb-true (arity a w) (p .0) (q .0))
+      rw (given-height (arity a) (λ k. k) (take i ch) 0 [] (p .0) (p .1)) (leb-true (arity a w) (p .0) (q .0))
 
   -- no more roots than nodes
   pub roots-few : (j : ℕ) → j ≤ length ch → length (rootsOf a ch j) ≤ j
-  unfolding stackGiven
+  unfolding stackGivenBy
   roots-few zero h = omega arith
   roots-few (suc j) h =
       let r = arity a (getD ch j 0) in
       let ih = roots-few j (omega arith) in
-      rw (numbers-more a ch j h) (omega (arith, length-drop r (rootsOf a ch j)))
+      rw (numbers-more (arity a) ch j h) (omega (arith, length-drop r (rootsOf a ch j)))
 
   pub length-children : (i : ℕ) → oneTree a ch ≡ true → i < length ch → length (childrenOf a ch i) ≡ arity a (getD ch i 0)
-  unfolding childrenOf
+  unfolding childrenOfBy
   length-children i h l =
       let r = arity a (getD ch i 0) in
       length-reverse (take r (rootsOf a ch i)) ∙ length-take-le r (rootsOf a ch i) (arity-fits i h l)
 
   -- children are earlier nodes
   pub children-below : (i : ℕ) → i ≤ length ch → Below i (childrenOf a ch i)
-  unfolding childrenOf
+  unfolding childrenOfBy
   children-below i h =
       below-reverse i (take (arity a (getD ch i 0)) (rootsOf a ch i)) []
-      (below-take i (arity a (getD ch i 0)) (rootsOf a ch i) (numbers-below a ch i h)) tt
+      (below-take i (arity a (getD ch i 0)) (rootsOf a ch i) (numbers-below (arity a) ch i h)) tt

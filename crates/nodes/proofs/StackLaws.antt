@@ -8,7 +8,8 @@ use lib.ListN.{length, getD, take, drop, set, replicate, length-append, length-d
 use lib.Seq.{length-take-le, take-take, take-suc-set, take-append-add}
 use Rattle.words.specs.Alphabet.{rankOf}
 use Rattle.words.specs.Chapter.{symbolOf}
-use Rattle.words.specs.Postfix.{arity, stackGiven}
+use Rattle.words.specs.Shape.{stackGivenBy}
+use Rattle.words.specs.Postfix.{arity}
 use Rattle.words.proofs.ListLaws.{below-more, map-append, map-take, map-below}
 use Rattle.words.proofs.ChildLaws.{numbers-more, numbers-below}
 use Rattle.automaton.specs.Table.{AllBelow}
@@ -45,7 +46,7 @@ module _ (a ch : List ℕ) (tree : TreeOver a ch) (i : ℕ) (inside : i < length
 
   -- node i in the place of its children
   pub roots-next : rootsOf a ch (i + 1) ≡ i ∷ drop r (rootsOf a ch i)
-  roots-next = ap (rootsOf a ch) (add-one i) ∙ numbers-more a ch i inside ∙ ap (λ (k : ℕ). i ∷ drop k (rootsOf a ch i)) (sym arity-is)
+  roots-next = ap (rootsOf a ch) (add-one i) ∙ numbers-more (arity a) ch i inside ∙ ap (λ (k : ℕ). i ∷ drop k (rootsOf a ch i)) (sym arity-is)
 
 -- ---- representatives
 
@@ -62,7 +63,7 @@ represent-roots {a} {table} {ch} {marks} {array} {i} l h g =
       held = g;
       long = l;
       count = length-reverse (rootsOf a ch i);
-      below = below-reverse i (rootsOf a ch i) [] (numbers-below a ch i h) tt;
+      below = below-reverse i (rootsOf a ch i) [] (numbers-below (arity a) ch i h) tt;
       same = refl;
     }
 
@@ -105,7 +106,7 @@ module _ {a table ch : List ℕ} {i : ℕ} {marks array : List ℕ} {height : �
     same : map (storedSet (sizeOf table) marks′) (g .nodes) ≡ map (storedSet (sizeOf table) marks′) (reverse (rootsOf a ch i))
     same =
         map-below stored (storedSet (sizeOf table) marks) i nodes (g .below) kept ∙ g .same
-        ∙ sym (map-below stored (storedSet (sizeOf table) marks) i (reverse roots) (below-reverse i roots [] (numbers-below a ch i (omega arith)) tt) kept)
+        ∙ sym (map-below stored (storedSet (sizeOf table) marks) i (reverse roots) (below-reverse i roots [] (numbers-below (arity a) ch i (omega arith)) tt) kept)
 
     same-left : map (storedSet (sizeOf table) marks′) left ≡ map (storedSet (sizeOf table) marks′) (reverse (drop r (rootsOf a ch i)))
     same-left =
@@ -137,7 +138,7 @@ pub record Stacking (a ch array : List ℕ) (height count i : ℕ) : Type 0 wher
   pub held : Held array height (reverse (rootsOf a ch i))
 
 pub stacking-none : {a ch : List ℕ} {count : ℕ} {array : List ℕ} → Stackable a ch count array → Stacking a ch array 4 count 0
-unfolding stackGiven
+unfolding stackGivenBy
 stacking-none g = record { high = omega arith; long = g .long; held = record { words = g .zeros; height-is = refl } }
 
 module _ {a ch : List ℕ} {count : ℕ} {array₀ : List ℕ} (pre : Stackable a ch count array₀) {array : List ℕ} {height i : ℕ} (g : Stacking a ch array height count i) where

@@ -11,7 +11,7 @@ use borrow.Author.Tests.{not-false}
 use Rattle.words.specs.Tree.{Tree}
 use Rattle.words.specs.Alphabet.{noAlphabet}
 use Rattle.words.specs.Chapter.{symbolOf}
-use Rattle.words.specs.Postfix.{subtreeOf, childrenOf}
+use Rattle.words.specs.Postfix.{arity, subtreeOf, childrenOf}
 use Rattle.words.proofs.AlphabetLaws.{alphabet-most}
 use Rattle.words.specs.ExactlyOne.{ExactlyOne}
 use Rattle.words.proofs.ChildLaws.{values-children}
@@ -78,7 +78,7 @@ module _ (a table ch marks : List ℕ) (n cells : ℕ) (h : runAnswer a table ch
   abbrev set : ℕ → StateSet
   set i = storedSet (sizeOf table) (runExit a table ch marks) i
 
-  set-right : Right a (nodeSet table) set 0 ch []
+  set-right : Right (arity a) (nodeSet table) set 0 ch []
   set-right =
       stored-right a table ch (runExit a table ch marks)
       (ap (take (length ch * sizeOf table)) (run-exit a table ch marks fine) ∙ run-writes a table ch marks)
@@ -95,7 +95,7 @@ module _ (a table ch marks : List ℕ) (n cells : ℕ) (h : runAnswer a table ch
   run-marked = record {
     sets = λ i l.
         let rs = map set (childrenOf a ch i) in
-        subst (ReachedSet table (symbolOf (getD ch i 0)) rs) (sym (values-children a ch (nodeSet table) set set-right i l))
+        subst (ReachedSet table (symbolOf (getD ch i 0)) rs) (sym (values-children (arity a) ch (nodeSet table) set set-right i l))
         (nodeSet-reached a table (run .alphabet) (run .automaton) (getD ch i 0) rs);
     subtrees = λ i l. exactly-one-subtree a few ch i (run .nodes) (run .tree) l;
     reaches = λ i t l k q.

@@ -6,7 +6,8 @@ use mathlib.Core.List.{List, [], _∷_}
 use lib.ListN.{replicate}
 use Rattle.words.specs.Word.{kindAt, spareBitsClear, isOf}
 use Rattle.words.specs.Alphabet.{isEntry, rankOf, isConstant, constantsFrom, constantsOf, noAlphabet, wrongConstants}
-use Rattle.words.specs.Postfix.{arity, trees, notOneTree, startFrom, splice}
+use Rattle.words.specs.Shape.{treesBy, startFromBy, spliceBy}
+use Rattle.words.specs.Postfix.{arity, notOneTree}
 use Rattle.words.specs.Expression.{isExpressionWord, wrongLength, notExpressionWords}
 use Rattle.words.specs.Chapter.{isNode, notNodes}
 use Rattle.automaton.specs.Transition.{automatonOf}
@@ -93,7 +94,7 @@ calls =
     ∷ []
 
 pub attained : Refuse calls
-unfolding kindAt spareBitsClear isOf isEntry rankOf isConstant constantsFrom constantsOf noAlphabet wrongConstants arity trees notOneTree startFrom splice
+unfolding kindAt spareBitsClear isOf isEntry rankOf isConstant constantsFrom constantsOf noAlphabet wrongConstants arity treesBy notOneTree startFromBy spliceBy
     isExpressionWord wrongLength notExpressionWords isNode notNodes automatonOf hasEntries statesOf portOf ownTransitions portsFrom statesAfter transitionsFrom
     compiled isHead isTableWord sourcesLeft areTransitions isTable noTable sizeFor tooManyStates tableTooLong compileAnswer sizeOf wrongCount marksTooShort
     runAnswer listTooShort listAnswer wrongUsedCount noElement noReplacement resultTooLong fault exchangeAnswer

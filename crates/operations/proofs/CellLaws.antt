@@ -6,6 +6,7 @@ use native.Mathlib.Omega.{arith}
 use native.Mathlib.Nat.{zero-add, add-assoc, suc-mul}
 use lib.ListN.{length, drop}
 use lib.Count.{ones, ones-le}
+use Rattle.words.specs.Shape.{valueOnBy, valuesBy}
 use Rattle.words.specs.Postfix.{arity, valueOn, values}
 use Rattle.automaton.specs.StateSet.{StateSet}
 use Rattle.automaton.specs.Transition.{automatonOf}
@@ -35,7 +36,7 @@ module _ (a table : List ℕ) where
   words-nodeSet w rs = words-stateSet (automatonOf table) _ rs
 
   cells-values : (ws : List ℕ) (stack : List StateSet) → cellsIn (flatten (values a (nodeSet table) ws stack)) ≤ 32 * (length ws * sizeOf table)
-  unfolding values valueOn flatten cellsIn
+  unfolding valuesBy valueOnBy flatten cellsIn
   cells-values [] stack = omega arith
   cells-values (w ∷ ws) stack =
       let set = valueOn a (nodeSet table) w stack in

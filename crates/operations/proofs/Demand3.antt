@@ -11,7 +11,8 @@ use lib.Dec.{eqb}
 use borrow.Author.Tests.{eqb-true}
 use Rattle.words.specs.Lists.{all}
 use Rattle.words.specs.Chapter.{isNode}
-use Rattle.words.specs.Postfix.{startOf, splice}
+use Rattle.words.specs.Shape.{spliceBy}
+use Rattle.words.specs.Postfix.{arity, startOf, splice}
 use Rattle.words.proofs.TestLaws.{Tested, holds, fails, tested, all-left, all-right, all-append}
 use Rattle.words.proofs.PostfixLaws.{splice-tree}
 use Rattle.automaton.specs.StateSet.{StateSet}
@@ -45,7 +46,7 @@ module _ (a table : List ℕ) (treeRoom marksRoom : ℕ) where
 
   -- the new tree passes Run's checks
   run-spliced : (p : List ℕ) (c : Call) → Accepted p c → runFault a table (splice a p (c .element) (c .replacement)) marksRoom ≡ 0
-  unfolding splice
+  unfolding spliceBy
   run-spliced p c k =
       accepted-run a table (splice a p e xs) marksRoom
       (record {
@@ -54,7 +55,7 @@ module _ (a table : List ℕ) (treeRoom marksRoom : ℕ) where
         automaton = k .automaton;
         counted = record { some = some; few = k .fits .few };
         nodes = nodes;
-        tree = splice-tree a p e (k .tree) (k .element) xs (k .replacement .tree);
+        tree = splice-tree (arity a) p e (k .tree) (k .element) xs (k .replacement .tree);
         marks = k .fits .marks;
       })
     where

@@ -9,7 +9,8 @@ use lib.ListN.{length, getD, replicate, set}
 use lib.Count.{ones, onesIn}
 use Rattle.words.specs.Word.{kindAt, spareBitsClear, isOf}
 use Rattle.words.specs.Alphabet.{isEntry, rankOf, isConstant, constantsFrom, constantsOf, noAlphabet, wrongConstants}
-use Rattle.words.specs.Postfix.{arity, trees, notOneTree, startFrom, startOf, isAncestor, splice, valueOn, values, stackAfter, stackGiven}
+use Rattle.words.specs.Shape.{treesBy, startFromBy, isAncestorBy, spliceBy, valueOnBy, valuesBy, stackAfterBy, stackGivenBy}
+use Rattle.words.specs.Postfix.{arity, notOneTree, startOf}
 use Rattle.words.specs.Expression.{isExpressionWord, wrongLength, notExpressionWords}
 use Rattle.words.specs.Chapter.{symbolOf, isNode, notNodes}
 use Rattle.words.specs.Tree.{Tree}
@@ -212,11 +213,11 @@ unfolding ones onesIn
 two-cells = refl
 
 pub examples : AllHold rows
-unfolding kindAt spareBitsClear isOf isEntry rankOf isConstant constantsFrom constantsOf noAlphabet wrongConstants arity trees
+unfolding kindAt spareBitsClear isOf isEntry rankOf isConstant constantsFrom constantsOf noAlphabet wrongConstants arity treesBy
     notOneTree isExpressionWord wrongLength notExpressionWords hasEntries statesOf portOf ownTransitions portsFrom statesAfter transitionsFrom compiled
     tooManyStates tableTooLong flatMap flatten isNode notNodes isHead isTableWord sourcesLeft areTransitions isTable noTable wrongCount marksTooShort transitionsAt
-    automatonOf sizeFor contains insert allContained symbolPass epsilonPass epsilonClosure stateSet sizeOf finalOf nodeSet nodeSets values valueOn runMarks cellsIn runAnswer runExit storedSet startFrom
-    matchesIn matchesOf splice isAncestor stackAfter stackGiven sameWords refit wrongUsedCount noElement noReplacement resultTooLong recomputedIn propagate rootSet
+    automatonOf sizeFor contains insert allContained symbolPass epsilonPass epsilonClosure stateSet sizeOf finalOf nodeSet nodeSets valuesBy valueOnBy runMarks cellsIn runAnswer runExit storedSet startFromBy
+    matchesIn matchesOf spliceBy isAncestorBy stackAfterBy stackGivenBy sameWords refit wrongUsedCount noElement noReplacement resultTooLong recomputedIn propagate rootSet
     outcomesBehind outcomesAfter fault newTree outcomes exchangeAnswer exchangeChapter exchangeMarks
 examples = (
   record { compiles = refl; stateCount = refl; wordCount = refl; headIs = refl; runs = refl; hits = refl },

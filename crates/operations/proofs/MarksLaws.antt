@@ -10,6 +10,7 @@ use lib.Seq.{take-at, drop-at, drop-drop, take-append-seam, length-take-le}
 use lib.Dec.{eqb}
 use borrow.Author.Tests.{eqb-true, eq-eqb}
 use Rattle.words.specs.Lists.{listFrom}
+use Rattle.words.specs.Shape.{valueOnBy, valuesBy}
 use Rattle.words.specs.Postfix.{arity, valueOn, values}
 use Rattle.words.proofs.TestLaws.{and-true, true-and}
 use Rattle.words.proofs.ListLaws.{listFrom-shift}
@@ -30,7 +31,7 @@ Sized size (r ∷ rs) = (length r ≡ size) × Sized size rs
 
 module _ (a table : List ℕ) where
   sized-values : (ws : List ℕ) (s : List StateSet) → Sized (sizeOf table) (values a (nodeSet table) ws s)
-  unfolding values valueOn
+  unfolding valuesBy valueOnBy
   sized-values [] s = tt
   sized-values (w ∷ ws) s = (length-nodeSet table w _, sized-values ws (valueOn a (nodeSet table) w s ∷ drop (arity a w) s))
 
@@ -40,7 +41,7 @@ module _ (a table : List ℕ) where
 
   pub length-nodeSets : (ws : List ℕ) → length (nodeSets a table ws) ≡ length ws
   unfolding nodeSets
-  length-nodeSets ws = length-values a (nodeSet table) ws []
+  length-nodeSets ws = length-values (arity a) (nodeSet table) ws []
 
 -- ---- state sets one behind the other
 
@@ -104,9 +105,9 @@ module _ (a table p marks : List ℕ) (h : take (length p * sizeOf table) marks 
       ap₂ (λ (l : List ℕ) (i : ℕ). listFrom (storedSet (sizeOf table) l) 0 i) u (sym (length-nodeSets a table p))
       ∙ storedSets-flatten (sizeOf table) (nodeSets a table p) (drop k marks) (sized-nodeSets a table p)
 
-  pub stored-right : Right a (nodeSet table) (storedSet (sizeOf table) marks) 0 p []
+  pub stored-right : Right (arity a) (nodeSet table) (storedSet (sizeOf table) marks) 0 p []
   unfolding nodeSets
-  stored-right = list-right a (nodeSet table) (storedSet (sizeOf table) marks) p 0 [] stored-nodeSets
+  stored-right = list-right (arity a) (nodeSet table) (storedSet (sizeOf table) marks) p 0 [] stored-nodeSets
 
 -- ---- "compared as whole words"
 

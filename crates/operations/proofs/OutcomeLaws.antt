@@ -9,7 +9,8 @@ use native.Mathlib.Numerals.{add-one}
 use lib.ListN.{length, getD, take, drop, take-append-drop}
 use lib.Seq.{take-suc, length-take-le}
 use Rattle.words.specs.Lists.{listFrom}
-use Rattle.words.specs.Postfix.{oneTree, startOf, splice, values, stackAfter}
+use Rattle.words.specs.Shape.{spliceBy}
+use Rattle.words.specs.Postfix.{arity, oneTree, startOf, splice, values, stackAfter}
 use Rattle.words.proofs.TestLaws.{Tested, holds, fails, tested}
 use Rattle.words.proofs.ListLaws.{map-append}
 use Rattle.words.proofs.PostfixLaws.{start-le, front-sub, sub-tree}
@@ -26,13 +27,13 @@ sets-recomputed [] = refl
 sets-recomputed (r ∷ rs) = ap (λ (t : List StateSet). r ∷ t) (sets-recomputed rs)
 
 -- the only state set that is left on the stack behind a tree
-pub root-read : (a table xs : List ℕ) (h : oneTree a xs ≡ true) → rootSet a table xs ≡ read a (nodeSet table) xs h .root
+pub root-read : (a table xs : List ℕ) (h : oneTree a xs ≡ true) → rootSet a table xs ≡ read (arity a) (nodeSet table) xs h .root
 unfolding rootSet
-root-read a table xs h = ap (λ (l : List StateSet). getD l 0 []) (read a (nodeSet table) xs h .alone)
+root-read a table xs h = ap (λ (l : List StateSet). getD l 0 []) (read (arity a) (nodeSet table) xs h .alone)
 
 module _ (a table : List ℕ) (stored : ℕ → StateSet) (used : List ℕ) (e : ℕ) (xs : List ℕ)
     (h : oneTree a used ≡ true) (he : e < length used) (hx : oneTree a xs ≡ true)
-    (right : Right a (nodeSet table) stored 0 used []) where
+    (right : Right (arity a) (nodeSet table) stored 0 used []) where
   abbrev rule : ℕ → List StateSet → StateSet
   rule = nodeSet table
 
@@ -48,45 +49,45 @@ module _ (a table : List ℕ) (stored : ℕ → StateSet) (used : List ℕ) (e :
   σ : List StateSet
   σ = stackAfter a rule front []
 
-  new-tree : Read a rule xs
-  new-tree = read a rule xs hx
+  new-tree : Read (arity a) rule xs
+  new-tree = read (arity a) rule xs hx
 
-  old-tree : Read a rule old
+  old-tree : Read (arity a) rule old
   unfolding old
-  old-tree = read a rule old (sub-tree a used e h he)
+  old-tree = read (arity a) rule old (sub-tree (arity a) used e h he)
 
   -- the stack behind the old subtree
   stack-old : stackAfter a rule (take (e + 1) used) [] ≡ old-tree .root ∷ σ
   unfolding old front σ
   stack-old =
-      ap (λ (l : List ℕ). stackAfter a rule l []) (sym (front-sub a used e h he))
-      ∙ stack-append a rule front old [] ∙ old-tree .stack-on σ
+      ap (λ (l : List ℕ). stackAfter a rule l []) (sym (front-sub (arity a) used e h he))
+      ∙ stack-append (arity a) rule front old [] ∙ old-tree .stack-on σ
 
-  right-front : Right a rule stored 0 front []
+  right-front : Right (arity a) rule stored 0 front []
   unfolding front
   right-front =
-      right-left a rule stored front (drop (startOf a used e) used) 0 []
-      (subst (λ (l : List ℕ). Right a rule stored 0 l []) (sym (take-append-drop (startOf a used e) used)) right)
+      right-left (arity a) rule stored front (drop (startOf a used e) used) 0 []
+      (subst (λ (l : List ℕ). Right (arity a) rule stored 0 l []) (sym (take-append-drop (startOf a used e) used)) right)
 
-  right-taken : Right a rule stored 0 (take (e + 1) used ++ drop (e + 1) used) []
-  right-taken = subst (λ (l : List ℕ). Right a rule stored 0 l []) (sym (take-append-drop (e + 1) used)) right
+  right-taken : Right (arity a) rule stored 0 (take (e + 1) used ++ drop (e + 1) used) []
+  right-taken = subst (λ (l : List ℕ). Right (arity a) rule stored 0 l []) (sym (take-append-drop (e + 1) used)) right
 
-  right-behind : Right a rule stored (e + 1) behind (old-tree .root ∷ σ)
+  right-behind : Right (arity a) rule stored (e + 1) behind (old-tree .root ∷ σ)
   unfolding behind
   right-behind =
       let n : 0 + length (take (e + 1) used) ≡ e + 1 = zero-add _ ∙ length-take-le (e + 1) used (omega arith) in
-      subst (λ (t : List StateSet). Right a rule stored (e + 1) behind t) stack-old
-      (subst (λ (i : ℕ). Right a rule stored i behind (stackAfter a rule (take (e + 1) used) [])) n
-      (right-right a rule stored (take (e + 1) used) behind 0 [] right-taken))
+      subst (λ (t : List StateSet). Right (arity a) rule stored (e + 1) behind t) stack-old
+      (subst (λ (i : ℕ). Right (arity a) rule stored i behind (stackAfter a rule (take (e + 1) used) [])) n
+      (right-right (arity a) rule stored (take (e + 1) used) behind 0 [] right-taken))
 
   right-node : stored e ≡ old-tree .root
   right-node =
       let u : take (e + 1) used ≡ take e used ++ getD used e 0 ∷ [] = ap (λ (i : ℕ). take i used) (add-one e) ∙ take-suc used e 0 he in
       let n : 0 + length (take e used) ≡ e = zero-add _ ∙ length-take-le e used (omega arith) in
-      let r = right-left a rule stored (take (e + 1) used) (drop (e + 1) used) 0 [] right-taken in
+      let r = right-left (arity a) rule stored (take (e + 1) used) (drop (e + 1) used) 0 [] right-taken in
       ap stored (sym n)
-      ∙ right-last a rule stored (take e used) (getD used e 0) 0 [] σ (old-tree .root)
-      (subst (λ (l : List ℕ). Right a rule stored 0 l []) u r)
+      ∙ right-last (arity a) rule stored (take e used) (getD used e 0) 0 [] σ (old-tree .root)
+      (subst (λ (l : List ℕ). Right (arity a) rule stored 0 l []) u r)
       (ap (λ (l : List ℕ). stackAfter a rule l []) (sym u) ∙ stack-old)
 
   behind-right : map setIn (outcomesBehind a table stored used e xs) ≡ values a rule behind (new-tree .root ∷ σ)
@@ -101,25 +102,25 @@ module _ (a table : List ℕ) (stored : ℕ → StateSet) (used : List ℕ) (e :
           let q : old-tree .root ≡ new-tree .root = sym right-node ∙ sym (same-words (rootSet a table xs) (stored e) same) ∙ root in
           rw same
           (sets-kept stored (length behind) (e + 1)
-          ∙ right-list a rule stored behind (e + 1) (old-tree .root ∷ σ) right-behind
+          ∙ right-list (arity a) rule stored behind (e + 1) (old-tree .root ∷ σ) right-behind
           ∙ ap (λ (r : StateSet). values a rule behind (r ∷ σ)) q)
       go (fails other) =
-          rw (other, right-stack a rule stored front 0 [] right-front, root)
-          (propagate-right a table used e stored behind (e + 1) [] σ (old-tree .root) (new-tree .root) refl (holding-first a used e) right-behind)
+          rw (other, right-stack (arity a) rule stored front 0 [] right-front, root)
+          (propagate-right a table used e stored behind (e + 1) [] σ (old-tree .root) (new-tree .root) refl (holding-first (arity a) used e) right-behind)
 
   pub outcomes-right : map setIn (outcomesAfter a table stored used e xs) ≡ nodeSets a table (splice a used e xs)
-  unfolding outcomesAfter nodeSets splice front behind σ
+  unfolding outcomesAfter nodeSets spliceBy front behind σ
   outcomes-right =
-      let le = start-le a used e in
+      let le = start-le (arity a) used e in
       let n : length front ≡ startOf a used e = length-take-le (startOf a used e) used (omega arith) in
       let kept-front : map setIn (keptFrom stored 0 (startOf a used e)) ≡ values a rule front [] =
-      sets-kept stored (startOf a used e) 0 ∙ ap (listFrom stored 0) (sym n) ∙ right-list a rule stored front 0 [] right-front in
+      sets-kept stored (startOf a used e) 0 ∙ ap (listFrom stored 0) (sym n) ∙ right-list (arity a) rule stored front 0 [] right-front in
       map-append setIn (keptFrom stored 0 (startOf a used e)) (map recomputed (values a rule xs []) ++ outcomesBehind a table stored used e xs)
       ∙ ap₂ (λ (l k : List StateSet). l ++ k) kept-front
       (map-append setIn (map recomputed (values a rule xs [])) (outcomesBehind a table stored used e xs)
       ∙ ap₂ (λ (l k : List StateSet). l ++ k) (sets-recomputed (values a rule xs [])) behind-right)
       ∙ sym
-      (values-append a rule front (xs ++ behind) []
+      (values-append (arity a) rule front (xs ++ behind) []
       ∙ ap (λ (l : List StateSet). values a rule front [] ++ l)
-      (values-append a rule xs behind σ
+      (values-append (arity a) rule xs behind σ
       ∙ ap₂ (λ (l : List StateSet) (t : List StateSet). l ++ values a rule behind t) (new-tree .values-on σ) (new-tree .stack-on σ)))

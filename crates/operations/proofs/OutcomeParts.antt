@@ -9,7 +9,8 @@ use native.Mathlib.Nat.{zero-add, add-zero, add-assoc}
 use lib.ListN.{length, getD, take, length-drop, length-map, List·getD-append}
 use lib.Seq.{getD-append-add, take-suc, take-length, length-take-le}
 use Rattle.words.specs.Lists.{count, listFrom}
-use Rattle.words.specs.Postfix.{oneTree, startOf, isAncestor, depthOf, values, stackAfter}
+use Rattle.words.specs.Shape.{depthOfBy}
+use Rattle.words.specs.Postfix.{arity, oneTree, startOf, isAncestor, depthOf, values, stackAfter}
 use Rattle.words.proofs.TestLaws.{and-true}
 use Rattle.words.proofs.ListLaws.{length-listFrom, listFrom-add, getD-listFrom, listFrom-getD, listFrom-offset, map-listFrom, count-append, count-map}
 use Rattle.words.proofs.CountLaws.{count-wider}
@@ -30,9 +31,9 @@ pub root-last : (a table xs : List ℕ) → oneTree a xs ≡ true → 0 < length
 unfolding nodeSets
 root-last a table xs h l =
     ap f (sym place)
-    ∙ right-last a (nodeSet table) f (take m xs) (getD xs m 0) 0 [] [] (read a (nodeSet table) xs h .root)
-    (subst (λ (t : List ℕ). Right a (nodeSet table) f 0 t []) parts right)
-    (ap (λ (t : List ℕ). stackAfter a (nodeSet table) t []) (sym parts) ∙ read a (nodeSet table) xs h .alone)
+    ∙ right-last (arity a) (nodeSet table) f (take m xs) (getD xs m 0) 0 [] [] (read (arity a) (nodeSet table) xs h .root)
+    (subst (λ (t : List ℕ). Right (arity a) (nodeSet table) f 0 t []) parts right)
+    (ap (λ (t : List ℕ). stackAfter a (nodeSet table) t []) (sym parts) ∙ read (arity a) (nodeSet table) xs h .alone)
     ∙ sym (root-read a table xs h)
   where
     vs : List StateSet
@@ -52,10 +53,10 @@ root-last a table xs h l =
     place : 0 + length (take m xs) ≡ m
     place = zero-add _ ∙ length-take-le m xs (omega arith)
 
-    right : Right a (nodeSet table) f 0 xs []
+    right : Right (arity a) (nodeSet table) f 0 xs []
     right =
-        list-right a (nodeSet table) f xs 0 []
-        (ap (listFrom f 0) (sym (length-values a (nodeSet table) xs [])) ∙ listFrom-getD [] vs)
+        list-right (arity a) (nodeSet table) f xs 0 []
+        (ap (listFrom f 0) (sym (length-values (arity a) (nodeSet table) xs [])) ∙ listFrom-getD [] vs)
 
 module _ (a table : List ℕ) (stored : ℕ → StateSet) (used : List ℕ) (e : ℕ) (xs : List ℕ) where
   abbrev start : ℕ
@@ -162,7 +163,7 @@ module _ (c : ExchangeCall) (he : c .element < length (usedIn c)) (hx : oneTree 
 
   -- "it is at most the replacement's elements plus the depth of the place"
   pub count-most : recomputedIn behind ≤ depthOf (c .alphabet) (usedIn c) (c .element)
-  unfolding depthOf
+  unfolding depthOfBy
   count-most =
       let w = count-wider (recomputes c) (ancestor c) (λ k h. and-true (continues c k) (ancestor c k) h .1) (listFrom (λ i. i) 0 m) in
       omega (arith, count-rest, shifted, parts)

@@ -6,6 +6,7 @@ use mathlib.Core.Bool.{Bool, true, false, cond}
 use mathlib.Core.List.{List, [], _∷_, _++_, map}
 use native.Mathlib.Omega.{arith}
 use lib.ListN.{length, take, drop, length-drop}
+use Rattle.words.specs.Shape.{valueOnBy}
 use Rattle.words.specs.Postfix.{arity, startOf, isAncestor, valueOn, stackGiven}
 use Rattle.words.proofs.ListLaws.{map-append}
 use Rattle.words.proofs.PostfixLaws.{start-le}
@@ -24,7 +25,7 @@ module _ (a table : List ℕ) (stored : ℕ → StateSet) (n : ℕ) (whole : (i 
   whole-kept (suc m) j h = (whole j (omega arith), whole-kept m (suc j) (omega arith))
 
   whole-propagate : (above : ℕ → Bool) (ws : List ℕ) (j : ℕ) (s : List StateSet) → j + length ws ≤ n → Whole (propagate a table stored above j ws s)
-  unfolding propagate valueOn
+  unfolding propagate valueOnBy
   whole-propagate above [] j s h = tt
   whole-propagate above (w ∷ ws) j s h =
       go (above j) (sameWords new (stored j)) (whole-propagate above ws (suc j) (stored j ∷ drop (arity a w) s) (omega arith))
@@ -67,6 +68,6 @@ module _ (a table : List ℕ) (stored : ℕ → StateSet) (n : ℕ) (whole : (i 
       let behind = outcomesBehind a table stored used e xs in
       rw (map-append setIn (keptFrom stored 0 start) (sets ++ behind), map-append setIn sets behind)
       (sized-append size (map setIn (keptFrom stored 0 start)) (map setIn sets ++ map setIn behind)
-      (whole-kept start 0 (omega (arith, start-le a used e)))
+      (whole-kept start 0 (omega (arith, start-le (arity a) used e)))
       (sized-append size (map setIn sets) (map setIn behind)
       (rw (sets-recomputed (nodeSets a table xs)) (sized-nodeSets a table xs)) (whole-behind used e xs h l)))

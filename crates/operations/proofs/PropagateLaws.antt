@@ -11,6 +11,7 @@ use native.Mathlib.Numerals.{add-one}
 use lib.ListN.{length, getD, drop, length-drop}
 use lib.Seq.{drop-append-le, drop-append-add, getD-drop, drop-drop}
 use Rattle.words.specs.Lists.{listFrom}
+use Rattle.words.specs.Shape.{valuesBy}
 use Rattle.words.specs.Postfix.{arity, isAncestor, valueOn, values}
 use Rattle.words.proofs.TestLaws.{Tested, holds, fails, tested}
 use Rattle.words.proofs.StackLaws.{Right, right-list, on-top}
@@ -75,16 +76,16 @@ module _ (a table p : List ℕ) (e : ℕ) (stored : ℕ → StateSet) where
   up = propagate a table stored (isAncestor a p e)
 
   abbrev RightFrom : ℕ → List ℕ → List StateSet → Type 0
-  RightFrom = Right a (nodeSet table) stored
+  RightFrom = Right (arity a) (nodeSet table) stored
 
   -- the old and the new stack differ in one state set alone, below those of t: that of the tree which holds the replaced one
   abbrev Onward : List ℕ → ℕ → Type 0
   Onward ws j =
-      (t s : List StateSet) (r₀ r : StateSet) → drop j p ≡ ws → HoldingTree a p e j (length t)
+      (t s : List StateSet) (r₀ r : StateSet) → drop j p ≡ ws → HoldingTree (arity a) p e j (length t)
       → RightFrom j ws (t ++ r₀ ∷ s) → map setIn (up j ws (t ++ r ∷ s)) ≡ vals ws (t ++ r ∷ s)
 
-  module _ (w : ℕ) (ws : List ℕ) (j : ℕ) (t s : List StateSet) (r₀ r : StateSet) (q : drop j p ≡ w ∷ ws) (y : HoldingTree a p e j (length t))
-      (h : Right a (nodeSet table) stored j (w ∷ ws) (t ++ r₀ ∷ s)) (ih : Onward ws (suc j)) where
+  module _ (w : ℕ) (ws : List ℕ) (j : ℕ) (t s : List StateSet) (r₀ r : StateSet) (q : drop j p ≡ w ∷ ws) (y : HoldingTree (arity a) p e j (length t))
+      (h : Right (arity a) (nodeSet table) stored j (w ∷ ws) (t ++ r₀ ∷ s)) (ih : Onward ws (suc j)) where
     abbrev k : ℕ
     k = arity a w
 
@@ -93,33 +94,33 @@ module _ (a table p : List ℕ) (e : ℕ) (stored : ℕ → StateSet) where
 
     -- no ancestor: it takes state sets of t alone
     beside : k ≤ length t → map setIn (up j (w ∷ ws) (t ++ r ∷ s)) ≡ vals (w ∷ ws) (t ++ r ∷ s)
-    unfolding values
+    unfolding valuesBy
     beside l =
         let l′ : arity a (getD p j 0) ≤ length t = omega (arith, word) in
-        let v : stored j ≡ on w t = h .0 ∙ on-top a (nodeSet table) w t (r₀ ∷ s) l in
-        let u : on w (t ++ r ∷ s) ≡ on w t = on-top a (nodeSet table) w t (r ∷ s) l in
+        let v : stored j ≡ on w t = h .0 ∙ on-top (arity a) (nodeSet table) w t (r₀ ∷ s) l in
+        let u : on w (t ++ r ∷ s) ≡ on w t = on-top (arity a) (nodeSet table) w t (r ∷ s) l in
         let d : drop k (t ++ r ∷ s) ≡ drop k t ++ r ∷ s = drop-append-le k t (r ∷ s) l in
         let d₀ : drop k (t ++ r₀ ∷ s) ≡ drop k t ++ r₀ ∷ s = drop-append-le k t (r₀ ∷ s) l in
         let n : length t - arity a (getD p j 0) + 1 ≡ suc (length (drop k t)) = rw (word, length-drop k t) (add-one (length t - k)) in
-        let y′ : HoldingTree a p e (suc j) (suc (length (drop k t))) = subst (HoldingTree a p e (suc j)) n (holding-others a p e j (length t) y l′) in
+        let y′ : HoldingTree (arity a) p e (suc j) (suc (length (drop k t))) = subst (HoldingTree (arity a) p e (suc j)) n (holding-others (arity a) p e j (length t) y l′) in
         let h′ : RightFrom (suc j) ws (on w t ∷ (drop k t ++ r₀ ∷ s)) =
-        subst (λ (x : StateSet). RightFrom (suc j) ws (x ∷ (drop k t ++ r₀ ∷ s))) (on-top a (nodeSet table) w t (r₀ ∷ s) l)
+        subst (λ (x : StateSet). RightFrom (suc j) ws (x ∷ (drop k t ++ r₀ ∷ s))) (on-top (arity a) (nodeSet table) w t (r₀ ∷ s) l)
         (subst (λ (x : List StateSet). RightFrom (suc j) ws (on w (t ++ r₀ ∷ s) ∷ x)) d₀ (h .1)) in
-        ap (map setIn) (propagate-beside a table stored (isAncestor a p e) j w ws (t ++ r ∷ s) (takes-others a p e j (length t) y l′))
+        ap (map setIn) (propagate-beside a table stored (isAncestor a p e) j w ws (t ++ r ∷ s) (takes-others (arity a) p e j (length t) y l′))
         ∙ ap₂ (λ (x : StateSet) (z : List StateSet). x ∷ map setIn (up (suc j) ws (x ∷ z))) v d
         ∙ ap (λ (z : List StateSet). on w t ∷ z) (ih (on w t ∷ drop k t) s r₀ r (tail-drop p j w ws q .1) y′ h′)
         ∙ sym (ap₂ (λ (x : StateSet) (z : List StateSet). x ∷ vals ws (x ∷ z)) u d)
 
     -- an ancestor: it takes the one that differs too, and nothing deeper differs
     ancestor : length t < k → map setIn (up j (w ∷ ws) (t ++ r ∷ s)) ≡ vals (w ∷ ws) (t ++ r ∷ s)
-    unfolding values
+    unfolding valuesBy
     ancestor l = go (tested (sameWords (on w (t ++ r ∷ s)) (stored j)))
       where
         l′ : length t < arity a (getD p j 0)
         l′ = omega (arith, word)
 
         above : isAncestor a p e j ≡ true
-        above = takes-holding a p e j (length t) y l′
+        above = takes-holding (arity a) p e j (length t) y l′
 
         old : StateSet
         old = on w (t ++ r₀ ∷ s)
@@ -140,17 +141,17 @@ module _ (a table p : List ℕ) (e : ℕ) (stored : ℕ → StateSet) where
         go (holds same) =
             ap (map setIn) (propagate-last a table stored (isAncestor a p e) j w ws (t ++ r ∷ s) above same)
             ∙ ap (λ (z : List StateSet). nu ∷ z)
-            (sets-kept stored (length ws) (suc j) ∙ right-list a (nodeSet table) stored ws (suc j) (old ∷ rest) h′
+            (sets-kept stored (length ws) (suc j) ∙ right-list (arity a) (nodeSet table) stored ws (suc j) (old ∷ rest) h′
             ∙ ap₂ (λ (x : StateSet) (z : List StateSet). vals ws (x ∷ z)) (sym (same-words nu (stored j) same ∙ h .0)) (sym d))
         go (fails other) =
             ap (map setIn) (propagate-onward a table stored (isAncestor a p e) j w ws (t ++ r ∷ s) above other)
             ∙ ap (λ (z : List StateSet). nu ∷ z)
             (ap (λ (z : List StateSet). map setIn (up (suc j) ws (nu ∷ z))) d
-            ∙ ih [] rest old nu (tail-drop p j w ws q .1) (holding-ancestor a p e j (length t) y l′) h′
+            ∙ ih [] rest old nu (tail-drop p j w ws q .1) (holding-ancestor (arity a) p e j (length t) y l′) h′
             ∙ ap (λ (z : List StateSet). vals ws (nu ∷ z)) (sym d))
 
   pub propagate-right : (ws : List ℕ) (j : ℕ) → Onward ws j
-  unfolding values propagate
+  unfolding valuesBy propagate
   propagate-right [] j t s r₀ r q y h = refl
   propagate-right (w ∷ ws) j t s r₀ r q y h = choose (decLe (arity a w) (length t)) (propagate-right ws (suc j))
     where

@@ -7,6 +7,7 @@ use Prim.Native.Nat.{ℕ, zero, suc, _+_, _<_, _≤_}
 use native.Mathlib.Omega.{arith}
 use lib.ListN.{length, getD, take, drop}
 use lib.Seq.{drop-cons, length-take-le}
+use Rattle.words.specs.Shape.{spliceBy, valuesBy, stackAfterBy, stackGivenBy}
 use Rattle.words.specs.Postfix.{arity, oneTree, startOf, isAncestor, splice, valueOn, values, stackAfter, stackGiven, childrenOf}
 use Rattle.words.proofs.TestLaws.{Tested, holds, fails, tested}
 use Rattle.words.proofs.ListLaws.{map-drop}
@@ -64,7 +65,7 @@ module _ (a table : List ℕ) where
     follows-kept (w ∷ ws) j s = (tt, follows-kept ws (suc j) (stored j ∷ drop (arity a w) s))
 
     stack-kept : (ws : List ℕ) (j : ℕ) (s : List StateSet) → stackOf ws (keptFrom stored j (length ws)) s ≡ stackGiven a stored j ws s
-    unfolding stackGiven
+    unfolding stackGivenBy
     stack-kept [] j s = refl
     stack-kept (w ∷ ws) j s = stack-kept ws (suc j) (stored j ∷ drop (arity a w) s)
 
@@ -87,12 +88,12 @@ module _ (a table : List ℕ) where
         go (holds x) (fails y) l m = subst (Follows (w ∷ ws) s) (sym (propagate-onward a table stored above j w ws s x y)) (refl, m)
 
   follows-values : (ws : List ℕ) (s : List StateSet) → Follows ws s (map recomputed (values a (nodeSet table) ws s))
-  unfolding values
+  unfolding valuesBy
   follows-values [] s = tt
   follows-values (w ∷ ws) s = (refl, follows-values ws (on w s ∷ drop (arity a w) s))
 
   stack-values : (ws : List ℕ) (s : List StateSet) → stackOf ws (map recomputed (values a (nodeSet table) ws s)) s ≡ stackAfter a (nodeSet table) ws s
-  unfolding values stackAfter
+  unfolding valuesBy stackAfterBy
   stack-values [] s = refl
   stack-values (w ∷ ws) s = stack-values ws (on w s ∷ drop (arity a w) s)
 
@@ -103,13 +104,13 @@ module _ (a table : List ℕ) where
     follows-replaced : Follows xs σ (map recomputed (nodeSets a table xs))
     unfolding nodeSets
     follows-replaced =
-        subst (λ (l : List StateSet). Follows xs σ (map recomputed l)) (read a (nodeSet table) xs hx .values-on σ) (follows-values xs σ)
+        subst (λ (l : List StateSet). Follows xs σ (map recomputed l)) (read (arity a) (nodeSet table) xs hx .values-on σ) (follows-values xs σ)
 
     stack-replaced : stackOf xs (map recomputed (nodeSets a table xs)) σ ≡ rootSet a table xs ∷ σ
     unfolding nodeSets
     stack-replaced =
-        ap (λ (l : List StateSet). stackOf xs (map recomputed l) σ) (sym (read a (nodeSet table) xs hx .values-on σ))
-        ∙ stack-values xs σ ∙ read a (nodeSet table) xs hx .stack-on σ
+        ap (λ (l : List StateSet). stackOf xs (map recomputed l) σ) (sym (read (arity a) (nodeSet table) xs hx .values-on σ))
+        ∙ stack-values xs σ ∙ read (arity a) (nodeSet table) xs hx .stack-on σ
         ∙ ap (λ (r : StateSet). r ∷ σ) (sym (root-read a table xs hx))
 
     follows-behind : Follows (drop (e + 1) used) (rootSet a table xs ∷ σ) (outcomesBehind a table stored used e xs)
@@ -124,7 +125,7 @@ module _ (a table : List ℕ) where
     length-behind = follows-length (drop (e + 1) used) (rootSet a table xs ∷ σ) (outcomesBehind a table stored used e xs) follows-behind
 
     pub follows-outcomes : Follows (splice a used e xs) [] (outcomesAfter a table stored used e xs)
-    unfolding splice outcomesAfter σ
+    unfolding spliceBy outcomesAfter σ
     follows-outcomes =
         follows-append front (xs ++ drop (e + 1) used) [] (keptFrom stored 0 (startOf a used e)) _
         (subst (λ (i : ℕ). Follows front [] (keptFrom stored 0 i)) many (follows-kept stored front 0 []))
@@ -136,7 +137,7 @@ module _ (a table : List ℕ) where
         front = take (startOf a used e) used
 
         many : length front ≡ startOf a used e
-        many = let le = start-le a used e in length-take-le (startOf a used e) used (omega arith)
+        many = let le = start-le (arity a) used e in length-take-le (startOf a used e) used (omega arith)
 
         stack-front : stackOf front (keptFrom stored 0 (startOf a used e)) [] ≡ σ
         stack-front = ap (λ (i : ℕ). stackOf front (keptFrom stored 0 i) []) (sym many) ∙ stack-kept stored front 0 []
@@ -154,21 +155,21 @@ module _ (a table : List ℕ) where
         (subst (Follows (drop j ws) s) (drop-cons os j (kept []) (omega (arith, follows-length ws [] os h))) g)
 
     -- the words from j on, over the sets of the roots of the first j
-    follows-from : (j : ℕ) → j ≤ length ws → Follows (drop j ws) (map setAt (numbers a ws j)) (drop j os)
-    unfolding stackGiven
+    follows-from : (j : ℕ) → j ≤ length ws → Follows (drop j ws) (map setAt (numbers (arity a) ws j)) (drop j os)
+    unfolding stackGivenBy
     follows-from zero l = h
     follows-from (suc j) l =
         subst (λ (s : List StateSet). Follows (drop (suc j) ws) s (drop (suc j) os)) (sym stack)
-        (opened j (map setAt (numbers a ws j)) l (follows-from j (omega arith)) .1)
+        (opened j (map setAt (numbers (arity a) ws j)) l (follows-from j (omega arith)) .1)
       where
-        stack : map setAt (numbers a ws (suc j)) ≡ setAt j ∷ drop (arity a (getD ws j 0)) (map setAt (numbers a ws j))
+        stack : map setAt (numbers (arity a) ws (suc j)) ≡ setAt j ∷ drop (arity a (getD ws j 0)) (map setAt (numbers (arity a) ws j))
         stack =
-            ap (map setAt) (numbers-more a ws j l)
-            ∙ ap (λ (t : List StateSet). setAt j ∷ t) (map-drop setAt (arity a (getD ws j 0)) (numbers a ws j))
+            ap (map setAt) (numbers-more (arity a) ws j l)
+            ∙ ap (λ (t : List StateSet). setAt j ∷ t) (map-drop setAt (arity a (getD ws j 0)) (numbers (arity a) ws j))
 
     pub from-children : (j : ℕ) (r : StateSet) → j < length ws → outcomeAt os j ≡ recomputed r
         → r ≡ nodeSet table (getD ws j 0) (map (λ i. setIn (outcomeAt os i)) (childrenOf a ws j))
     from-children j r l e =
-        subst (λ (o : Outcome). Is o (on (getD ws j 0) (map setAt (numbers a ws j)))) e
-        (opened j (map setAt (numbers a ws j)) l (follows-from j (omega arith)) .0)
-        ∙ sym (children-value a ws (nodeSet table) setAt j (map setAt (numbers a ws j)) refl)
+        subst (λ (o : Outcome). Is o (on (getD ws j 0) (map setAt (numbers (arity a) ws j)))) e
+        (opened j (map setAt (numbers (arity a) ws j)) l (follows-from j (omega arith)) .0)
+        ∙ sym (children-value (arity a) ws (nodeSet table) setAt j (map setAt (numbers (arity a) ws j)) refl)

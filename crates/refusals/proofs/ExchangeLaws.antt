@@ -10,7 +10,7 @@ use lib.Dec.{eqb}
 use Rattle.words.specs.Lists.{all}
 use Rattle.words.specs.Refusal.{Refusals, refusal}
 use Rattle.words.specs.Chapter.{isNode, notNodes, treeFault}
-use Rattle.words.specs.Postfix.{oneTree, notOneTree, startOf, splice}
+use Rattle.words.specs.Postfix.{arity, oneTree, notOneTree, startOf, splice}
 use Rattle.words.proofs.PostfixLaws.{length-splice}
 use Rattle.operations.specs.Exchange.{resultTooLong}
 
@@ -29,7 +29,7 @@ pub result-length : (a used : List ℕ) (e s : ℕ) (xs : List ℕ) → e < leng
     → s + length xs + (length used - e - 1) ≡ length (splice a used e xs)
 result-length a used e s xs h q =
     let n = length-drop (e + 1) used in
-    ap (λ (i : ℕ). i + length xs + (length used - e - 1)) q ∙ omega (arith, length-splice a used e xs h)
+    ap (λ (i : ℕ). i + length xs + (length used - e - 1)) q ∙ omega (arith, length-splice (arity a) used e xs h)
 
 -- 16 is judged by that length
 pub judged-length : (table : List ℕ) (places room : ℕ) {n m : ℕ} {b : Bool} → n ≡ m → b ≡ resultTooLong table n places room

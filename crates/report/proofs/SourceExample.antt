@@ -8,7 +8,8 @@ use Rattle.words.specs.Word.{kindAt, spareBitsClear, isOf}
 use Rattle.words.specs.Alphabet.{isEntry, rankOf, isConstant, constantsFrom, constantsOf, noAlphabet, wrongConstants}
 use Rattle.words.specs.Expression.{isExpressionWord, wrongLength, notExpressionWords}
 use Rattle.words.specs.Chapter.{isNode, notNodes}
-use Rattle.words.specs.Postfix.{arity, trees, notOneTree, startFrom}
+use Rattle.words.specs.Shape.{treesBy, startFromBy}
+use Rattle.words.specs.Postfix.{arity, notOneTree}
 use Rattle.automaton.specs.Transition.{transitionsAt, automatonOf}
 use Rattle.automaton.specs.Numbering.{hasEntries, statesOf, portOf, ownTransitions, portsFrom, statesAfter, transitionsFrom, compiled}
 use Rattle.automaton.proofs.CompiledExample.{alphabet, rule}
@@ -83,7 +84,7 @@ hits-are =
 no-fault : marklistFault alphabet rule chapter ≡ 0
 unfolding
     kindAt spareBitsClear isOf isEntry rankOf isConstant constantsFrom constantsOf noAlphabet wrongConstants isExpressionWord wrongLength
-    notExpressionWords isNode notNodes arity trees notOneTree hasEntries statesOf portOf ownTransitions portsFrom statesAfter transitionsFrom compiled
+    notExpressionWords isNode notNodes arity treesBy notOneTree hasEntries statesOf portOf ownTransitions portsFrom statesAfter transitionsFrom compiled
     tooManyStates wrongChapter
 no-fault = refl
 
@@ -92,7 +93,7 @@ unfolding wordAt wordsIn
 words-are = refl
 
 lines-are : headLine 7 29 3 ++ hitLines alphabet chapter (2 ∷ 3 ∷ 4 ∷ []) ≡ exampleOutput
-unfolding kindAt rankOf arity startFrom digitsWithin decimal headLine hitLine hitLines
+unfolding kindAt rankOf arity startFromBy digitsWithin decimal headLine hitLine hitLines
 lines-are = refl
 
 pub example-printed : programOutput exampleInput ≡ exampleOutput

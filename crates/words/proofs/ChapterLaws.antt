@@ -27,11 +27,11 @@ module _ {a words : List ℕ} {made i : ℕ} (s : Judged a words made i) where
   -- behind the last word
   pub judged-one : length words ≤ i → made ≡ 1 → 0 ≡ treeFault a words
   unfolding notNodes notOneTree
-  judged-one h e = sym (rw (s .nodes ∙ all-end (isNode a) words i h, s .shape ∙ trees-end a words made i 1 h, eq-eqb made 1 e))
+  judged-one h e = sym (rw (s .nodes ∙ all-end (isNode a) words i h, s .shape ∙ trees-end (arity a) words made i 1 h, eq-eqb made 1 e))
 
   pub judged-not-one : length words ≤ i → (made ≡ 1 → ⊥) → 11 ≡ treeFault a words
   unfolding notNodes notOneTree
-  judged-not-one h e = sym (rw (s .nodes ∙ all-end (isNode a) words i h, s .shape ∙ trees-end a words made i 1 h, ne-eqb made 1 e))
+  judged-not-one h e = sym (rw (s .nodes ∙ all-end (isNode a) words i h, s .shape ∙ trees-end (arity a) words made i 1 h, ne-eqb made 1 e))
 
   -- b tells whether the part `&words[i..]` has nodes only
   rest : (b : Bool) → b ≡ all (isNode a) (take (length words - i) (drop i words)) → all (isNode a) words ≡ b
@@ -53,7 +53,7 @@ module _ {a words : List ℕ} {made i : ℕ} (s : Judged a words made i) where
 
       pub judged-lacks : made < r → (b : Bool) → b ≡ all (isNode a) (take (length words - i) (drop i words)) → b ≡ true → 11 ≡ treeFault a words
       unfolding notNodes notOneTree
-      judged-lacks l b eb t = sym (rw (rest b eb ∙ t, s .shape ∙ trees-lacks a words made i 1 r h rank-arity l))
+      judged-lacks l b eb t = sym (rw (rest b eb ∙ t, s .shape ∙ trees-lacks (arity a) words made i 1 r h rank-arity l))
 
       pub judged-more : r ≤ made → Judged a words (made - r + 1) (i + 1)
       judged-more l =
@@ -62,5 +62,5 @@ module _ {a words : List ℕ} {made i : ℕ} (s : Judged a words made i) where
             few = omega arith;
             below = omega arith;
             nodes = s .nodes ∙ all-continues (isNode a) words i h node;
-            shape = s .shape ∙ trees-continues a words made i 1 r h rank-arity l;
+            shape = s .shape ∙ trees-continues (arity a) words made i 1 r h rank-arity l;
           }

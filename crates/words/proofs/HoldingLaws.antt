@@ -7,67 +7,67 @@ use native.Mathlib.Omega.{arith}
 use native.Mathlib.Numerals.{add-one}
 use lib.ListN.{getD}
 use borrow.Author.Tests.{le-leb, lt-leb, lt-ltb}
-use Rattle.words.specs.Postfix.{arity, startFrom, startOf, isAncestor}
+use Rattle.words.specs.Shape.{startFromBy, startOfBy, isAncestorBy}
 use Rattle.words.proofs.PostfixLaws.{startFrom-none, startFrom-more, startFrom-add, startFrom-le, start-parts, start-le}
 
 -- of the trees that the first j words make, the one below d others holds node e; it ends before word `end`
-pub record HoldingTree (a ws : List ℕ) (e j d : ℕ) : Type 0 where
+pub record HoldingTree (arity : ℕ → ℕ) (ws : List ℕ) (e j d : ℕ) : Type 0 where
   pub end : ℕ
-  pub begins : startFrom a ws j d ≡ end
-  pub low : startFrom a ws end 1 ≤ e
+  pub begins : startFromBy arity ws j d ≡ end
+  pub low : startFromBy arity ws end 1 ≤ e
   pub high : e < end
 
 -- behind e itself it is e's subtree
-pub holding-first : (a ws : List ℕ) (e : ℕ) → HoldingTree a ws e (e + 1) 0
-holding-first a ws e = record { end = e + 1; begins = startFrom-none a ws (e + 1); low = start-le a ws e; high = omega arith }
+pub holding-first : (arity : ℕ → ℕ) (ws : List ℕ) (e : ℕ) → HoldingTree arity ws e (e + 1) 0
+holding-first arity ws e = record { end = e + 1; begins = startFrom-none arity ws (e + 1); low = start-le arity ws e; high = omega arith }
 
-module _ (a ws : List ℕ) (e j d : ℕ) (h : HoldingTree a ws e j d) where
+module _ (arity : ℕ → ℕ) (ws : List ℕ) (e j d : ℕ) (h : HoldingTree arity ws e j d) where
   abbrev r : ℕ
-  r = arity a (getD ws j 0)
+  r = arity (getD ws j 0)
 
   behind : e < j
-  behind = let high = h .high in omega (arith, h .begins, startFrom-le a ws j d)
+  behind = let high = h .high in omega (arith, h .begins, startFrom-le arity ws j d)
 
   -- a word that takes at most the d trees above it is no ancestor
-  pub takes-others : r ≤ d → isAncestor a ws e j ≡ false
-  unfolding isAncestor
+  pub takes-others : r ≤ d → isAncestorBy arity ws e j ≡ false
+  unfolding isAncestorBy
   takes-others l =
       let high = h .high in
       let q : r + (d - r) ≡ d = omega arith in
-      let s : startFrom a ws (startFrom a ws j r) (d - r) ≡ h .end = sym (startFrom-add a ws j r (d - r)) ∙ ap (startFrom a ws j) q ∙ h .begins in
-      rw (lt-ltb e j behind, start-parts a ws j)
-      (lt-leb (startFrom a ws j r) e (omega (arith, s, startFrom-le a ws (startFrom a ws j r) (d - r))))
+      let s : startFromBy arity ws (startFromBy arity ws j r) (d - r) ≡ h .end = sym (startFrom-add arity ws j r (d - r)) ∙ ap (startFromBy arity ws j) q ∙ h .begins in
+      rw (lt-ltb e j behind, start-parts arity ws j)
+      (lt-leb (startFromBy arity ws j r) e (omega (arith, s, startFrom-le arity ws (startFromBy arity ws j r) (d - r))))
 
-  pub holding-others : r ≤ d → HoldingTree a ws e (suc j) (d - r + 1)
+  pub holding-others : r ≤ d → HoldingTree arity ws e (suc j) (d - r + 1)
   holding-others l =
       let q : d - r + r ≡ d = omega arith in
       record {
         end = h .end;
-        begins = ap (startFrom a ws (suc j)) (add-one (d - r)) ∙ startFrom-more a ws j (d - r) ∙ ap (startFrom a ws j) q ∙ h .begins;
+        begins = ap (startFromBy arity ws (suc j)) (add-one (d - r)) ∙ startFrom-more arity ws j (d - r) ∙ ap (startFromBy arity ws j) q ∙ h .begins;
         low = h .low;
         high = h .high;
       }
 
-  begins-before : d < r → startOf a ws j ≤ e
+  begins-before : d < r → startOfBy arity ws j ≤ e
   begins-before l =
       let low = h .low in
       let q : d + 1 + (r - (d + 1)) ≡ r = omega arith in
-      let s : startFrom a ws j (d + 1) ≡ startFrom a ws (h .end) 1 = startFrom-add a ws j d 1 ∙ ap (λ (i : ℕ). startFrom a ws i 1) (h .begins) in
-      let t : startFrom a ws j r ≡ startFrom a ws (startFrom a ws j (d + 1)) (r - (d + 1)) =
-      ap (startFrom a ws j) (sym q) ∙ startFrom-add a ws j (d + 1) (r - (d + 1)) in
-      rw (start-parts a ws j, t) (omega (arith, s, startFrom-le a ws (startFrom a ws j (d + 1)) (r - (d + 1))))
+      let s : startFromBy arity ws j (d + 1) ≡ startFromBy arity ws (h .end) 1 = startFrom-add arity ws j d 1 ∙ ap (λ (i : ℕ). startFromBy arity ws i 1) (h .begins) in
+      let t : startFromBy arity ws j r ≡ startFromBy arity ws (startFromBy arity ws j (d + 1)) (r - (d + 1)) =
+      ap (startFromBy arity ws j) (sym q) ∙ startFrom-add arity ws j (d + 1) (r - (d + 1)) in
+      rw (start-parts arity ws j, t) (omega (arith, s, startFrom-le arity ws (startFromBy arity ws j (d + 1)) (r - (d + 1))))
 
   -- a word that takes more is one
-  pub takes-holding : d < r → isAncestor a ws e j ≡ true
-  unfolding isAncestor
-  takes-holding l = rw (lt-ltb e j behind, le-leb (startOf a ws j) e (begins-before l))
+  pub takes-holding : d < r → isAncestorBy arity ws e j ≡ true
+  unfolding isAncestorBy
+  takes-holding l = rw (lt-ltb e j behind, le-leb (startOfBy arity ws j) e (begins-before l))
 
-  pub holding-ancestor : d < r → HoldingTree a ws e (suc j) 0
+  pub holding-ancestor : d < r → HoldingTree arity ws e (suc j) 0
   holding-ancestor l =
       let b = begins-before l in
       record {
         end = suc j;
-        begins = startFrom-none a ws (suc j);
+        begins = startFrom-none arity ws (suc j);
         low = rw (← add-one j) b;
         high = omega (arith, behind);
       }

@@ -11,7 +11,7 @@ use lib.Seq.{drop-cons, take-all}
 use lib.Dec.{eqb}
 use borrow.Author.Tests.{le-leb, lt-leb}
 use Rattle.words.specs.Lists.{all}
-use Rattle.words.specs.Postfix.{arity, trees}
+use Rattle.words.specs.Shape.{treesBy}
 
 pub drop-step : (l : List ℕ) (i : ℕ) → i < length l → drop i l ≡ getD l i 0 ∷ drop (i + 1) l
 drop-step l i h = rw (add-one, drop-cons l i 0)
@@ -35,15 +35,15 @@ module _ (f : ℕ → Bool) (l : List ℕ) (i : ℕ) where
   all-end h = ap (all f) (drop-end l i h)
 
 -- the trees that the words from index i on make, after d trees; r is the arity of word i
-module _ (a l : List ℕ) (d i t : ℕ) where
-  pub trees-lacks : (r : ℕ) → i < length l → r ≡ arity a (getD l i 0) → d < r → trees a d (drop i l) t ≡ false
-  unfolding trees
-  trees-lacks r h er e = ap (λ (x : List ℕ). trees a d x t) (drop-step l i h) ∙ rw (← er, lt-leb r d e)
+module _ (arity : ℕ → ℕ) (l : List ℕ) (d i t : ℕ) where
+  pub trees-lacks : (r : ℕ) → i < length l → r ≡ arity (getD l i 0) → d < r → treesBy arity d (drop i l) t ≡ false
+  unfolding treesBy
+  trees-lacks r h er e = ap (λ (x : List ℕ). treesBy arity d x t) (drop-step l i h) ∙ rw (← er, lt-leb r d e)
 
-  pub trees-continues : (r : ℕ) → i < length l → r ≡ arity a (getD l i 0) → r ≤ d → trees a d (drop i l) t ≡ trees a (d - r + 1) (drop (i + 1) l) t
-  unfolding trees
-  trees-continues r h er e = ap (λ (x : List ℕ). trees a d x t) (drop-step l i h) ∙ rw (← er, le-leb r d e)
+  pub trees-continues : (r : ℕ) → i < length l → r ≡ arity (getD l i 0) → r ≤ d → treesBy arity d (drop i l) t ≡ treesBy arity (d - r + 1) (drop (i + 1) l) t
+  unfolding treesBy
+  trees-continues r h er e = ap (λ (x : List ℕ). treesBy arity d x t) (drop-step l i h) ∙ rw (← er, le-leb r d e)
 
-  pub trees-end : length l ≤ i → trees a d (drop i l) t ≡ eqb d t
-  unfolding trees
-  trees-end h = ap (λ (x : List ℕ). trees a d x t) (drop-end l i h)
+  pub trees-end : length l ≤ i → treesBy arity d (drop i l) t ≡ eqb d t
+  unfolding treesBy
+  trees-end h = ap (λ (x : List ℕ). treesBy arity d x t) (drop-end l i h)

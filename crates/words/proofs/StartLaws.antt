@@ -7,7 +7,8 @@ use native.Mathlib.Omega.{arith}
 use lib.ListN.{length, getD, List·getD-eq-default}
 use Rattle.words.specs.Word.{Kind, entryKind, symbolKind, emptyKind, unionKind, productKind, closureKind, nodeKind, headKind, transitionKind, epsilonKind, sourceKind, noKind, kindOf, kindAt, lowByte}
 use Rattle.words.specs.Alphabet.{rankOf}
-use Rattle.words.specs.Postfix.{arityAt, arity, startFrom, startOf}
+use Rattle.words.specs.Postfix.{arityAt, arity}
+use Rattle.words.specs.Shape.{startFromBy, startOfBy}
 use Rattle.words.proofs.PostfixLaws.{startFrom-none, startFrom-more, start-parts}
 
 -- ---- arities
@@ -39,33 +40,33 @@ arity-missing a = refl
 -- ---- where subtrees begin
 
 -- where there are not more words than trees asked for, the words go to their beginning
-pub startFrom-short : (a ws : List ℕ) (j n : ℕ) → j ≤ n → startFrom a ws j n ≡ 0
-unfolding startFrom
-startFrom-short a ws zero n h = refl
-startFrom-short a ws (suc j) zero h = absurd (omega arith)
-startFrom-short a ws (suc j) (suc n) h = startFrom-short a ws j (n + arity a (getD ws j 0)) (omega arith)
+pub startFrom-short : (arity : ℕ → ℕ) (ws : List ℕ) (j n : ℕ) → j ≤ n → startFromBy arity ws j n ≡ 0
+unfolding startFromBy
+startFrom-short arity ws zero n h = refl
+startFrom-short arity ws (suc j) zero h = absurd (omega arith)
+startFrom-short arity ws (suc j) (suc n) h = startFrom-short arity ws j (n + arity (getD ws j 0)) (omega arith)
 
--- behind the words, a missing one is a subtree of its own
-pub start-missing : (a ws : List ℕ) (i : ℕ) → length ws ≤ i → startOf a ws i ≡ i
-start-missing a ws i h =
-    start-parts a ws i
-    ∙ ap (startFrom a ws i) (ap (arity a) (List·getD-eq-default ws 0 h) ∙ arity-missing a)
-    ∙ startFrom-none a ws i
+-- behind the words, a missing one that takes no children is a subtree of its own
+pub start-missing : (arity : ℕ → ℕ) (ws : List ℕ) (i : ℕ) → arity 0 ≡ 0 → length ws ≤ i → startOfBy arity ws i ≡ i
+start-missing arity ws i z h =
+    start-parts arity ws i
+    ∙ ap (startFromBy arity ws i) (ap arity (List·getD-eq-default ws 0 h) ∙ z)
+    ∙ startFrom-none arity ws i
 
 -- ---- the walk back from behind a node: `needed` trees still end before `start`
 
-pub record Backward (a ws : List ℕ) (node start needed : ℕ) : Type 0 where
+pub record Backward (arity : ℕ → ℕ) (ws : List ℕ) (node start needed : ℕ) : Type 0 where
   pub low : start ≤ node + 1
-  pub same : startOf a ws node ≡ startFrom a ws start needed
+  pub same : startOfBy arity ws node ≡ startFromBy arity ws start needed
 
-pub backward-first : (a ws : List ℕ) (node : ℕ) → Backward a ws node (node + 1) 1
-backward-first a ws node = record { low = omega arith; same = refl }
+pub backward-first : (arity : ℕ → ℕ) (ws : List ℕ) (node : ℕ) → Backward arity ws node (node + 1) 1
+backward-first arity ws node = record { low = omega arith; same = refl }
 
-module _ {a ws : List ℕ} {node start needed : ℕ} (b : Backward a ws node start needed) where
-  pub backward-short : start ≤ needed → 0 ≡ startOf a ws node
-  backward-short h = sym (b .same ∙ startFrom-short a ws start needed h)
+module _ {arity : ℕ → ℕ} {ws : List ℕ} {node start needed : ℕ} (b : Backward arity ws node start needed) where
+  pub backward-short : start ≤ needed → 0 ≡ startOfBy arity ws node
+  backward-short h = sym (b .same ∙ startFrom-short arity ws start needed h)
 
-  pub backward-more : (r : ℕ) → 0 < needed → 0 < start → r ≡ arity a (getD ws (start - 1) 0) → Backward a ws node (start - 1) (needed - 1 + r)
+  pub backward-more : (r : ℕ) → 0 < needed → 0 < start → r ≡ arity (getD ws (start - 1) 0) → Backward arity ws node (start - 1) (needed - 1 + r)
   backward-more r hn hs e =
       let low = b .low in
       let p : start ≡ suc (start - 1) = omega arith in
@@ -74,12 +75,12 @@ module _ {a ws : List ℕ} {node start needed : ℕ} (b : Backward a ws node sta
         low = omega arith;
         same =
             b .same
-            ∙ ap₂ (startFrom a ws) p q
-            ∙ startFrom-more a ws (start - 1) (needed - 1)
-            ∙ ap (λ (n : ℕ). startFrom a ws (start - 1) (needed - 1 + n)) (sym e);
+            ∙ ap₂ (startFromBy arity ws) p q
+            ∙ startFrom-more arity ws (start - 1) (needed - 1)
+            ∙ ap (λ (n : ℕ). startFromBy arity ws (start - 1) (needed - 1 + n)) (sym e);
       }
 
-  pub backward-end : needed ≤ 0 → start ≡ startOf a ws node
+  pub backward-end : needed ≤ 0 → start ≡ startOfBy arity ws node
   backward-end h =
       let z : needed ≡ 0 = omega arith in
-      sym (b .same ∙ ap (startFrom a ws start) z ∙ startFrom-none a ws start)
+      sym (b .same ∙ ap (startFromBy arity ws start) z ∙ startFrom-none arity ws start)

@@ -11,7 +11,7 @@ use lib.Seq.{length-take-le}
 use lib.Dec.{leb}
 use borrow.Author.Tests.{leb-true, eqb-true}
 use Rattle.words.specs.Tree.{Tree, Trees, node, none, more, number, postfix, postfixAll}
-use Rattle.words.specs.Postfix.{arity, trees, oneTree, stackAfter}
+use Rattle.words.specs.Shape.{treesBy, oneTreeBy, stackAfterBy}
 use Rattle.words.proofs.TestLaws.{picked}
 use Rattle.words.specs.ExactlyOne.{ExactlyOne}
 use Rattle.words.proofs.RankedTree.{Ranked, RankedAll}
@@ -19,8 +19,8 @@ use Rattle.words.proofs.TreeFold.{fold, foldAll}
 use Rattle.words.proofs.ReadingLaws.{stack-tree}
 
 -- a tree that the words are read as
-pub record TreeOf (a ws : List ℕ) (t : Tree) : Type 0 where
-  pub ranked : Ranked a t
+pub record TreeOf (arity : ℕ → ℕ) (ws : List ℕ) (t : Tree) : Type 0 where
+  pub ranked : Ranked arity t
   pub words : postfix t ≡ ws
 
 -- ---- a list of trees as a node's children
@@ -51,9 +51,9 @@ abbrev onStack : List Tree → List ℕ
 onStack [] = []
 onStack (t ∷ s) = onStack s ++ postfix t
 
-abbrev AllRanked : List ℕ → List Tree → Type 0
-AllRanked a [] = Unit {0}
-AllRanked a (t ∷ s) = Ranked a t × AllRanked a s
+abbrev AllRanked : (ℕ → ℕ) → List Tree → Type 0
+AllRanked arity [] = Unit {0}
+AllRanked arity (t ∷ s) = Ranked arity t × AllRanked arity s
 
 onStack-append : (l s : List Tree) → onStack (l ++ s) ≡ onStack s ++ onStack l
 onStack-append [] s = sym (append-nil (onStack s))
@@ -66,81 +66,81 @@ onStack-row (t ∷ l) =
     ap onStack (reverse-cons t l) ∙ onStack-append (reverse l) (t ∷ [])
     ∙ ap (λ (x : List ℕ). postfix t ++ x) (onStack-row l)
 
-module _ (a : List ℕ) where
-  ranked-append : (l s : List Tree) → AllRanked a l → AllRanked a s → AllRanked a (l ++ s)
+module _ (arity : ℕ → ℕ) where
+  ranked-append : (l s : List Tree) → AllRanked arity l → AllRanked arity s → AllRanked arity (l ++ s)
   ranked-append [] s h g = g
   ranked-append (t ∷ l) s h g = (h .0, ranked-append l s (h .1) g)
 
-  ranked-reverse : (l : List Tree) → AllRanked a l → AllRanked a (reverse l)
+  ranked-reverse : (l : List Tree) → AllRanked arity l → AllRanked arity (reverse l)
   ranked-reverse [] h = tt
-  ranked-reverse (t ∷ l) h = subst (AllRanked a) (sym (reverse-cons t l)) (ranked-append (reverse l) (t ∷ []) (ranked-reverse l (h .1)) (h .0, tt))
+  ranked-reverse (t ∷ l) h = subst (AllRanked arity) (sym (reverse-cons t l)) (ranked-append (reverse l) (t ∷ []) (ranked-reverse l (h .1)) (h .0, tt))
 
-  ranked-row : (l : List Tree) → AllRanked a l → RankedAll a (row l)
+  ranked-row : (l : List Tree) → AllRanked arity l → RankedAll arity (row l)
   ranked-row [] h = tt
   ranked-row (t ∷ l) h = (h .0, ranked-row l (h .1))
 
-  ranked-take : (n : ℕ) (s : List Tree) → AllRanked a s → AllRanked a (take n s)
+  ranked-take : (n : ℕ) (s : List Tree) → AllRanked arity s → AllRanked arity (take n s)
   ranked-take zero s h = tt
   ranked-take (suc n) [] h = tt
   ranked-take (suc n) (t ∷ s) h = (h .0, ranked-take n s (h .1))
 
-  ranked-drop : (n : ℕ) (s : List Tree) → AllRanked a s → AllRanked a (drop n s)
+  ranked-drop : (n : ℕ) (s : List Tree) → AllRanked arity s → AllRanked arity (drop n s)
   ranked-drop zero s h = h
   ranked-drop (suc n) [] h = tt
   ranked-drop (suc n) (t ∷ s) h = ranked-drop n s (h .1)
 
   -- a stack of n trees whose words are ws
   record Stack (ws : List ℕ) (n : ℕ) (s : List Tree) : Type 0 where
-    ranked : AllRanked a s
+    ranked : AllRanked arity s
     words : onStack s ≡ ws
     height : length s ≡ n
 
   -- one word more takes its children from the stack
-  module _ (w : ℕ) (s : List Tree) (r : arity a w ≤ length s) (h : AllRanked a s) where
+  module _ (w : ℕ) (s : List Tree) (r : arity w ≤ length s) (h : AllRanked arity s) where
     abbrev kids : List Tree
-    kids = reverse (take (arity a w) s)
+    kids = reverse (take (arity w) s)
 
-    kids-number : arity a w ≡ number (row kids)
-    kids-number = sym (number-row kids ∙ length-reverse (take (arity a w) s) ∙ length-take-le (arity a w) s r)
+    kids-number : arity w ≡ number (row kids)
+    kids-number = sym (number-row kids ∙ length-reverse (take (arity w) s) ∙ length-take-le (arity w) s r)
 
-    more-ranked : AllRanked a (built w kids ∷ drop (arity a w) s)
+    more-ranked : AllRanked arity (built w kids ∷ drop (arity w) s)
     more-ranked =
-        ((kids-number, ranked-row kids (ranked-reverse (take (arity a w) s) (ranked-take (arity a w) s h))), ranked-drop (arity a w) s h)
+        ((kids-number, ranked-row kids (ranked-reverse (take (arity w) s) (ranked-take (arity w) s h))), ranked-drop (arity w) s h)
 
-    more-words : onStack (built w kids ∷ drop (arity a w) s) ≡ onStack s ++ w ∷ []
+    more-words : onStack (built w kids ∷ drop (arity w) s) ≡ onStack s ++ w ∷ []
     more-words =
-        sym (append-assoc (onStack (drop (arity a w) s)) (postfixAll (row kids)) (w ∷ []))
-        ∙ ap (λ (x : List ℕ). (onStack (drop (arity a w) s) ++ x) ++ w ∷ []) (sym (onStack-row kids) ∙ ap onStack (reverse-reverse (take (arity a w) s)))
-        ∙ ap (λ (x : List ℕ). x ++ w ∷ []) (sym (onStack-append (take (arity a w) s) (drop (arity a w) s)) ∙ ap onStack (take-append-drop (arity a w) s))
+        sym (append-assoc (onStack (drop (arity w) s)) (postfixAll (row kids)) (w ∷ []))
+        ∙ ap (λ (x : List ℕ). (onStack (drop (arity w) s) ++ x) ++ w ∷ []) (sym (onStack-row kids) ∙ ap onStack (reverse-reverse (take (arity w) s)))
+        ∙ ap (λ (x : List ℕ). x ++ w ∷ []) (sym (onStack-append (take (arity w) s) (drop (arity w) s)) ∙ ap onStack (take-append-drop (arity w) s))
 
   -- words that make n trees on a stack are read as the words of n trees
-  read-stack : (ws : List ℕ) (s : List Tree) (n : ℕ) → AllRanked a s → trees a (length s) ws n ≡ true
+  read-stack : (ws : List ℕ) (s : List Tree) (n : ℕ) → AllRanked arity s → treesBy arity (length s) ws n ≡ true
       → (s′ : List Tree) × Stack (onStack s ++ ws) n s′
-  unfolding trees
+  unfolding treesBy
   read-stack [] s n h e = (s, record { ranked = h; words = sym (append-nil (onStack s)); height = eqb-true (length s) n e })
   read-stack (w ∷ ws) s n h e =
-      let r = arity a w in
-      let p = picked (leb r (length s)) (trees a (length s - r + 1) ws n) e in
+      let r = arity w in
+      let p = picked (leb r (length s)) (treesBy arity (length s - r + 1) ws n) e in
       let le : r ≤ length s = leb-true r (length s) (p .0) in
       let q : length s - r + 1 ≡ suc (length (drop r s)) = rw (length-drop r s) (add-one (length s - r)) in
-      let b = read-stack ws (built w (reverse (take r s)) ∷ drop r s) n (more-ranked w s le h) (subst (λ (x : ℕ). trees a x ws n ≡ true) q (p .1)) in
+      let b = read-stack ws (built w (reverse (take r s)) ∷ drop r s) n (more-ranked w s le h) (subst (λ (x : ℕ). treesBy arity x ws n ≡ true) q (p .1)) in
       let g : onStack (built w (reverse (take r s)) ∷ drop r s) ++ ws ≡ onStack s ++ w ∷ ws =
       ap (λ (x : List ℕ). x ++ ws) (more-words w s le h) ∙ append-assoc (onStack s) (w ∷ []) ws in
       (b .0, record { ranked = b .1 .ranked; words = b .1 .words ∙ g; height = b .1 .height })
 
-  stack-one : (ws : List ℕ) (s : List Tree) → Stack ws 1 s → (t : Tree) × TreeOf a ws t
+  stack-one : (ws : List ℕ) (s : List Tree) → Stack ws 1 s → (t : Tree) × TreeOf arity ws t
   stack-one ws [] k = absurd (let z = k .height in omega arith)
   stack-one ws (t ∷ []) k = (t, record { ranked = k .ranked .0; words = k .words })
   stack-one ws (t ∷ u ∷ s) k = absurd (let z = k .height in omega arith)
 
   -- reading a tree's words by `built` gives the tree back, so no two trees have the same words
-  tree-read : (ws : List ℕ) (t : Tree) → TreeOf a ws t → stackAfter a built ws [] ≡ t ∷ []
+  tree-read : (ws : List ℕ) (t : Tree) → TreeOf arity ws t → stackAfterBy arity built ws [] ≡ t ∷ []
   tree-read ws t h =
-      ap (λ (l : List ℕ). stackAfter a built l []) (sym (h .words)) ∙ stack-tree a built t [] (h .ranked)
+      ap (λ (l : List ℕ). stackAfterBy arity built l []) (sym (h .words)) ∙ stack-tree arity built t [] (h .ranked)
       ∙ ap (λ (x : Tree). x ∷ []) (fold-built t)
 
   -- "exactly one tree remains"
-  pub exactly-one-tree : (ws : List ℕ) → oneTree a ws ≡ true → ExactlyOne (TreeOf a ws)
+  pub exactly-one-tree : (ws : List ℕ) → oneTreeBy arity ws ≡ true → ExactlyOne (TreeOf arity ws)
   exactly-one-tree ws h =
       let b = read-stack ws [] 1 tt h in
       let k = stack-one ws (b .0) (b .1) in

@@ -6,6 +6,7 @@ pub mod Word
 pub mod Decoded
 pub mod Alphabet
 pub mod Tree
+pub mod Shape
 pub mod Postfix
 pub mod Expression
 pub mod Chapter

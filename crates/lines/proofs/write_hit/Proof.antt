@@ -1,6 +1,7 @@
 -- `write_hit` meets its contract: the parts of the line are written one after the other, and a subtree begins at or
 -- before its last node.
 use native.Mathlib.Omega.{arith}
+use Rattle.words.specs.Postfix.{arity}
 use Rattle.words.proofs.PostfixLaws.{start-le}
 use Rattle.lines.proofs.LineLaws.{hit-written}
 use borrow.Author.Needs.{needs}
@@ -14,7 +15,7 @@ subtree-start-requires : tie.Need-subtree-start-requires
 subtree-start-requires c κs = tt
 
 sub-size : tie.Need-sub-size
-sub-size c = omega (arith, c .subtree-start .ensures, start-le (c .before .before .before .before .args .alphabet .now) (c .before .before .before .before .args .chapter .now) (c .before .before .before .before .args .hit))
+sub-size c = omega (arith, c .subtree-start .ensures, start-le (arity (c .before .before .before .before .args .alphabet .now)) (c .before .before .before .before .args .chapter .now) (c .before .before .before .before .args .hit))
 
 write-field-requires : tie.Need-write-field-requires
 write-field-requires c κs = tt

@@ -7,6 +7,7 @@ use native.Mathlib.Omega.{arith}
 use borrow.Author.Needs.{needs}
 use borrow.Author.Tests.{lt-ltb, le-ltb}
 use Rattle.words.specs.Refusal.{Refusals}
+use Rattle.words.specs.Postfix.{arity}
 use Rattle.words.proofs.RefusalLaws.{none, here, next, number}
 use Rattle.words.proofs.PostfixLaws.{start-le}
 use Rattle.operations.specs.Exchange.{noElement, changeRefusals}
@@ -49,14 +50,14 @@ add-count c =
     let c₂ = c .before in
     let q = c₂ .before .before .before .before .before .before .before .args in
     let few = replacement-right _ _ (sym (c₂ .before .no-replacement .ensures) ∙ c₂ .if2 .left) .counted .few in
-    omega (arith, few, c .subtree-start .ensures, start-le (q .alphabet .now) (q .used .now) (q .element))
+    omega (arith, few, c .subtree-start .ensures, start-le (arity (q .alphabet .now)) (q .used .now) (q .element))
 
 add-count-2 : tie.Need-add-count-2
 add-count-2 c =
     let c₂ = c .before in
     let q = c₂ .before .before .before .before .before .before .before .args in
     let few = replacement-right _ _ (sym (c₂ .before .no-replacement .ensures) ∙ c₂ .if2 .left) .counted .few in
-    omega (arith, few, c .subtree-start .ensures, start-le (q .alphabet .now) (q .used .now) (q .element))
+    omega (arith, few, c .subtree-start .ensures, start-le (arity (q .alphabet .now)) (q .used .now) (q .element))
 
 result-too-long-requires : tie.Need-result-too-long-requires
 result-too-long-requires c κs = search needs

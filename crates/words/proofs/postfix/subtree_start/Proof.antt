@@ -3,18 +3,19 @@
 use mathlib.Core.Path.{sym}
 use native.Mathlib.Omega.{arith}
 use borrow.Author.Needs.{needs}
-use Rattle.words.proofs.StartLaws.{arity-most, start-missing, Backward, backward-first, backward-short, backward-more, backward-end}
+use Rattle.words.specs.Postfix.{arity}
+use Rattle.words.proofs.StartLaws.{arity-most, arity-missing, start-missing, Backward, backward-first, backward-short, backward-more, backward-end}
 use Rattle.words.proofs.postfix.subtree_start.Statement.{statement}
 use Rattle.words.proofs.postfix.subtree_start.Tie as tie
 
 abbrev Inv-loop : tie.InvT-loop
-Inv-loop alphabet words node start₀ needed₀ start needed = Backward alphabet words node start needed
+Inv-loop alphabet words node start₀ needed₀ start needed = Backward (arity alphabet) words node start needed
 
 abbrev μ-loop : tie.MeasureT-loop
 μ-loop alphabet words node start₀ needed₀ start needed = start
 
 returns : tie.Need-returns Inv-loop μ-loop
-returns c = sym (start-missing _ _ _ (c .if1 .taken))
+returns c = sym (start-missing _ _ _ (arity-missing _) (c .if1 .taken))
 
 add-start : tie.Need-add-start Inv-loop μ-loop
 add-start c = search needs
