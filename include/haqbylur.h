@@ -4,7 +4,8 @@
  * where the length is 0. Each function returns 0 where the call is accepted, and otherwise document 01's number of the
  * refusal; then no lent word changes, and no out-parameter either. What a call may write (slices and out-parameters that are
  * not const) overlaps with no other argument of that call. Any thread may call while no other uses the same memory: the
- * library keeps nothing between calls. It allocates nothing and calls memcpy, memmove and memset alone. */
+ * library keeps nothing between calls. It allocates nothing and calls memcpy, memmove and memset alone. It uses the red zone below
+ * the stack pointer and SSE2 registers: docs/FIRMWARE.md says what that asks of interrupts on a board without an operating system. */
 #ifndef HAQBYLUR_H
 #define HAQBYLUR_H
 
