@@ -5,19 +5,23 @@
 
 #define LENGTH(a) (sizeof(a) / sizeof((a)[0]))
 
-/* a, b, c, d of rank 0, f of rank 2, g and h of rank 1, numbered 0 to 6. */
+/* a, b, c, d of rank 0, f of rank 2, g and h of rank 1, numbered by position. */
+enum { A, B, C, D, F, G, H };
 static const uint32_t alphabet[] = {
-    0x10000000, 0x10000000, 0x10000000, 0x10000000, 0x10000002, 0x10000001, 0x10000001};
+    HAQBYLUR_ENTRY(0), HAQBYLUR_ENTRY(0), HAQBYLUR_ENTRY(0), HAQBYLUR_ENTRY(0),
+    HAQBYLUR_ENTRY(2), HAQBYLUR_ENTRY(1), HAQBYLUR_ENTRY(1)};
 
 /* a b f c g d (product over c) union (closure over d). */
 static const uint32_t rule[] = {
-    0x20000000, 0x20000001, 0x20000004, 0x20000002, 0x20000005, 0x20000003, 0x50000002, 0x40000000, 0x60000003};
+    HAQBYLUR_SYMBOL(A), HAQBYLUR_SYMBOL(B), HAQBYLUR_SYMBOL(F), HAQBYLUR_SYMBOL(C), HAQBYLUR_SYMBOL(G),
+    HAQBYLUR_SYMBOL(D), HAQBYLUR_PRODUCT(C), HAQBYLUR_UNION, HAQBYLUR_CLOSURE(D)};
 
-static const uint32_t d[] = {0x70000003};
+static const uint32_t d[] = {HAQBYLUR_ELEMENT(D)};
 
 /* Chapter a b f d g h f. The slices are lent to the calls. */
 static uint32_t chapter[] = {
-    0x70000000, 0x70000001, 0x70000004, 0x70000003, 0x70000005, 0x70000006, 0x70000004};
+    HAQBYLUR_ELEMENT(A), HAQBYLUR_ELEMENT(B), HAQBYLUR_ELEMENT(F), HAQBYLUR_ELEMENT(D),
+    HAQBYLUR_ELEMENT(G), HAQBYLUR_ELEMENT(H), HAQBYLUR_ELEMENT(F)};
 static uint32_t table[HAQBYLUR_MOST_COMPILED_WORDS];
 static uint32_t marks[HAQBYLUR_MARK_WORDS(LENGTH(chapter), HAQBYLUR_MOST_STATES)];
 static uint32_t list[LENGTH(chapter)];

@@ -4,7 +4,8 @@
  * where the length is 0. Each function returns 0 where the call is accepted, and otherwise document 01's number of the
  * refusal; then no lent word changes, and no out-parameter either. What a call may write (slices and out-parameters that are
  * not const) overlaps with no other argument of that call. Any thread may call while no other uses the same memory: the
- * library keeps nothing between calls. It allocates nothing and calls memcpy, memmove and memset alone. */
+ * library keeps nothing between calls. It allocates nothing and calls memcpy, memmove and memset alone. It uses the red zone below
+ * the stack pointer and SSE2 registers: docs/FIRMWARE.md says what that asks of interrupts on a board without an operating system. */
 #ifndef HAQBYLUR_H
 #define HAQBYLUR_H
 
@@ -41,6 +42,20 @@
 #define HAQBYLUR_NO_REPLACEMENT 15u  /* 0 or over 4,096 words, or no tree over the alphabet */
 #define HAQBYLUR_RESULT_TOO_LONG 16u /* the result is over 4,096 elements, the chapter slice or the marks slice */
 
+/* The words of an alphabet and of a chapter: a symbol with so many parts (its rank); an element with this symbol. A symbol's
+ * number is its position in the alphabet, from 0. A chapter is one tree, each element behind its parts, which stand from left to
+ * right; an element's number is its position in the chapter, from 0. */
+#define HAQBYLUR_ENTRY(rank) (0x10000000u + (uint32_t)(rank))
+#define HAQBYLUR_ELEMENT(symbol) (0x70000000u + (uint32_t)(symbol))
+
+/* The words of a rule, in the same order (docs/RULES.md): a symbol, which takes as many rules as its rank; the empty language; the
+ * union of two; the product of two and the closure of one over the constant c. */
+#define HAQBYLUR_SYMBOL(symbol) (0x20000000u + (uint32_t)(symbol))
+#define HAQBYLUR_EMPTY 0x30000000u
+#define HAQBYLUR_UNION 0x40000000u
+#define HAQBYLUR_PRODUCT(c) (0x50000000u + (uint32_t)(c))
+#define HAQBYLUR_CLOSURE(c) (0x60000000u + (uint32_t)(c))
+
 /* The state count of a table, from its first word. */
 #define HAQBYLUR_STATE_COUNT(head) (((uint32_t)(head) >> 10) & 0x7ffu)
 
@@ -69,7 +84,8 @@ uint32_t haqbylur_run(
     uint32_t *elements,
     uint32_t *cells);
 
-/* Names the hit elements of a marked chapter of `count` elements. hits: how many there are. Refusals 1, 2, 8, 9, 12, 13. */
+/* Names the hits of a marked chapter of `count` elements, in rising order: the elements whose whole subtree belongs to the rule's
+ * language. hits: how many there are. Refusals 1, 2, 8, 9, 12, 13. */
 uint32_t haqbylur_list(
     const uint32_t *alphabet, size_t alphabet_length,
     const uint32_t *table, size_t table_length,

@@ -1,6 +1,7 @@
 /* How much stack each C function takes: it is called on a painted stack with the largest rule (1,024 states, 1,147 table
  * words) and a chapter of 4,089 elements, and with the source's rule. Printed are the bytes below the caller's frame that
- * were written, the return address included. What is measured is this build on this machine: no theorem bounds a stack.
+ * were written, the return address included; the lowest may lie in the red zone (docs/FIRMWARE.md). What is measured is this
+ * build on this machine: no theorem bounds a stack.
  *
  *   rt staticlib haqbylur
  *   gcc -O2 -static -Iinclude tools/stack.c target/staticlib/libhaqbylur.a -lpthread -o target/stack && target/stack */
@@ -89,8 +90,8 @@ static void measure_all(const char *name)
     measure("run", run);
     measure("list", list_hits);
     measure("exchange", exchange);
-    printf("  states %u, table words %u, elements %u, worked out %u\n", (unsigned)HAQBYLUR_STATE_COUNT(table[0]),
-           (unsigned)words, (unsigned)elements, (unsigned)worked_out);
+    printf("  states %u, table words %u, elements %zu, after the exchange %u\n", (unsigned)HAQBYLUR_STATE_COUNT(table[0]),
+           (unsigned)words, chapter_words, (unsigned)elements);
 }
 
 /* A symbol of rank 4 over 4 constants under 59 closures, over 16 constants. */

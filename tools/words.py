@@ -5,10 +5,11 @@
     words.py show [INPUT] [NAMES]   an input as text; NAMES is a text from whose alphabet the symbols take their names
     words.py hits INPUT OUTPUT [NAMES]   what marklist printed of the input, with each hit's subtree beside it
 
-A file that is left out, or `-`, is standard input. docs/BENCH.md describes the text. What `show` prints, `make` turns back
-into the very same bytes, whatever they are.
+`-` is standard input, as is TEXT or INPUT where `make` or `show` gets none. docs/BENCH.md describes the text. What `show`
+prints, `make` turns back into the very same bytes, whatever they are. The status is 0, 1 for a wrong file, 2 for wrong usage.
 """
 
+import os
 import re
 import struct
 import sys
@@ -161,10 +162,24 @@ def read_numbered(alphabet, text):
 
 
 def read_words(text):
-    words = [int(token, 16) for token in text.split()]
-    if any(w >> 32 for w in words):
-        raise Wrong("a word is over 32 bits")
-    return words
+    for token in text.split():
+        if not re.fullmatch(r"0x[0-9a-fA-F]{1,8}", token):
+            raise Wrong("no word of 32 bits, in hexadecimal with 0x: " + token)
+    return [int(token, 16) for token in text.split()]
+
+
+def read_counts(text):
+    """The three counts that the text announces."""
+    if not re.fullmatch(r"\s*([0-9]+\s+){2}[0-9]+\s*", text) or any(int(count) >> 32 for count in text.split()):
+        raise Wrong("counts: three decimal numbers of 32 bits are asked for")
+    return [int(count) for count in text.split()]
+
+
+def read_bytes(text):
+    try:
+        return bytes.fromhex(text)
+    except ValueError:
+        raise Wrong("bytes: two hexadecimal digits for each byte are asked for")
 
 
 def read_alphabet(text):
@@ -215,17 +230,15 @@ def make(text):
                 words[name] = alphabet.words()
             else:
                 words[name] = read(alphabet, section)
-        except (Wrong, ValueError) as error:
+        except Wrong as error:
             raise Wrong("%s: %s" % (name, error))
     counts = [len(words[name]) for name in SECTIONS]
     if "counts" in sections:
-        counts = [int(count) for count in sections["counts"].split()]
-        if len(counts) != 3 or not all(0 <= count < 1 << 32 for count in counts):
-            raise Wrong("counts: three numbers of 32 bits are asked for")
+        counts = read_counts(sections["counts"])
     elif "bytes" in sections and missing:
         counts = []
     numbers = counts + [w for name in SECTIONS for w in words[name]]
-    return struct.pack("<%dI" % len(numbers), *numbers) + bytes.fromhex(sections.get("bytes", ""))
+    return struct.pack("<%dI" % len(numbers), *numbers) + read_bytes(sections.get("bytes", ""))
 
 
 # Writing.
@@ -339,31 +352,49 @@ def show(data, names=None):
     return text
 
 
+def subtrees(alphabet, words):
+    """For each element its symbol, its subtree's element count and its subtree as text."""
+    found = []
+
+    def write(i, parts):
+        symbol = words[i] & 0xFF
+        text = alphabet.names[symbol] + ("(%s)" % ", ".join(part[2] for part in parts) if parts else "")
+        found.append((symbol, 1 + sum(part[1] for part in parts), text))
+        return found[-1]
+
+    try:
+        fold(alphabet, words, (ELEMENT,), write)
+    except Wrong as error:
+        raise Wrong("the input's chapter is no tree: %s" % error)
+    return found
+
+
 def hits(data, output, names=None):
     """Each line of the output that names a hit, with the hit's subtree behind it."""
     sections = split(data)[1]
-    lines = output.split("\n")
-    if lines[-1] == "":
-        lines.pop()
-    if not lines or not re.fullmatch(r"nodes \d+ states \d+ hits \d+", lines[0]):
-        if len(lines) == 1 and re.fullmatch(r"refused \d+", lines[0]):
+    if not output.endswith("\n"):
+        raise Wrong("the output does not end with a newline")
+    lines = output.split("\n")[:-1]
+    head = re.fullmatch(r"nodes ([0-9]+) states [0-9]+ hits ([0-9]+)", lines[0])
+    if not head:
+        if len(lines) == 1 and re.fullmatch(r"refused [0-9]+", lines[0]):
             return output
-        raise Wrong("the output is neither a head line with hits nor `refused N`")
-    if int(lines[0].split()[5]) != len(lines) - 1:
-        raise Wrong("the head says %s hits, and %d lines follow" % (lines[0].split()[5], len(lines) - 1))
+        raise Wrong("the output is neither a head line with hits nor `refused N`, with newlines alone for line ends")
+    if int(head[1]) != len(sections[2]):
+        raise Wrong("the head says %s elements, and the input has %d" % (head[1], len(sections[2])))
+    if int(head[2]) != len(lines) - 1:
+        raise Wrong("the head says %s hits, and %d lines follow" % (head[2], len(lines) - 1))
+    trees = subtrees(Alphabet.of_words(sections[0], names), sections[2])
+    shown = [lines[0]]
     for line in lines[1:]:
-        if not re.fullmatch(r"\d+ \d+ \d+", line) or int(line.split()[0]) >= len(sections[2]):
-            raise Wrong("no hit of this input: " + line)
-    alphabet = Alphabet.of_words(sections[0], names)
-    trees = []
-
-    def write(i, parts):
-        name = alphabet.names[sections[2][i] & 0xFF]
-        trees.append(name + ("(%s)" % ", ".join(parts) if parts else ""))
-        return trees[-1]
-
-    fold(alphabet, sections[2], (ELEMENT,), write)
-    return "".join([lines[0] + "\n"] + ["%s  %s\n" % (line, trees[int(line.split()[0])]) for line in lines[1:]])
+        found = re.fullmatch(r"([0-9]+) ([0-9]+) ([0-9]+)", line)
+        if not found or int(found[1]) >= len(trees):
+            raise Wrong("no element of this input: " + line)
+        symbol, size, text = trees[int(found[1])]
+        if [symbol, size] != [int(found[2]), int(found[3])]:
+            raise Wrong("%s: element %s has symbol %d and a subtree of %d elements" % (line, found[1], symbol, size))
+        shown.append("%s  %s" % (line, text))
+    return "\n".join(shown) + "\n"
 
 
 def read_file(arguments, place):
@@ -376,7 +407,10 @@ def read_file(arguments, place):
 def names_in(arguments, place):
     if len(arguments) <= place:
         return None
-    return read_alphabet(sections_of(read_file(arguments, place).decode()).get("alphabet", "")).names
+    alphabet = sections_of(read_file(arguments, place).decode()).get("alphabet", "")
+    if is_words(alphabet):
+        raise Wrong("%s: this text's alphabet has no names" % arguments[place])
+    return read_alphabet(alphabet).names
 
 
 def main(arguments):
@@ -391,6 +425,11 @@ def main(arguments):
         else:
             sys.stderr.write(__doc__)
             return 2
+        sys.stdout.flush()
+    except BrokenPipeError:
+        # Nobody reads any more. What is still in the buffer goes nowhere, or the interpreter would try it again at its end.
+        os.dup2(os.open(os.devnull, os.O_WRONLY), sys.stdout.fileno())
+        return 141
     except RecursionError:
         sys.stderr.write("words.py: the text is nested too deeply\n")
         return 1

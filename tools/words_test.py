@@ -4,6 +4,9 @@
 import os
 import random
 import struct
+import subprocess
+import sys
+import tempfile
 import unittest
 
 import words
@@ -89,9 +92,30 @@ class Words(unittest.TestCase):
             "rule: a +\nchapter: d", "rule: (a\nchapter: d", "rule: a\nchapter: f(a)", "rule: a\nchapter: a + b",
             "rule: a\nchapter:\n 0: a\n 2: g(0)", "rule: a\nchapter:\n 0: a\n 1: b\n 2: f(1,0)", "rule: a\nchapter:\n 0: a\n 1: b",
             "rule: a", "rule: a\nrule: a\nchapter: d", "rules: a\nchapter: d", "rule: 0x1ffffffff\nchapter: d",
+            "rule: 0x20000003 20000003\nchapter: d", "rule: 0x2000_0003\nchapter: d",
         ):
-            with self.assertRaises((words.Wrong, ValueError), msg=line):
+            with self.assertRaises(words.Wrong, msg=line):
                 words.make(ALPHABET + line + "\n")
+        for line in ("counts: 7 9", "counts: 7 9 7 7", "counts: 7 9 x", "counts: 0x7 9 7", "counts: 7 9 -7", "counts: 7 9 4294967296"):
+            with self.assertRaisesRegex(words.Wrong, "three decimal numbers", msg=line):
+                words.make(SOURCE + line + "\n")
+        for line in ("bytes: 0", "bytes: 0x0a", "bytes: zz"):
+            with self.assertRaisesRegex(words.Wrong, "two hexadecimal digits", msg=line):
+                words.make(SOURCE + line + "\n")
+
+    def test_what_no_sections_give(self):
+        self.assertEqual(words.make("bytes:\n"), b"")
+        self.assertEqual(words.make("bytes: 07 00 00\n"), b"\7\0\0")
+        self.assertEqual(words.make("counts: 7 9 7\n"), struct.pack("<3I", 7, 9, 7))
+        self.assertEqual(words.make(SOURCE + "bytes: 0a 0b\n"), words.make(SOURCE) + b"\x0a\x0b")
+        self.assertEqual(words.make(SOURCE + "counts: 7 9 8\n")[:12], struct.pack("<3I", 7, 9, 8))
+
+    def test_forms(self):
+        """Sections in any order, and the names s0, s1, .. where the alphabet is words."""
+        lines = "".join(reversed(SOURCE.splitlines(keepends=True)))
+        self.assertEqual(words.make(lines), words.make(SOURCE))
+        text = "alphabet: 0x10000000 0x10000001\nrule: s1(s0)\nchapter: s0\n"
+        self.assertEqual(words.make(text), words.make("alphabet: a/0 g/1\nrule: g(a)\nchapter: a\n"))
 
     def test_random_inputs(self):
         chance = random.Random(1)
@@ -132,10 +156,45 @@ class Words(unittest.TestCase):
             "nodes 7 states 29 hits 3\n2 4 3  f(a, b)\n3 3 1  d\n4 5 2  g(d)\n",
         )
         self.assertEqual(words.hits(data, "refused 5\n", names), "refused 5\n")
-        self.assertEqual(words.hits(data, printed[:-1], names), words.hits(data, printed, names))
-        for wrong in ("", "nodes 7\n", printed[:-6], printed + "4 5 2\n", printed.replace("4 5 2", "7 5 2"), printed.replace("4 5", "x 5")):
-            with self.assertRaises(words.Wrong):
+        for wrong in (
+            "", "nodes 7\n", "refused 5", printed[:-1], printed[:-6], printed + "4 5 2\n", printed.replace("\n", "\r\n"),
+            printed.replace("4 5 2", "7 5 2"), printed.replace("4 5", "x 5"), printed.replace("nodes 7", "nodes 8"),
+            printed.replace("4 5 2", "4 4 2"), printed.replace("4 5 2", "4 5 3"), printed.replace("4 5 2", "5 5 2"),
+        ):
+            with self.assertRaises(words.Wrong, msg=wrong):
                 words.hits(data, wrong, names)
+
+    def command(self, *arguments, data=b""):
+        run = subprocess.run([sys.executable, "-B", words.__file__] + list(arguments), input=data, stdout=subprocess.PIPE, stderr=subprocess.PIPE)
+        return run.returncode, run.stdout, run.stderr.decode()
+
+    def test_statuses(self):
+        source = os.path.join(ROOT, "examples", "source.txt")
+        data = words.make(SOURCE)
+        self.assertEqual(self.command("make", source), (0, data, ""))
+        self.assertEqual(self.command("make", data=SOURCE.encode()), (0, data, ""))
+        status, written, said = self.command("make", "-", data=b"rule: a\n")
+        self.assertEqual((status, written, said.count("\n")), (1, b"", 1))
+        for wrong in ([], ["mak"], ["make", "a", "b"], ["hits", "a"], ["hits"]):
+            self.assertEqual(self.command(*wrong)[:2], (2, b""), wrong)
+
+    def test_texts_without_names(self):
+        with tempfile.TemporaryDirectory() as folder:
+            for text in ("alphabet: 0x10000000\nrule: s0\nchapter: s0\n", "bytes: 00\n"):
+                file = os.path.join(folder, "text")
+                with open(file, "w") as out:
+                    out.write(text)
+                status, written, said = self.command("show", "-", file, data=words.make(SOURCE))
+                self.assertEqual((status, written), (1, b""))
+                self.assertEqual(said, "words.py: %s: this text's alphabet has no names\n" % file)
+
+    def test_output_that_nobody_reads(self):
+        reader, writer = os.pipe()
+        os.close(reader)
+        command = [sys.executable, "-B", words.__file__, "make", os.path.join(ROOT, "examples", "source.txt")]
+        run = subprocess.run(command, stdout=writer, stderr=subprocess.PIPE)
+        os.close(writer)
+        self.assertEqual((run.returncode, run.stderr), (141, b""))
 
     def test_comb(self):
         text = "alphabet: a/0 g/1\nrule: a\nchapter: " + "g(" * 4095 + "a" + ")" * 4095 + "\n"

@@ -108,21 +108,31 @@ def check(file):
     return DIFFERS if verdict == checker.REFUSED else COULD_NOT_TELL
 
 
+def perform(words):
+    if len(words) == 2 and words[0] == '--check':
+        return check(words[1])
+    place = None
+    if len(words) >= 2 and words[0] == '--certificate':
+        place, words = words[1], words[2:]
+    how = judge
+    if words and words[0] == '--exchange':
+        how, words = judge_exchange, words[1:]
+    if not words or any(word.startswith('--') for word in words):
+        raise BadUsage(USAGE)
+    if place is not None and any(Path(place).resolve() == Path(word).resolve() for word in words):
+        raise BadUsage(f'{place}: the certificate would replace a file that is to be judged')
+    return how(place, words[0], words[1:])
+
+
 def main(words):
     try:
-        if len(words) == 2 and words[0] == '--check':
-            return check(words[1])
-        place = None
-        if len(words) >= 2 and words[0] == '--certificate':
-            place, words = words[1], words[2:]
-        how = judge
-        if words and words[0] == '--exchange':
-            how, words = judge_exchange, words[1:]
-        if not words or any(word.startswith('--') for word in words):
-            raise BadUsage(USAGE)
-        if place is not None and any(Path(place).resolve() == Path(word).resolve() for word in words):
-            raise BadUsage(f'{place}: the certificate would replace a file that is to be judged')
-        return how(place, words[0], words[1:])
+        status = perform(words)
+        sys.stdout.flush()
+        return status
+    except BrokenPipeError:
+        # Nobody reads any more. What is still in the buffer goes nowhere, or the interpreter would try it again at its end.
+        os.dup2(os.open(os.devnull, os.O_WRONLY), sys.stdout.fileno())
+        return 141
     except (BadUsage, book.BadForm) as error:
         print(error, file=sys.stderr)
         return BAD_USAGE
