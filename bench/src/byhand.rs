@@ -39,7 +39,8 @@ fn word(kind: u32, above: usize, below: usize) -> u32 {
     kind << 28 | (above as u32) << 10 | below as u32
 }
 
-/// One chain of the unary symbol over each constant, joined by the binary one.
+/// One chain of the unary symbol over each constant, joined by the binary one. The binary nodes stand above each other: a chain is
+/// shorter by as many, so that the chapter is at most 512 high.
 pub fn chains(_: &[u32], nodes: usize) -> Vec<usize> {
     let long = nodes / CONSTANTS - 8;
     let mut tree = Vec::new();
