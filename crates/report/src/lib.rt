@@ -12,8 +12,8 @@ use lines::write_lines;
 use lines::write_refused;
 use matcher::Listed;
 use matcher::Ran;
-use matcher::listing::list;
-use matcher::run::run;
+use matcher::list;
+use matcher::run;
 use tables::head::state_count;
 
 pub mod input;

@@ -1,4 +1,4 @@
--- `listing::list_accepted` meets its contract: the loop keeps that the matches among the first i nodes are written.
+-- `matches::list_accepted` meets its contract: the loop keeps that the matches among the first i nodes are written.
 use Prim.Native.Nat.{_+_, _-_, _*_, _≤_}
 use native.Mathlib.Omega.{arith}
 use lib.ListN.{length}
@@ -7,8 +7,8 @@ use Rattle.operations.proofs.MatchLaws.{matchesOf-few}
 use Rattle.matcher.proofs.CallLaws.{list-row}
 use Rattle.matcher.proofs.ListingLaws.{Found, found-none, found-more, found-end, part-set}
 use borrow.Author.Needs.{needs}
-use Rattle.matcher.proofs.listing.list_accepted.Statement.{statement}
-use Rattle.matcher.proofs.listing.list_accepted.Tie as tie
+use Rattle.matcher.proofs.matches.list_accepted.Statement.{statement}
+use Rattle.matcher.proofs.matches.list_accepted.Tie as tie
 
 abbrev Inv-loop : tie.InvT-loop
 Inv-loop alphabet table count marks list₀ size last found₀ i₀ list found i = (i ≤ count) × Found table marks list₀ list found i

@@ -1,4 +1,4 @@
-// Exchange: an element's subtree gives way to a replacement. The words and the marks behind it move, the replacement's nodes are
+// An accepted Exchange: an element's subtree gives way to a replacement. The words and the marks behind it move, the replacement's nodes are
 // worked out, and then ancestors, nearest first; no other node is.
 ghost use mathlib.Core.Path.{_≡_};
 ghost use mathlib.Core.List.{[], _∷_, flatten, map};
@@ -6,7 +6,7 @@ ghost use Prim.Native.Nat.{_*_};
 ghost use lib.ListN.{length};
 ghost use Rattle.words.specs.Answer.{accepted};
 ghost use Rattle.operations.specs.Marks.{sizeOf, refit};
-ghost use Rattle.operations.specs.Exchange.{setIn, recomputedIn, fault as Exchange·fault, newTree, outcomes, exchangeAnswer, exchangeChapter, exchangeMarks};
+ghost use Rattle.operations.specs.Exchange.{setIn, recomputedIn, fault as Exchange·fault, newTree, outcomes};
 ghost use Rattle.exchanger.specs.Exchanging.{exchangedFrom, Exchangeable};
 ghost use Rattle.exchanger.specs.Answers.{answerIn};
 use super::Exchanged;
@@ -14,7 +14,6 @@ use super::propagate::propagate;
 use super::replace::move_tail;
 use nodes::marking::mark_nodes;
 use nodes::stack::stack_nodes;
-use refusals::exchange::exchange_fault;
 use slices::moves::copy_words;
 use step::index::write_index;
 use tables::head::set_size;
@@ -84,7 +83,7 @@ fn recompute_nodes(
 }
 
 // An accepted call. The old element's words move to the place of the replacement's root, which is then compared with them.
-fn replace_subtree(
+pub(crate) fn replace_subtree(
     alphabet: &[u32],
     table: &[u32],
     chapter: &mut [u32],
@@ -124,42 +123,4 @@ fn replace_subtree(
     move_tail(marks, count * size, element * size, root * size);
     let recomputed = recompute_nodes(alphabet, table, &chapter[..total], start, root, marks);
     Exchanged::Replaced(total, recomputed)
-}
-
-// Document 01's Exchange: the new element count and the number worked out, or a refusal.
-pub fn exchange(
-    alphabet: &[u32],
-    table: &[u32],
-    chapter: &mut [u32],
-    count: usize,
-    marks: &mut [u32],
-    element: usize,
-    replacement: &[u32],
-) -> Exchanged
-    ensures answer { λ r. ⌜
-        answerIn r
-        ≡ exchangeAnswer (now (alphabet .entry)) (now (table .entry)) (now (chapter .entry)) (now (marks .entry)) count element (now (replacement .entry))
-        ⌝ }
-    ensures chapter { λ _. ⌜
-        now (chapter .exit)
-        ≡ exchangeChapter (now (alphabet .entry)) (now (table .entry)) (now (chapter .entry)) (now (marks .entry)) count element (now (replacement .entry))
-        ⌝ }
-    ensures marks { λ _. ⌜
-        now (marks .exit)
-        ≡ exchangeMarks (now (alphabet .entry)) (now (table .entry)) (now (chapter .entry)) (now (marks .entry)) count element (now (replacement .entry))
-        ⌝ }
-{
-    let fault = exchange_fault(
-        alphabet,
-        table,
-        chapter,
-        count,
-        marks.len(),
-        element,
-        replacement,
-    );
-    if fault != 0 {
-        return Exchanged::Refused(fault);
-    }
-    replace_subtree(alphabet, table, chapter, count, marks, element, replacement)
 }

@@ -1,13 +1,10 @@
-// List: the numbers of the matches, ascending.
+// An accepted List: the numbers of the matches, ascending.
 ghost use mathlib.Core.Path.{_≡_};
 ghost use mathlib.Core.List.{[], _∷_, _++_};
 ghost use Prim.Native.Nat.{_+_, _<_};
 ghost use lib.ListN.{length, drop};
 ghost use lib.Seq.{sets};
-ghost use Rattle.operations.specs.Listing.{listFault, matchesIn, matchesOf, listAnswer, listExit};
-ghost use Rattle.matcher.specs.Answers.{answerInListed};
-use super::Listed;
-use refusals::list::list_fault;
+ghost use Rattle.operations.specs.Listing.{listFault, matchesIn, matchesOf};
 use sets::state::contains;
 use tables::head::final_state;
 use tables::head::set_size;
@@ -27,7 +24,7 @@ fn list_node(set: &[u32], last: usize, node: usize, list: &mut [u32], found: usi
 }
 
 // Writes the numbers of the matches of a call that is not refused, and answers how many there are.
-fn list_accepted(
+pub(crate) fn list_accepted(
     alphabet: &[u32],
     table: &[u32],
     count: usize,
@@ -52,27 +49,4 @@ fn list_accepted(
         i += 1;
     }
     found
-}
-
-// Document 01's List: writes the numbers of the matches, or refuses.
-pub fn list(
-    alphabet: &[u32],
-    table: &[u32],
-    count: usize,
-    marks: &[u32],
-    list: &mut [u32],
-) -> Listed
-    ensures answer { λ r. ⌜
-        answerInListed r
-        ≡ listAnswer (now (alphabet .entry)) (now (table .entry)) count (now (marks .entry)) (now (list .entry))
-        ⌝ }
-    ensures list { λ _. ⌜
-        now (list .exit) ≡ listExit (now (alphabet .entry)) (now (table .entry)) count (now (marks .entry)) (now (list .entry))
-        ⌝ }
-{
-    let fault = list_fault(alphabet, table, count, marks.len(), list.len());
-    if fault != 0 {
-        return Listed::Refused(fault);
-    }
-    Listed::Matches(list_accepted(alphabet, table, count, marks, list))
 }

@@ -1,8 +1,8 @@
--- `run::mark_tree` meets its contract: the arrays are large enough, and nothing is remembered at first.
+-- `tree::mark_tree` meets its contract: the arrays are large enough, and nothing is remembered at first.
 use Rattle.matcher.proofs.RunLaws.{tree-index, tree-nodes, tree-marked}
 use borrow.Author.Needs.{needs}
-use Rattle.matcher.proofs.run.mark_tree.Statement.{statement}
-use Rattle.matcher.proofs.run.mark_tree.Tie as tie
+use Rattle.matcher.proofs.tree.mark_tree.Statement.{statement}
+use Rattle.matcher.proofs.tree.mark_tree.Tie as tie
 
 slice-aggregate-write-index : tie.Need-slice-aggregate-write-index
 slice-aggregate-write-index c = search needs

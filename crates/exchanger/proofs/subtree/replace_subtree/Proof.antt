@@ -1,4 +1,4 @@
--- `exchange::replace_subtree` meets its contract: both tails move, the replacement fills the chapter's gap, and the loops recompute
+-- `subtree::replace_subtree` meets its contract: both tails move, the replacement fills the chapter's gap, and the loops recompute
 -- what the definition says, with the old element's words at the root's place.
 use mathlib.Core.Path.{sym, ap₂}
 use mathlib.Core.List.{[], _∷_}
@@ -9,8 +9,8 @@ use Rattle.operations.specs.Exchange.{newTree}
 use Rattle.exchanger.proofs.CallLaws.{Numbers, numbers, accepted-call, length-used, chapter-fits, marks-fits}
 use Rattle.exchanger.proofs.ReplaceLaws.{chapter-exit, chapter-count, call-exchangeable, marks-exit}
 use borrow.Author.Needs.{needs}
-use Rattle.exchanger.proofs.exchange.replace_subtree.Statement.{statement}
-use Rattle.exchanger.proofs.exchange.replace_subtree.Tie as tie
+use Rattle.exchanger.proofs.subtree.replace_subtree.Statement.{statement}
+use Rattle.exchanger.proofs.subtree.replace_subtree.Tie as tie
 
 abbrev start : tie.After-set-size → tie.Start
 start c = c .before .before .before .before .before .before

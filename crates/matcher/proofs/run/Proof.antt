@@ -1,9 +1,9 @@
--- `run::run` meets its contract: a refused call leaves the marks, and an accepted one is that of `run_accepted`.
+-- `matcher::run` meets its contract: a refused call leaves the marks, and an accepted one is that of `run_accepted`.
 use mathlib.Core.Path.{sym, _∙_}
 use Rattle.matcher.proofs.RunLaws.{run-refused, run-accepts}
 use borrow.Author.Needs.{needs}
-use Rattle.matcher.proofs.run.run.Statement.{statement}
-use Rattle.matcher.proofs.run.run.Tie as tie
+use Rattle.matcher.proofs.run.Statement.{statement}
+use Rattle.matcher.proofs.run.Tie as tie
 
 run-fault-requires : tie.Need-run-fault-requires
 run-fault-requires c κs = search needs

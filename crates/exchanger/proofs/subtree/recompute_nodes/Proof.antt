@@ -1,10 +1,10 @@
--- `exchange::recompute_nodes` meets its contract: the index of the table, the stack of the nodes before the replacement, the
+-- `subtree::recompute_nodes` meets its contract: the index of the table, the stack of the nodes before the replacement, the
 -- replacement's nodes up to its root, and the loop over the root and the ancestors.
 use native.Mathlib.Omega.{arith}
 use Rattle.exchanger.proofs.NodesLaws.{nodes-index, nodes-stack, nodes-marks, nodes-propagate, nodes-exchanged}
 use borrow.Author.Needs.{needs}
-use Rattle.exchanger.proofs.exchange.recompute_nodes.Statement.{statement}
-use Rattle.exchanger.proofs.exchange.recompute_nodes.Tie as tie
+use Rattle.exchanger.proofs.subtree.recompute_nodes.Statement.{statement}
+use Rattle.exchanger.proofs.subtree.recompute_nodes.Tie as tie
 
 slice-aggregate-write-index : tie.Need-slice-aggregate-write-index
 slice-aggregate-write-index c = search needs

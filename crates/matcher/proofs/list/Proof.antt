@@ -1,9 +1,9 @@
--- `listing::list` meets its contract: a refused call leaves the list, and an accepted one is that of `list_accepted`.
+-- `matcher::list` meets its contract: a refused call leaves the list, and an accepted one is that of `list_accepted`.
 use mathlib.Core.Path.{sym, _∙_}
 use Rattle.matcher.proofs.ListingLaws.{list-refused, list-accepts}
 use borrow.Author.Needs.{needs}
-use Rattle.matcher.proofs.listing.list.Statement.{statement}
-use Rattle.matcher.proofs.listing.list.Tie as tie
+use Rattle.matcher.proofs.list.Statement.{statement}
+use Rattle.matcher.proofs.list.Tie as tie
 
 list-fault-requires : tie.Need-list-fault-requires
 list-fault-requires c κs = search needs

@@ -1,8 +1,8 @@
--- `exchange::exchange` meets its contract: a refused call changes nothing, and an accepted one does what the definitions say.
+-- `exchanger::exchange` meets its contract: a refused call changes nothing, and an accepted one does what the definitions say.
 use Rattle.exchanger.proofs.AnswerLaws.{call-refused, call-accepted, call-replaced}
 use borrow.Author.Needs.{needs}
-use Rattle.exchanger.proofs.exchange.exchange.Statement.{statement}
-use Rattle.exchanger.proofs.exchange.exchange.Tie as tie
+use Rattle.exchanger.proofs.exchange.Statement.{statement}
+use Rattle.exchanger.proofs.exchange.Tie as tie
 
 abbrev start : tie.After-exchange-fault → tie.Start
 start c = c .before .before .before .before .before .before .before

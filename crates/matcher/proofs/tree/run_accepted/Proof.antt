@@ -1,10 +1,10 @@
--- `run::run_accepted` meets its contract: the nodes marked one after the other leave the state sets of the tree.
+-- `tree::run_accepted` meets its contract: the nodes marked one after the other leave the state sets of the tree.
 use mathlib.Core.Path.{sym}
 use native.Mathlib.Omega.{arith}
 use Rattle.matcher.proofs.RunLaws.{workable, run-left, run-room, run-few, run-part, run-cells}
 use borrow.Author.Needs.{needs}
-use Rattle.matcher.proofs.run.run_accepted.Statement.{statement}
-use Rattle.matcher.proofs.run.run_accepted.Tie as tie
+use Rattle.matcher.proofs.tree.run_accepted.Statement.{statement}
+use Rattle.matcher.proofs.tree.run_accepted.Tie as tie
 
 abbrev start : tie.After-mark-tree → tie.Start
 start n = n .before .before .before .before .before .before
