@@ -52,7 +52,7 @@ pub states-few : (e : List ℕ) (n x : ℕ) → length e ≤ 64 → x ≤ 17 * l
 states-few e n x few h = omega (arith, length-take-most e n)
 
 -- the constants of an accepted alphabet in a list of 16 words: none is left out
-module _ (a l l′ : List ℕ) (r : ℕ) (accepted : alphabetFault a ≡ 0) (room : length l ≡ 16)
+module _ (a l l′ : List ℕ) (r : ℕ) (accepted : alphabetFault a ≡ 0) (long : length l ≡ 16)
     (count : r ≡ length (constantsOf (take 64 a))) (stored : l′ ≡ sets l 0 (constantsOf (take 64 a))) where
   whole : take 64 a ≡ a
   whole = take-all 64 a (alphabet-accepted a accepted .few)

@@ -25,14 +25,14 @@ module _ (a e : List ℕ) (s : ℕ) (q : s ≡ statesAfter a 0 e) where
   unfolding tooManyStates compiled
   states-within l = le-ltb 1024 (statesAfter a 0 e) (omega arith)
 
-module _ (a e : List ℕ) (room n : ℕ) (t : n ≡ 0 + length (compiledTable a e)) where
-  pub table-over : room < n → tableTooLong a e room ≡ true
+module _ (a e : List ℕ) (tableLength n : ℕ) (t : n ≡ 0 + length (compiledTable a e)) where
+  pub table-over : tableLength < n → tableTooLong a e tableLength ≡ true
   unfolding tableTooLong
-  table-over l = lt-ltb room (length (compiledTable a e)) (omega arith)
+  table-over l = lt-ltb tableLength (length (compiledTable a e)) (omega arith)
 
-  pub table-within : n ≤ room → tableTooLong a e room ≡ false
+  pub table-within : n ≤ tableLength → tableTooLong a e tableLength ≡ false
   unfolding tableTooLong
-  table-within l = le-ltb room (length (compiledTable a e)) (omega arith)
+  table-within l = le-ltb tableLength (length (compiledTable a e)) (omega arith)
 
 -- ---- accepted and refused calls
 

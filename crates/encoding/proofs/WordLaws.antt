@@ -52,13 +52,13 @@ sets-take vs l at n h = go (decLe n (length vs))
 pub record Keeping (words₀ : List ℕ) (at : ℕ) (bytes : List ℕ) (count : ℕ) (words : List ℕ) (i : ℕ) : Type 0 where
   pub few : i ≤ count
   pub whole : 4 * count ≤ length bytes
-  pub room : at + count ≤ length words₀
+  pub fits : at + count ≤ length words₀
   pub long : length words ≡ length words₀
   pub same : words ≡ sets words₀ at (take i (wordsIn bytes))
 
 module _ (words₀ : List ℕ) (at : ℕ) (bytes : List ℕ) (count : ℕ) where
   pub keeping-none : at < length words₀ → count ≡ min (length bytes / 4) (length words₀ - at) → Keeping words₀ at bytes count words₀ 0
-  keeping-none h e = record { few = omega arith; whole = omega arith; room = omega arith; long = refl; same = refl }
+  keeping-none h e = record { few = omega arith; whole = omega arith; fits = omega arith; long = refl; same = refl }
 
   -- the bytes of the next word are there
   pub keeping-inside : (words : List ℕ) (i : ℕ) → Keeping words₀ at bytes count words i → i < count → 4 * i + 4 ≤ length bytes
@@ -74,7 +74,7 @@ module _ (words₀ : List ℕ) (at : ℕ) (bytes : List ℕ) (count : ℕ) where
       record {
         few = omega arith;
         whole = whole;
-        room = k .room;
+        fits = k .fits;
         long = length-set words (at + i) w ∙ k .long;
         same =
             ap₂ (λ (l : List ℕ) (x : ℕ). set l (at + i) x) (k .same) (e ∙ sym (getD-wordsIn bytes i low))

@@ -11,34 +11,34 @@ use Rattle.words.proofs.ListLaws.{sets-append, sets-whole}
 use Rattle.encoding.specs.Writing.{Written}
 
 pub written-none : (at : ℕ) (out : List ℕ) → Written at [] out out at
-written-none at out = record { bytes = λ room. refl; next = λ room. sym (add-zero at) }
+written-none at out = record { bytes = λ fits. refl; next = λ fits. sym (add-zero at) }
 
 -- one byte, where it was stored if there was room
 pub written-one : (at b : ℕ) (out : List ℕ) → Written at (b ∷ []) out (set out at b) (at + 1)
-written-one at b out = record { bytes = λ room. refl; next = λ room. refl }
+written-one at b out = record { bytes = λ fits. refl; next = λ fits. refl }
 
 -- no room: nothing is said
 pub written-full : (at b : ℕ) (out out′ : List ℕ) (r : ℕ) → length out ≤ at → Written at (b ∷ []) out out′ r
-written-full at b out out′ r h = record { bytes = λ room. absurd (omega arith); next = λ room. absurd (omega arith) }
+written-full at b out out′ r h = record { bytes = λ fits. absurd (omega arith); next = λ fits. absurd (omega arith) }
 
 -- bytes after bytes
 pub written-more : {at next r : ℕ} {bs cs out out′ out″ : List ℕ}
     → Written at bs out out′ next → Written next cs out′ out″ r → Written at (bs ++ cs) out out″ r
 written-more {at} {next} {r} {bs} {cs} {out} {out′} {out″} p q =
-    record { bytes = λ room. bytes (room-first room) (room-then room) room; next = λ room. end (room-first room) (room-then room) }
+    record { bytes = λ fits. bytes (fits-first fits) (fits-then fits) fits; next = λ fits. end (fits-first fits) (fits-then fits) }
   where
-    room-first : at + length (bs ++ cs) ≤ length out → at + length bs ≤ length out
-    room-first room = let e = length-append bs cs in omega arith
+    fits-first : at + length (bs ++ cs) ≤ length out → at + length bs ≤ length out
+    fits-first fits = let e = length-append bs cs in omega arith
 
-    room-then : at + length (bs ++ cs) ≤ length out → next + length cs ≤ length out′
-    room-then room =
+    fits-then : at + length (bs ++ cs) ≤ length out → next + length cs ≤ length out′
+    fits-then fits =
         let e = length-append bs cs in
-        let n = p .next (room-first room) in
-        let l : length out′ ≡ length out = ap length (p .bytes (room-first room)) ∙ length-sets out at bs in
+        let n = p .next (fits-first fits) in
+        let l : length out′ ≡ length out = ap length (p .bytes (fits-first fits)) ∙ length-sets out at bs in
         omega arith
 
     bytes : at + length bs ≤ length out → next + length cs ≤ length out′ → at + length (bs ++ cs) ≤ length out → out″ ≡ sets out at (bs ++ cs)
-    bytes f t room = q .bytes t ∙ rw (p .next f, p .bytes f) (sym (sets-append bs cs out at))
+    bytes f t fits = q .bytes t ∙ rw (p .next f, p .bytes f) (sym (sets-append bs cs out at))
 
     end : at + length bs ≤ length out → next + length cs ≤ length out′ → r ≡ at + length (bs ++ cs)
     end f t = q .next t ∙ rw (p .next f, length-append) (add-assoc at (length bs) (length cs))

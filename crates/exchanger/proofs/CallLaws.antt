@@ -45,8 +45,8 @@ pub record Numbers (a table chapter marks : List ℕ) (n e : ℕ) (xs : List ℕ
   -- the words of the marks: those up to the element's, the element's or its replacement's root's, and those behind
   pub old-words : n * size ≡ e * size + size + (n - e - 1) * size
   pub new-words : (s + length xs + (n - e - 1)) * size ≡ (s + length xs - 1) * size + size + (n - e - 1) * size
-  pub old-room : n * size ≤ length marks
-  pub new-room : (s + length xs + (n - e - 1)) * size ≤ length marks
+  pub old-fits : n * size ≤ length marks
+  pub new-fits : (s + length xs + (n - e - 1)) * size ≤ length marks
   pub old-few : n * size ≤ 131072
   pub new-few : (s + length xs + (n - e - 1)) * size ≤ 131072
 
@@ -93,8 +93,8 @@ module _ (a table chapter marks : List ℕ) (n e : ℕ) (xs : List ℕ) (ok : fa
           total-within = rw total (g .fits .elements);
           old-words = ap (λ (i : ℕ). i * size) split ∙ split-words e k size;
           new-words = ap (λ (i : ℕ). i * size) split-new ∙ split-words (s + m - 1) k size;
-          old-room = rw qz (g .marks);
-          new-room = rw (total, qz) (g .fits .marks);
+          old-fits = rw qz (g .marks);
+          new-fits = rw (total, qz) (g .fits .marks);
           old-few = words-few n size (g .counted .few) small;
           new-few = words-few (s + m + k) size few small;
         }
@@ -103,15 +103,15 @@ module _ (a table chapter marks : List ℕ) (n e : ℕ) (xs : List ℕ) (ok : fa
     pub chapter-fits : TailFits chapter n (e + 1) (s + length xs)
     chapter-fits =
         let inside = numbers .inside in
-        let room = numbers .total-within in
-        record { some = omega arith; inside = numbers .within; room = omega arith }
+        let fits = numbers .total-within in
+        record { some = omega arith; inside = numbers .within; fits = omega arith }
 
     pub marks-fits : TailFits marks (n * size) (e * size) ((s + length xs - 1) * size)
     marks-fits =
         let old = numbers .old-words in
         let new = numbers .new-words in
-        let room = numbers .new-room in
-        record { some = omega arith; inside = numbers .old-room; room = omega arith }
+        let fits = numbers .new-fits in
+        record { some = omega arith; inside = numbers .old-fits; fits = omega arith }
 
   -- the result is a tree over the alphabet, with room for its state sets
   pub result-nodes : all (isNode a) (splice a (take n chapter) e xs) ≡ true
@@ -135,5 +135,5 @@ module _ (a table chapter marks : List ℕ) (n e : ℕ) (xs : List ℕ) (ok : fa
           tree = splice-tree a used e (g .tree) (rw length-used (g .element)) xs (g .replacement .tree);
           few = g .fits .few;
         };
-        marks-room = rw l (g .fits .marks);
+        marks-fit = rw l (g .fits .marks);
       }

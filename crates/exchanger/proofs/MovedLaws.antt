@@ -101,8 +101,8 @@ module _ (a table chapter marks : List ℕ) (n e : ℕ) (xs : List ℕ) (ok : fa
 
   sets-sized : Sized size (movedSets a table stored used e xs gapSets)
   sets-sized =
-      let old = facts .old-room in
-      let new = facts .new-room in
+      let old = facts .old-fits in
+      let new = facts .new-fits in
       let w = facts .new-words in
       let all : e + suc k ≡ n = let i = facts .inside in omega arith in
       rw sets-are

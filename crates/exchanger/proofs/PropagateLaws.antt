@@ -48,8 +48,8 @@ module _ (a table ch : List ℕ) (i : ℕ) (marks : List ℕ) where
 -- the node's words lie inside the marks, and their places are small numbers
 module _ {a table index ch : List ℕ} {i : ℕ} {marks array : List ℕ} {height : ℕ} {keys known places owners rows pending : List ℕ}
     (g : AtNode a table index ch i marks array height keys known places owners rows pending) (size : ℕ) (s : size ≡ sizeOf table) where
-  pub row-room : i * size + size ≤ length marks
-  row-room = rw s (row-inside i (length ch) (sizeOf table) (length marks) (g .inside) (g .workable .marks-room))
+  pub row-fits : i * size + size ≤ length marks
+  row-fits = rw s (row-inside i (length ch) (sizeOf table) (length marks) (g .inside) (g .workable .marks-fit))
 
   pub row-small : i * size + size ≤ 131072
   row-small = row-inside i (length ch) size 131072 (g .inside) (words-few (length ch) size (g .workable .tree .few) (rw s (size-few (g .workable))))
@@ -65,7 +65,7 @@ module _ {a table index ch : List ℕ} {i : ℕ} {marks array : List ℕ} {heigh
   pub row-part : length (take (i * size + size - i * size) (drop (i * size) marks)) ≤ 32
   row-part =
       let n : i * size + size - i * size ≡ size = omega arith in
-      let l = row-room in
+      let l = row-fits in
       rw (n, length-take-le size (drop (i * size) marks) (omega (arith, length-drop (i * size) marks))) row-few
 
   -- the words that are kept beside are the node's as they stood
@@ -77,7 +77,7 @@ module _ {a table index ch : List ℕ} {i : ℕ} {marks array : List ℕ} {heigh
     row-length : length (storedSet (sizeOf table) marks i) ≡ size
     unfolding storedSet
     row-length =
-        let l = row-room in
+        let l = row-fits in
         rw (← s) (length-take-le size (drop (i * size) marks) (omega (arith, length-drop (i * size) marks)))
 
     before-is : take size before ≡ storedSet (sizeOf table) marks i
@@ -100,7 +100,7 @@ module _ {a table index ch : List ℕ} {i : ℕ} {marks array : List ℕ} {heigh
         written : (marks′ : List ℕ) → marks′ ≡ paste marks (i * sizeOf table) (setFrom a table ch marks i) (sizeOf table)
             → i * size + size - i * size ≡ size → take (i * size + size - i * size) (drop (i * size) marks′) ≡ setFrom a table ch marks i
         written marks′ m n = stored-new marks′ n ∙ ap (λ (l : List ℕ). storedSet (sizeOf table) l i) m
-            ∙ stored-written (sizeOf table) marks i (setFrom a table ch marks i) (length-setFrom a table ch marks i) (rw (← s) row-room)
+            ∙ stored-written (sizeOf table) marks i (setFrom a table ch marks i) (length-setFrom a table ch marks i) (rw (← s) row-fits)
 
 -- ---- one node is passed
 

@@ -30,10 +30,10 @@ module _ {count : ℕ} {before after : List ℕ} (s : Stored count before after)
       ap₂ (λ (n : ℕ) (l : List ℕ). take (min n (length before)) l) (sym count-words) (s .same) ∙ kept-words before (wordsIn (s .bytes))
 
 -- as many words of a slice of m words as are kept
-pub kept-fit : {n m room : ℕ} (count : ℕ) → n ≡ min count room → m ≡ room → n ≤ m
+pub kept-fit : {n m sliceLength : ℕ} (count : ℕ) → n ≡ min count sliceLength → m ≡ sliceLength → n ≤ m
 kept-fit count e long = omega arith
 
-pub kept-long : {n room : ℕ} (count : ℕ) (words : List ℕ) → n ≡ min count room → length words ≡ room → n ≡ length (take n words)
+pub kept-long : {n sliceLength : ℕ} (count : ℕ) (words : List ℕ) → n ≡ min count sliceLength → length words ≡ sliceLength → n ≡ length (take n words)
 kept-long {n} count words e long = sym (length-take-le n words (kept-fit count e long))
 
 three : (l : List ℕ) → length l ≡ 3 → l ≡ getD l 0 0 ∷ getD l 1 0 ∷ getD l 2 0 ∷ []
@@ -85,8 +85,8 @@ module _ (counts₀ counts alphabet₀ alphabet rule₀ rule chapter₀ chapter 
       all-words (count-words s) (count-words t) (count-words u)
       ∙ sym (rw (lent s symbols, lent t words, lent u nodes))
     where
-      lent : {count room : ℕ} {before after : List ℕ} (s : Stored count before after) → length before ≡ room
-          → take (min count room) after ≡ take room (wordsIn (s .bytes))
+      lent : {count sliceLength : ℕ} {before after : List ℕ} (s : Stored count before after) → length before ≡ sliceLength
+          → take (min count sliceLength) after ≡ take sliceLength (wordsIn (s .bytes))
       lent {count} {before = before} {after = after} s e =
           ap (λ (n : ℕ). take (min count n) after) (sym e) ∙ lent-words s ∙ ap (λ (n : ℕ). take n (wordsIn (s .bytes))) e
 

@@ -13,9 +13,9 @@ use Rattle.encoding.proofs.WordLaws.{kept-parts}
 use Rattle.marklist.specs.Reading.{Stored}
 
 -- a part of the buffer that was lent and came back is as long as before
-module _ (buffer back : List ℕ) (n : ℕ) (room : n ≤ length buffer) (long : length back ≡ length (take n buffer)) where
+module _ (buffer back : List ℕ) (n : ℕ) (fits : n ≤ length buffer) (long : length back ≡ length (take n buffer)) where
   pub part-fits : n ≤ length (back ++ drop n buffer)
-  part-fits = rw (length-front buffer back n long) room
+  part-fits = rw (length-front buffer back n long) fits
 
   pub part-long : n ≡ length (take n (back ++ drop n buffer))
   part-long = sym (length-take-le n (back ++ drop n buffer) part-fits)

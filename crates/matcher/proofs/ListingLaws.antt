@@ -73,7 +73,7 @@ module _ (table marks : List ℕ) where
         → set ≡ storedSet (sizeOf table) marks i → last ≡ finalOf table → i < length list₀
         → found′ ≡ found + length (matchesIn last i (set ∷ [])) → list′ ≡ sets list found (matchesIn last i (set ∷ []))
         → length list′ ≡ length list → Found table marks list₀ list′ found′ (i + 1)
-    found-more list found i list′ found′ set last g es el room ef eq n =
+    found-more list found i list′ found′ set last g es el fits ef eq n =
         let ms = matchesOf table i marks in
         let one = matchesIn last i (set ∷ []) in
         let few = matchesOf-few table marks i in

@@ -28,7 +28,7 @@ use Rattle.matcher.proofs.CallLaws.{run-workable}
 
 -- ---- all nodes, with nothing remembered at first
 
-pub tree-index : {a table ch : List ℕ} {room : ℕ} → Workable a table ch room → Indexable table (replicate 3328 0)
+pub tree-index : {a table ch : List ℕ} {marksLength : ℕ} → Workable a table ch marksLength → Indexable table (replicate 3328 0)
 tree-index g = record { few = table-few g; zeros = refl }
 
 pub tree-nodes : {a table ch marks : List ℕ} → Workable a table ch (length marks) → {index : List ℕ} → index ≡ indexOf table
@@ -71,17 +71,17 @@ module _ (a table ch marks : List ℕ) (h : runFault a table ch (length marks) �
 
   module _ (marks′ : List ℕ) (e : marks′ ≡ markedFrom a table ch 0 (length ch) marks) where
     pub run-left : marks′ ≡ runMarks a table ch marks
-    run-left = e ∙ marked-run a table ch marks (workable .marks-room)
+    run-left = e ∙ marked-run a table ch marks (workable .marks-fit)
 
     module _ (size : ℕ) (s : size ≡ sizeOf table) where
-      pub run-room : length ch * size ≤ length marks′
-      run-room = rw (run-left, run-length a table ch marks (workable .marks-room), s) (workable .marks-room)
+      pub run-fits : length ch * size ≤ length marks′
+      run-fits = rw (run-left, run-length a table ch marks (workable .marks-fit), s) (workable .marks-fit)
 
       pub run-few : length ch * size ≤ 131072
       run-few = words-few (length ch) size (workable .tree .few) (rw s (size-few workable))
 
       pub run-part : length (take (length ch * size) marks′) ≡ length ch * size
-      run-part = length-take-le (length ch * size) marks′ run-room
+      run-part = length-take-le (length ch * size) marks′ run-fits
 
       pub run-cells : (r : ℕ) → r ≡ cellsIn (take (length ch * size) marks′) → r ≡ cellsIn (flatten (nodeSets a table ch))
       run-cells r q =

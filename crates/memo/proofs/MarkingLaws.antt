@@ -49,8 +49,8 @@ module _ {table index : List ℕ} {f : ℕ} {marks cs : List ℕ} {i : ℕ} {pla
   pub set-few : i * size ≤ 131072
   set-few = let few = g .few in words-few i size (omega arith) (omega (arith, size-few g))
 
-  pub set-room : i * size + length (take size set) ≤ length marks
-  set-room = rw (← set-length, s) (g .row)
+  pub set-fits : i * size + length (take size set) ≤ length marks
+  set-fits = rw (← set-length, s) (g .row)
 
   pub set-placeable : Placeable marks (take size set) i places
   set-placeable =

@@ -26,7 +26,7 @@ use Rattle.nodes.specs.Nodes.{rootsOf, setFrom, markedAt, TreeOver}
 use Rattle.nodes.specs.Marking.{Represented, AtNode, Prepared as Kept}
 use Rattle.nodes.proofs.RootLaws.{drop-reverse, below-getD, roots-few}
 use Rattle.nodes.proofs.WorkableLaws.{node-arity}
-use Rattle.nodes.proofs.StackLaws.{nodes-fit, stack-fits, stack-room, represented-more}
+use Rattle.nodes.proofs.StackLaws.{nodes-fit, stack-fits, stack-height, represented-more}
 
 below-up : (m n : ℕ) → m ≤ n → (l : List ℕ) → AllBelow m l → AllBelow n l
 below-up m n h [] b = tt
@@ -64,11 +64,11 @@ module _ {a table index ch : List ℕ} {i : ℕ} {marks array : List ℕ} {heigh
   pub node-fits : r ≤ height
   node-fits = stack-fits (g .prepared .represented) (g .workable .tree) (g .inside) r e
 
-  pub node-room : height < length array
-  node-room = stack-room (g .prepared .represented) (g .workable .tree) (g .inside) r e
+  pub node-height : height < length array
+  node-height = stack-height (g .prepared .represented) (g .workable .tree) (g .inside) r e
 
   pub node-few : height ≤ 4100
-  node-few = let m = node-room in omega (arith, g .prepared .represented .long)
+  node-few = let m = node-height in omega (arith, g .prepared .represented .long)
 
   -- the four words on top of the stack
   abbrev four : List ℕ
@@ -80,7 +80,7 @@ module _ {a table index ch : List ℕ} {i : ℕ} {marks array : List ℕ} {heigh
   four-length : length four ≡ 4
   four-length =
       let l = node-low in
-      let m = node-room in
+      let m = node-height in
       ap length four-is ∙ length-drop (height - 4) (take height array)
       ∙ ap (λ (n : ℕ). n - (height - 4)) (length-take-le height array (omega arith)) ∙ omega arith
 
@@ -128,10 +128,10 @@ module _ {a table index ch : List ℕ} {i : ℕ} {marks array : List ℕ} {heigh
   rows-inside k l =
       let h = g .inside in
       row-inside (getD (drop (4 - r) four) k 0) (length ch) (sizeOf table) (length marks)
-      (omega (arith, below-getD i (drop (4 - r) four) k part-below l)) (g .workable .marks-room)
+      (omega (arith, below-getD i (drop (4 - r) four) k part-below l)) (g .workable .marks-fit)
 
   row : i * sizeOf table + sizeOf table ≤ length marks
-  row = row-inside i (length ch) (sizeOf table) (length marks) (g .inside) (g .workable .marks-room)
+  row = row-inside i (length ch) (sizeOf table) (length marks) (g .inside) (g .workable .marks-fit)
 
   ready : Prepared table index (symbolOf (getD ch i 0)) marks (drop (4 - r) four)
   ready =
@@ -155,7 +155,7 @@ module _ {a table index ch : List ℕ} {i : ℕ} {marks array : List ℕ} {heigh
           steppable = record {
             prepared = ready;
             closures = k .closures;
-            room = omega (arith, states-most (prepared-checked ready), k .pending-are);
+            fits = omega (arith, states-most (prepared-checked ready), k .pending-are);
           };
           few = few;
           row = row;

@@ -1,4 +1,4 @@
--- The stack of roots in an array: what a pop and a push do, and its room.
+-- The stack of roots in an array: what a pop and a push do, and that it fits.
 use mathlib.Core.Path.{_≡_, refl, ap, ap₂, _∙_, sym, subst}
 use mathlib.Core.List.{List, [], _∷_, _++_, reverse, map, reverse-cons, append-assoc}
 use Prim.Native.Nat.{ℕ, suc, _+_, _-_, _<_, _≤_}
@@ -22,7 +22,7 @@ use Rattle.nodes.proofs.WorkableLaws.{node-arity}
 -- r nodes are taken and one is put in their place: one store
 pub held-push : (array : List ℕ) (height : ℕ) (nodes : List ℕ) (r x : ℕ) → Held array height nodes → r ≤ length nodes → height < length array
     → Held (set array (height - r) x) (height - r + 1) (take (length nodes - r) nodes ++ x ∷ [])
-held-push array height nodes r x g fits room =
+held-push array height nodes r x g fits inside =
     let left = take (length nodes - r) nodes in
     let place : height - r ≡ 4 + (length nodes - r) = omega (arith, g .height-is) in
     record {
@@ -81,8 +81,8 @@ module _ {a table ch : List ℕ} {i : ℕ} {marks array : List ℕ} {height : �
   stack-fits = let f = nodes-fit in omega (arith, g .held .height-is)
 
   -- the stack has a place above its top
-  pub stack-room : height < length array
-  stack-room =
+  pub stack-height : height < length array
+  stack-height =
       let few = tree .few in
       let f = roots-few a ch i (omega arith) in
       omega (arith, g .held .height-is, g .count, g .long)
@@ -90,7 +90,7 @@ module _ {a table ch : List ℕ} {i : ℕ} {marks array : List ℕ} {height : �
   pub stack-pushable : Pushable a ch i array height
   stack-pushable =
       let few = tree .few in
-      record { inside = inside; few = omega arith; fits = rw (← e) stack-fits; room = stack-room; small = omega (arith, g .long) }
+      record { inside = inside; few = omega arith; fits = rw (← e) stack-fits; height-inside = stack-height; small = omega (arith, g .long) }
 
   -- node i is put in the place of its children, or an earlier node with the same words; earlier words have not changed
   module _ (node : ℕ) (low : node < i + 1) (marks′ : List ℕ)
@@ -118,7 +118,7 @@ module _ {a table ch : List ℕ} {i : ℕ} {marks array : List ℕ} {height : �
         let next = roots-next a ch tree i inside r e in
         record {
           nodes = left ++ node ∷ [];
-          held = held-push array height nodes r node (g .held) nodes-fit stack-room;
+          held = held-push array height nodes r node (g .held) nodes-fit stack-height;
           long = length-set array (height - r) node ∙ g .long;
           count =
               length-append left (node ∷ []) ∙ ap (λ (k : ℕ). k + 1) (length-take-le (length nodes - r) nodes (omega arith))
@@ -158,7 +158,7 @@ module _ {a ch : List ℕ} {count : ℕ} {array₀ : List ℕ} (pre : Stackable 
         let roots = rootsOf a ch i in
         let rep = itself (omega (arith, inside)) in
         let pushed = held-push array height (reverse roots) r i (g .held) (omega (arith, rank-fits a ch (pre .tree) i inside r refl, length-reverse roots))
-        (stack-room rep (pre .tree) inside r refl) in
+        (stack-height rep (pre .tree) inside r refl) in
         let same : take (length (reverse roots) - r) (reverse roots) ++ i ∷ [] ≡ reverse (rootsOf a ch (i + 1))
         = ap (λ (l : List ℕ). l ++ i ∷ []) (ap (λ (k : ℕ). take (k - r) (reverse roots)) (length-reverse roots) ∙ take-reverse r roots)
         ∙ sym (ap reverse (roots-next a ch (pre .tree) i inside r refl) ∙ reverse-cons i (drop r roots)) in

@@ -17,12 +17,12 @@ use Rattle.operations.specs.Marks.{sizeOf}
 use Rattle.nodes.specs.Nodes.{TreeOver, Workable}
 
 -- a state set has at most 32 words
-pub size-few : {a table ch : List ℕ} {room : ℕ} → Workable a table ch room → sizeOf table ≤ 32
+pub size-few : {a table ch : List ℕ} {marksLength : ℕ} → Workable a table ch marksLength → sizeOf table ≤ 32
 unfolding sizeOf
 size-few {a} {table} g = isTable-sizes a table (g .checked) .size-most
 
 -- a table has at most 2,048 words
-pub table-few : {a table ch : List ℕ} {room : ℕ} → Workable a table ch room → length table ≤ 2048
+pub table-few : {a table ch : List ℕ} {marksLength : ℕ} → Workable a table ch marksLength → length table ≤ 2048
 table-few {a} {table} g = isTable-tables a (omega (arith, g .alphabet)) table .0 (g .checked) .fits
 
 node-word : (a ch : List ℕ) (i : ℕ) → all (isNode a) ch ≡ true → i < length ch → isNode a (getD ch i 0) ≡ true

@@ -32,9 +32,9 @@ result-length a used e s xs h q =
     ap (λ (i : ℕ). i + length xs + (length used - e - 1)) q ∙ omega (arith, length-splice a used e xs h)
 
 -- 16 is judged by that length
-pub judged-length : (table : List ℕ) (places room : ℕ) {n m : ℕ} {b : Bool} → n ≡ m → b ≡ resultTooLong table n places room
-    → resultTooLong table m places room ≡ b
-judged-length table places room l e = ap (λ (i : ℕ). resultTooLong table i places room) (sym l) ∙ sym e
+pub judged-length : (table : List ℕ) (chapterLength marksLength : ℕ) {n m : ℕ} {b : Bool} → n ≡ m → b ≡ resultTooLong table n chapterLength marksLength
+    → resultTooLong table m chapterLength marksLength ≡ b
+judged-length table chapterLength marksLength l e = ap (λ (i : ℕ). resultTooLong table i chapterLength marksLength) (sym l) ∙ sym e
 
 -- refusals that speak of the number of the used elements
 pub used-count : (n : ℕ) (chapter : List ℕ) → n ≤ length chapter → (rs : ℕ → Refusals) {f : ℕ} → f ≡ refusal (rs (length (take n chapter)))

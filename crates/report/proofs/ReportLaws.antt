@@ -40,20 +40,20 @@ many n = length-replicate {A = ℕ} n 0
 -- ---- the whole output, in a slice that it fits
 
 whole : (bs out out′ : List ℕ) (r : ℕ) → length bs ≤ 4096 → 4096 ≤ length out → Written 0 bs out out′ r → (r ≡ length bs) × (out′ ≡ bs ++ drop r out)
-whole bs out out′ r s room w =
+whole bs out out′ r s fits w =
     let p = written-whole bs out out′ r w (omega arith) in
     (p .0, p .1 ∙ ap (λ (n : ℕ). bs ++ drop n out) (sym (p .0)))
 
-module _ (complete : Bool) (a e ch : List ℕ) {out out′ : List ℕ} {r : ℕ} (room : 4096 ≤ length out) where
+module _ (complete : Bool) (a e ch : List ℕ) {out out′ : List ℕ} {r : ℕ} (fits : 4096 ≤ length out) where
   pub complete-whole : complete ≡ true → Written 0 (marklistOutput a e ch) out out′ r
       → (r ≡ length (outputOf complete a e ch)) × (out′ ≡ outputOf complete a e ch ++ drop r out)
   complete-whole t w =
-      whole (outputOf complete a e ch) out out′ r (output-short complete a e ch) room (written-same w (sym (complete-output complete a e ch t)))
+      whole (outputOf complete a e ch) out out′ r (output-short complete a e ch) fits (written-same w (sym (complete-output complete a e ch t)))
 
   pub early-whole : complete ≡ false → Written 0 (refusedLine 0) out out′ r
       → (r ≡ length (outputOf complete a e ch)) × (out′ ≡ outputOf complete a e ch ++ drop r out)
   early-whole t w =
-      whole (outputOf complete a e ch) out out′ r (output-short complete a e ch) room (written-same w (sym (early-output complete a e ch t)))
+      whole (outputOf complete a e ch) out out′ r (output-short complete a e ch) fits (written-same w (sym (early-output complete a e ch t)))
 
 -- ---- Compile
 
@@ -82,9 +82,9 @@ module _ (a e slice : List ℕ) {table : List ℕ} {k : ℕ} (r : Compiled) (tol
   table-fits = let l = length-take k table in omega (arith, table-long)
 
   pub compiles : length slice ≡ 2048 → Compiles a e (take k table)
-  compiles room = record {
+  compiles long = record {
     slice = slice;
-    room = room;
+    long = long;
     answer = ap (λ (n : ℕ). accepted (n ∷ [])) (sym table-long) ∙ answer;
     same = table-is;
   }
@@ -94,7 +94,7 @@ module _ (a e slice : List ℕ) {table : List ℕ} {k : ℕ} (r : Compiled) (tol
 module _ {a e table : List ℕ} (t : Compiles a e table) (ch : List ℕ) where
   pub refused-over : {x : ℕ} {out out′ : List ℕ} → 256 < length ch → Written 0 (refusedLine 9) out out′ x
       → Written 0 (marklistOutput a e ch) out out′ x
-  refused-over h w = written-same w (sym (chapter-over a e ch (t .slice) (length table) (t .room) (t .answer) h))
+  refused-over h w = written-same w (sym (chapter-over a e ch (t .slice) (length table) (t .long) (t .answer) h))
 
   module _ (few : length ch ≤ 256) where
     pub refused-ran : {n x : ℕ} {out out′ : List ℕ} (r : Ran) → r ≡ Ran·Refused n → answerInRan r ≡ runAnswer a table ch (zeros 8192)
@@ -103,7 +103,7 @@ module _ {a e table : List ℕ} (t : Compiles a e table) (ch : List ℕ) where
         let g : refused n ≡ runAnswer a table ch (zeros 8192) = rw q at h in
         written-same w
         (sym
-        (run-refused a e ch (t .slice) (length table) (t .room) (t .answer) few (zeros 8192) n (many 8192)
+        (run-refused a e ch (t .slice) (length table) (t .long) (t .answer) few (zeros 8192) n (many 8192)
         (g ∙ ap (λ (l : List ℕ). runAnswer a l ch (zeros 8192)) (t .same))))
 
     pub marked : {n cells : ℕ} {marks : List ℕ} (r : Ran) → r ≡ Marked n cells → answerInRan r ≡ runAnswer a table ch (zeros 8192)
@@ -112,7 +112,7 @@ module _ {a e table : List ℕ} (t : Compiles a e table) (ch : List ℕ) where
       compiles = t;
       few = few;
       slice = zeros 8192;
-      room = many 8192;
+      long = many 8192;
       nodes = n;
       cells = cells;
       answer = rw q at h;
@@ -129,7 +129,7 @@ hits-most a table n marks {k} q e h =
     let g : accepted (k ∷ []) ≡ listAnswer a table n marks (zeros 256) = rw e at h in
     let v = accepted-values (listFault a table n (length marks) (length (zeros 256))) (length (matchesOf table n marks) ∷ []) (k ∷ []) (sym g) in
     let fits = list-fine a table n (length marks) (length (zeros 256)) (v .0) .list in
-    let room = many 256 in
+    let long = many 256 in
     let few = matchesOf-few table marks n in
     let count : length (matchesOf table n marks) ≡ k = head-eq-of-cons-eq (v .1) in
     omega arith
@@ -154,7 +154,7 @@ module _ {a e table ch marks : List ℕ} (m : Marks a e table ch marks) where
   pub never-refused : {f : ℕ} (q : Listed) → q ≡ Listed·Refused f → answerInListed q ≡ listAnswer a table (length ch) marks (zeros 256) → ⊥
   never-refused {f} q told h =
       let g : refused f ≡ listAnswer a table (length ch) marks (zeros 256) = rw told at h in
-      list-accepted a e ch (t .slice) (length table) (t .room) (t .answer) (m .few) (m .slice) (zeros 256) (m .room) (many 256) (m .nodes) (m .cells) runs f
+      list-accepted a e ch (t .slice) (length table) (t .long) (t .answer) (m .few) (m .slice) (zeros 256) (m .long) (many 256) (m .nodes) (m .cells) runs f
       (g ∙ same-answer)
 
   pub lines-written : {hits states x : ℕ} {out out′ list : List ℕ} (q : Listed) → q ≡ Matches hits
@@ -168,11 +168,11 @@ module _ {a e table ch marks : List ℕ} (m : Marks a e table ch marks) where
       wrote ∙ ap₂ (λ (l ms : List ℕ). listExit a l (length ch) ms (zeros 256)) (t .same) marks-are in
       let z : states ≡ automatonOf (compiledTable a e) .states = s ∙ ap (λ (l : List ℕ). automatonOf l .states) (t .same) in
       let n : hits ≡ length (take hits list) =
-      listed-long a e ch (t .slice) (length table) (t .room) (t .answer) (m .few) (m .slice) (zeros 256) (m .room) (many 256) (m .nodes) (m .cells) runs hits
+      listed-long a e ch (t .slice) (length table) (t .long) (t .answer) (m .few) (m .slice) (zeros 256) (m .long) (many 256) (m .nodes) (m .cells) runs hits
       (g ∙ same-answer)
       ∙ sym (ap (λ (ls : List ℕ). length (take hits ls)) l) in
       written-same w
       (sym
-      (listed-output a e ch (t .slice) (length table) (t .room) (t .answer) (m .few) (m .slice) (zeros 256) (m .room) (many 256) (m .nodes) (m .cells) runs hits
+      (listed-output a e ch (t .slice) (length table) (t .long) (t .answer) (m .few) (m .slice) (zeros 256) (m .long) (many 256) (m .nodes) (m .cells) runs hits
       (g ∙ same-answer)
       ∙ rw (← l, ← n, z)))

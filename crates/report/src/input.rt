@@ -11,9 +11,9 @@ pub fn part_bytes(left: usize) -> usize
     WORD_BYTES * least(left, 1024)
 }
 
-// How many words are kept of `count` in a slice of `room` words.
-pub fn kept(count: u32, room: usize) -> usize
-    ensures { λ r. ⌜ r ≡ min count room ⌝ }
+// How many words are kept of `count` in a slice of this length.
+pub fn kept(count: u32, slice_length: usize) -> usize
+    ensures { λ r. ⌜ r ≡ min count «slice_length» ⌝ }
 {
-    least(count as usize, room)
+    least(count as usize, slice_length)
 }

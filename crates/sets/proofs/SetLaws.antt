@@ -24,8 +24,8 @@ module _ {marks : List ℕ} {from to size : ℕ} (g : Copyable marks from to siz
   pub set-length : size ≡ length (take size set)
   set-length = sym (ap length front ∙ sym (ap length same-part) ∙ source-length)
 
-  pub set-room : to + length (take size set) ≤ length marks
-  set-room = omega (arith, set-length, g .target)
+  pub set-fits : to + length (take size set) ≤ length marks
+  set-fits = omega (arith, set-length, g .target)
 
   pub set-copied : (marks′ : List ℕ) → marks′ ≡ paste marks to (take size set) (length (take size set))
       → marks′ ≡ paste marks to (take size (drop from marks)) size

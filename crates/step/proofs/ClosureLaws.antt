@@ -15,10 +15,10 @@ use Rattle.operations.specs.Marks.{storedSet}
 use Rattle.sets.proofs.StoredLaws.{stored-written, stored-other}
 use Rattle.sets.specs.Joined.{joined}
 use Rattle.sets.proofs.JoinLaws.{joined-length, words-joined, joined-cases, joined-left, joined-right}
-use Rattle.step.specs.Closure.{Stack, Settled, Room, Put, Followed, Closable, ClosureOf, Closures, ClosedSet, Addable, Added, Keepable, Kept, Joinable, JoinedClosure}
+use Rattle.step.specs.Closure.{Stack, Settled, Puttable, Put, Followed, Closable, ClosureOf, Closures, ClosedSet, Addable, Added, Keepable, Kept, Joinable, JoinedClosure}
 use Rattle.step.proofs.StartLaws.{member-starts, table-transitions}
 use Rattle.step.proofs.WordLaws.{closed-at}
-use Rattle.step.proofs.StackLaws.{missing-most, stack-room, stack-put, put-cases}
+use Rattle.step.proofs.StackLaws.{missing-most, stack-puttable, stack-put, put-cases}
 use Rattle.step.proofs.SearchLaws.{search-here, search-first, settled-all}
 use Rattle.step.proofs.FollowLaws.{states-most}
 
@@ -30,13 +30,13 @@ module _ {table index : List ℕ} {s : ℕ} {pending : List ℕ} {r : StateSet} 
       record {
         size = g .set .size;
         below = g .set .below;
-        room = g .closable .room;
+        fits = g .closable .fits;
         few = omega (arith, missing-most (automatonOf table .states) r);
         inside = λ k l. absurd (omega arith);
       }
 
-  pub add-room : Room r pending 0 s
-  add-room = stack-room (states-most (g .closable .checked)) start (g .closable .state)
+  pub add-puttable : Puttable r pending 0 s
+  add-puttable = stack-puttable (states-most (g .closable .checked)) start (g .closable .state)
 
   module _ {t : StateSet} {pushed : List ℕ} {height : ℕ} (p : Put r pending 0 s t pushed height) where
     pub add-stack : Stack table t pushed height
@@ -47,7 +47,7 @@ module _ {table index : List ℕ} {s : ℕ} {pending : List ℕ} {r : StateSet} 
         let at = closed-at (g .closable .checked) r (g .set .closed) in
         put-cases (λ t k n. Settled table r s t k n) p (search-here table r pending s (g .set) at)
         (λ e. search-first table r pending s (g .set) at (omega (arith, states-most (g .closable .checked), g .closable .state))
-        (omega (arith, g .closable .state, g .closable .room)))
+        (omega (arith, g .closable .state, g .closable .fits)))
 
     pub add-end : {u : StateSet} {left : List ℕ} → Followed table 0 (length table) t pushed height u left 0 → Added table s r u
     add-end f =
@@ -97,8 +97,8 @@ module _ {table index : List ℕ} {s : ℕ} {owners rows pending : List ℕ} (g 
   pub row-inside : s % 64 < length owners
   row-inside = omega (arith, g .closures .owners-are)
 
-  pub row-room : s % 64 * 32 + 32 ≤ length rows
-  row-room = omega (arith, g .closures .rows-are)
+  pub row-fits : s % 64 * 32 + 32 ≤ length rows
+  row-fits = omega (arith, g .closures .rows-are)
 
   pub keep-known : getD owners (s % 64) 0 ≡ s + 1 → Kept table s true owners rows
   keep-known e = record { closures = g .closures; closure = λ _. g .closures .kept (s % 64) s row-small e }
@@ -113,7 +113,7 @@ module _ {table index : List ℕ} {s : ℕ} {owners rows pending : List ℕ} (g 
       record {
         closures = record {
           owners-are = length-set owners (s % 64) (s + 1) ∙ g .closures .owners-are;
-          rows-are = ap length written ∙ length-paste rows (s % 64 * 32) closure 32 (omega (arith, row-room)) (omega (arith, c .size)) ∙ g .closures .rows-are;
+          rows-are = ap length written ∙ length-paste rows (s % 64 * 32) closure 32 (omega (arith, row-fits)) (omega (arith, c .size)) ∙ g .closures .rows-are;
           kept = λ k t h o. kept k t h o (ℕ-discrete k (s % 64));
         };
         closure = λ _. here;
@@ -123,14 +123,14 @@ module _ {table index : List ℕ} {s : ℕ} {owners rows pending : List ℕ} (g 
       written = e ∙ ap (paste rows (s % 64 * 32) closure) (c .size)
 
       here : ClosureOf table s (storedSet 32 rows′ (s % 64))
-      here = subst (ClosureOf table s) (sym (ap (λ (l : List ℕ). storedSet 32 l (s % 64)) written ∙ stored-written 32 rows (s % 64) closure (c .size) row-room)) c
+      here = subst (ClosureOf table s) (sym (ap (λ (l : List ℕ). storedSet 32 l (s % 64)) written ∙ stored-written 32 rows (s % 64) closure (c .size) row-fits)) c
 
       kept : (k t : ℕ) → k < 64 → getD (set owners (s % 64) (s + 1)) k 0 ≡ t + 1 → Dec (k ≡ s % 64) → ClosureOf table t (storedSet 32 rows′ k)
       kept k t h o (yes i) =
           let same : s ≡ t = omega (arith, sym (getD-set-same owners (s % 64) (s + 1) 0 row-inside) ∙ ap (λ (x : ℕ). getD (set owners (s % 64) (s + 1)) x 0) (sym i) ∙ o) in
           rw (i, ← same) here
       kept k t h o (no i) =
-          let other = ap (λ (l : List ℕ). storedSet 32 l k) written ∙ stored-other 32 rows (s % 64) closure (c .size) row-room k i in
+          let other = ap (λ (l : List ℕ). storedSet 32 l k) written ∙ stored-other 32 rows (s % 64) closure (c .size) row-fits k i in
           subst (ClosureOf table t) (sym other) (g .closures .kept k t h (sym (getD-set-other owners (s % 64) k (s + 1) 0 i) ∙ o))
 
 -- ---- the closure in the set
@@ -153,7 +153,7 @@ pub add-again : {table index : List ℕ} {s : ℕ} {owners rows pending : List �
     → {pending′ : List ℕ} → length pending′ ≡ length pending → Addable table index s pending′ r
 add-again g e =
     let k = g .keepable .closable in
-    record { closable = record { checked = k .checked; state = k .state; room = rw e (k .room) }; set = g .set }
+    record { closable = record { checked = k .checked; state = k .state; fits = rw e (k .fits) }; set = g .set }
 
 -- the row as a part of the rows
 pub join-end : {table : List ℕ} {s : ℕ} {b : Bool} {owners rows : List ℕ} → b ≡ true → Kept table s b owners rows → {r t : StateSet} → ClosedSet table r

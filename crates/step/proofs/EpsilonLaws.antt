@@ -10,10 +10,10 @@ use Rattle.words.specs.Word.{stateBelow}
 use Rattle.automaton.specs.Transition.{automatonOf}
 use Rattle.automaton.specs.StateSet.{StateSet, contains}
 use Rattle.step.specs.Ready.{Checked}
-use Rattle.step.specs.Closure.{Closed, Stack, Search, Room, Put, ClosingAt, Followed, work}
+use Rattle.step.specs.Closure.{Closed, Stack, Search, Puttable, Put, ClosingAt, Followed, work}
 use Rattle.step.proofs.ChainLaws.{Next, EpsilonWord, nextWith, next-some, next-none, epsilon-word}
 use Rattle.step.proofs.WordLaws.{closed-epsilon, epsilon-below, epsilon-reached}
-use Rattle.step.proofs.StackLaws.{stack-room, stack-put, put-less, put-length, put-present, put-keeps}
+use Rattle.step.proofs.StackLaws.{stack-puttable, stack-put, put-less, put-length, put-present, put-keeps}
 use Rattle.step.proofs.SearchLaws.{search-put, search-word, search-end, search-pop}
 use Rattle.step.proofs.FollowLaws.{InChain, left, states-most, keyed, first, in-chain, next, left-less}
 
@@ -74,8 +74,8 @@ module _ {table index : List ℕ} {p : ℕ} {r₀ : StateSet} {pending₀ : List
     reaches-below : stateBelow (getD table i 0) < automatonOf table .states
     reaches-below = epsilon-below (s .checked) i (epsilons-next .inside) epsilons-at
 
-    pub epsilons-room : Room r pending top (stateBelow (getD table i 0))
-    epsilons-room = stack-room (states-most (s .checked)) (s .stack) reaches-below
+    pub epsilons-puttable : Puttable r pending top (stateBelow (getD table i 0))
+    epsilons-puttable = stack-puttable (states-most (s .checked)) (s .stack) reaches-below
 
     pub epsilons-less : left table (getD index (1280 + i) 0) < left table i
     epsilons-less = left-less (s .checked) epsilons-next key-small h
@@ -114,7 +114,7 @@ module _ {table : List ℕ} {r₀ : StateSet} {pending₀ : List ℕ} {top₀ : 
     pub pending-stack : Stack table r pending below
     pending-stack =
         let h = s .stack in
-        record { size = h .size; below = h .below; room = h .room; few = omega (arith, h .few); inside = λ k l. h .inside k (omega arith) }
+        record { size = h .size; below = h .below; fits = h .fits; few = omega (arith, h .few); inside = λ k l. h .inside k (omega arith) }
 
     pub pending-present : contains r (getD pending below 0) ≡ true
     pending-present = s .stack .inside below (omega arith)
@@ -134,7 +134,7 @@ module _ {table : List ℕ} {r₀ : StateSet} {pending₀ : List ℕ} {top₀ : 
   module _ {r : StateSet} {pending : List ℕ} {top : ℕ} (s : Followed table 0 (length table) r₀ pending₀ top₀ r pending top) where
     -- a state that is on the stack stands in its array
     pub pending-inside : 0 < top → top - 1 < length pending
-    pending-inside h = omega (arith, s .stack .few, s .stack .room)
+    pending-inside h = omega (arith, s .stack .few, s .stack .fits)
 
     pub pending-end : top ≤ 0 → Followed table 0 (length table) r₀ pending₀ top₀ r pending 0
     pending-end h = let e : top ≡ 0 = omega arith in rw e at s

@@ -28,8 +28,8 @@ module _ {table index : List ℕ} (c : Checked table index) where
   pub keyed : Keyed table
   keyed = table-keyed (c .alphabet) table (c .checked)
 
-  pub index-room : length index ≡ 3328
-  index-room = ap length (c .indexed) ∙ index-length table
+  pub index-long : length index ≡ 3328
+  index-long = ap length (c .indexed) ∙ index-length table
 
   pub first : (key : ℕ) → key < 1280 → getD index key 0 ≡ nextWith table key 0
   first key h = rw (c .indexed) (index-first table keyed key h)
@@ -38,7 +38,7 @@ module _ {table index : List ℕ} (c : Checked table index) where
     pub in-chain : InChain table index i
     in-chain =
         let inside = n .inside in
-        record { inside = inside; few = omega (arith, keyed .few); next-inside = omega (arith, keyed .few, index-room) }
+        record { inside = inside; few = omega (arith, keyed .few); next-inside = omega (arith, keyed .few, index-long) }
 
     module _ (h : key < 1280) where
       pub next : getD index (1280 + i) 0 ≡ nextWith table key (i + 1)

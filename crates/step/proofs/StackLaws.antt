@@ -14,7 +14,7 @@ use Rattle.words.proofs.ListLaws.{length-listFrom}
 use Rattle.automaton.specs.Transition.{automatonOf}
 use Rattle.automaton.specs.StateSet.{StateSet, contains, insert}
 use Rattle.automaton.proofs.BitLaws.{length-insert, insert-same, insert-other, insert-keeps}
-use Rattle.step.specs.Closure.{missing, Stack, Room, Put, work}
+use Rattle.step.specs.Closure.{missing, Stack, Puttable, Put, work}
 
 -- ---- what was put
 
@@ -38,7 +38,7 @@ module _ {r : StateSet} {pending : List ℕ} {top s : ℕ} where
 
 missing-insert : (n : ℕ) (r : StateSet) (s : ℕ) → s < n → n ≤ length r * 32 → contains r s ≡ false → missing n (insert r s) < missing n r
 unfolding missing
-missing-insert n r s below room absent =
+missing-insert n r s below fits absent =
     let l = count-more (contains r) (contains (insert r s)) (insert-keeps r s) (listFrom (λ q. q) 0 n)
     (listFrom-member 0 n s (omega arith) (omega arith)) absent (insert-same r s (omega arith)) in
     let m = count-most (contains (insert r s)) (listFrom (λ q. q) 0 n) in
@@ -56,15 +56,15 @@ module _ {table : List ℕ} (most : automatonOf table .states ≤ 1024) {r : Sta
   fewer : contains r s ≡ false → missing (automatonOf table .states) (insert r s) < missing (automatonOf table .states) r
   fewer absent = missing-insert (automatonOf table .states) r s below (let z = h .size in omega arith) absent
 
-  pub stack-room : Room r pending top s
-  stack-room = record { few = omega arith; room = λ absent. let l = fewer absent in omega (arith, h .few, h .room) }
+  pub stack-puttable : Puttable r pending top s
+  stack-puttable = record { few = omega arith; fits = λ absent. let l = fewer absent in omega (arith, h .few, h .fits) }
 
   pushed-stack : contains r s ≡ false → Stack table (insert r s) (set pending top s) (top + 1)
   pushed-stack absent =
       record {
         size = length-insert r s ∙ h .size;
         below = λ q e. lower q e (ℕ-discrete q s);
-        room = rw (length-set) (h .room);
+        fits = rw (length-set) (h .fits);
         few = let l = fewer absent in omega (arith, h .few);
         inside = λ k l. held k l (ℕ-discrete k top);
       }
@@ -75,7 +75,7 @@ module _ {table : List ℕ} (most : automatonOf table .states ≤ 1024) {r : Sta
 
       held : (k : ℕ) → k < top + 1 → Dec (k ≡ top) → contains (insert r s) (getD (set pending top s) k 0) ≡ true
       held k l (yes i) =
-          rw (i, getD-set-same pending top s 0 (stack-room .room absent)) (insert-same r s (let z = h .size in omega arith))
+          rw (i, getD-set-same pending top s 0 (stack-puttable .fits absent)) (insert-same r s (let z = h .size in omega arith))
       held k l (no i) = rw (getD-set-other pending top k s 0 i) (insert-keeps r s (getD pending k 0) (h .inside k (omega arith)))
 
   module _ {t : StateSet} {pushed : List ℕ} {height : ℕ} (p : Put r pending top s t pushed height) where

@@ -70,7 +70,7 @@ module _ {table index : List ℕ} {size : ℕ} {marks children owners rows pendi
       let over = targets-below (isTable-automaton (checked .alphabet) (omega arith) table (checked .checked)) in
       record {
         keepable = record {
-          closable = record { checked = checked; state = target-below; room = g .seeding .steppable .room };
+          closable = record { checked = checked; state = target-below; fits = g .seeding .steppable .fits };
           closures = g .seeding .steppable .closures;
         };
         set = record {
@@ -107,11 +107,11 @@ module _ {table index : List ℕ} {size : ℕ} {marks children owners rows pendi
 -- ---- all of them
 
 -- at word i of the chain, or at its end, where i is 0: the words before are followed
-pub record SymbolAt (table index : List ℕ) (f size : ℕ) (marks children owners rows pending : List ℕ) (r : StateSet) (room i : ℕ) : Type 0 where
+pub record SymbolAt (table index : List ℕ) (f size : ℕ) (marks children owners rows pending : List ℕ) (r : StateSet) (pendingLength i : ℕ) : Type 0 where
   pub seeding : Seeding table index f size marks children owners rows pending r
   pub from : ℕ
   pub at : i ≡ nextWith table f from
-  pub room-is : length pending ≡ room
+  pub pending-long : length pending ≡ pendingLength
   pub followed : (j : ℕ) → j < from → j < length table → keyOf (getD table j 0) ≡ f → Satisfied table (childSets size marks children) r j
 
 module _ {table index : List ℕ} {f size : ℕ} {marks children owners rows pending : List ℕ} {r : StateSet} where
@@ -120,9 +120,9 @@ module _ {table index : List ℕ} {f size : ℕ} {marks children owners rows pen
   symbol-first g =
       let c = prepared-checked (g .steppable .prepared) in
       let small = g .steppable .prepared .ready .symbol-below in
-      record { seeding = g; from = 0; at = first c f (omega arith); room-is = refl; followed = λ j h l e. absurd (omega arith) }
+      record { seeding = g; from = 0; at = first c f (omega arith); pending-long = refl; followed = λ j h l e. absurd (omega arith) }
 
-  module _ {room i : ℕ} (s : SymbolAt table index f size marks children owners rows pending r room i) where
+  module _ {pendingLength i : ℕ} (s : SymbolAt table index f size marks children owners rows pending r pendingLength i) where
     chain : Checked table index
     chain = prepared-checked (s .seeding .steppable .prepared)
 
@@ -160,21 +160,21 @@ module _ {table index : List ℕ} {f size : ℕ} {marks children owners rows pen
 
       pub symbol-more : {t : StateSet} {owners′ rows′ pending′ : List ℕ} → length pending′ ≡ length pending
           → Joined table (keyOf (getD table i 0)) (childSets size marks children) i r t owners′ rows′
-          → SymbolAt table index f size marks children owners′ rows′ pending′ t room (getD index (1280 + i) 0)
+          → SymbolAt table index f size marks children owners′ rows′ pending′ t pendingLength (getD index (1280 + i) 0)
       symbol-more {t} {owners′} {rows′} {pending′} e j =
           record {
             seeding = record {
               steppable = record {
                 prepared = s .seeding .steppable .prepared;
                 closures = j .closures;
-                room = rw e (s .seeding .steppable .room);
+                fits = rw e (s .seeding .steppable .fits);
               };
               size-is = s .seeding .size-is;
               growing = subst (λ k. Growing table k (childSets size marks children) t) (symbol-next .keyed) (j .growing);
             };
             from = i + 1;
             at = next chain symbol-next key-below;
-            room-is = e ∙ s .room-is;
+            pending-long = e ∙ s .pending-long;
             followed = λ k b l q. go k b l q (ℕ-discrete k i) (decLt k (s .from));
           }
         where

@@ -66,7 +66,7 @@ missing n r = n - count (contains r) (listFrom (λ q. q) 0 n)
 pub record Stack (table : List ℕ) (r : StateSet) (pending : List ℕ) (top : ℕ) : Type 0 where
   pub size : length r ≡ 32
   pub below : (q : ℕ) → contains r q ≡ true → q < automatonOf table .states
-  pub room : automatonOf table .states ≤ length pending
+  pub fits : automatonOf table .states ≤ length pending
   pub few : missing (automatonOf table .states) r + top ≤ automatonOf table .states
   pub inside : (k : ℕ) → k < top → contains r (getD pending k 0) ≡ true
 
@@ -86,9 +86,9 @@ Settled table base s r pending top = Search table base s 0 (length table) r pend
 -- ---- what the inner functions are given, and what they leave
 
 -- a state number, and room for a state that is not in the set
-pub record Room (r : StateSet) (pending : List ℕ) (top s : ℕ) : Type 0 where
+pub record Puttable (r : StateSet) (pending : List ℕ) (top s : ℕ) : Type 0 where
   pub few : s < 1024
-  pub room : contains r s ≡ false → top < length pending
+  pub fits : contains r s ≡ false → top < length pending
 
 -- state s was put into the set and on the stack, if it was not in the set
 pub record Put (r : StateSet) (pending : List ℕ) (top s : ℕ) (t : StateSet) (pushed : List ℕ) (height : ℕ) : Type 0 where
@@ -120,7 +120,7 @@ pub record Followed (table : List ℕ) (key from : ℕ) (r : StateSet) (pending 
 pub record Closable (table index : List ℕ) (s : ℕ) (pending : List ℕ) : Type 0 where
   pub checked : Checked table index
   pub state : s < automatonOf table .states
-  pub room : automatonOf table .states ≤ length pending
+  pub fits : automatonOf table .states ≤ length pending
 
 -- a set of 32 words with states of the table, closed under the epsilon transitions
 pub record ClosedSet (table : List ℕ) (r : StateSet) : Type 0 where

@@ -17,7 +17,7 @@ use Rattle.compiler.proofs.compile_fault.Tie as tie
 abbrev asked : tie.After-alphabet-fault → Refusals
 asked c =
     let q = c .before .before .before .args in
-    compileRefusals (q .alphabet .now) (q .expression .now) (q .room)
+    compileRefusals (q .alphabet .now) (q .expression .now) (q .table-length)
 
 alphabet-fault-requires : tie.Need-alphabet-fault-requires
 alphabet-fault-requires c κs = search needs

@@ -49,7 +49,7 @@ part-push-own-start c = omega arith
 
 part-push-own-end : tie.Need-part-push-own-end Inv-loop μ-loop
 part-push-own-end c =
-    let room = c .before .before .before .before .loop .inv .room in
+    let stack-long = c .before .before .before .before .loop .inv .stack-long in
     let h = emitted-height (c .before .before .before .before .loop .inv) (c .before .before .before .loop-test .taken)
     (c .before .before .before .before .before .before .before .before .before .pre .accepted .expression) in
     omega arith

@@ -1,7 +1,7 @@
 -- `tree::run_accepted` meets its contract: the nodes marked one after the other leave the state sets of the tree.
 use mathlib.Core.Path.{sym}
 use native.Mathlib.Omega.{arith}
-use Rattle.matcher.proofs.RunLaws.{workable, run-left, run-room, run-few, run-part, run-cells}
+use Rattle.matcher.proofs.RunLaws.{workable, run-left, run-fits, run-few, run-part, run-cells}
 use borrow.Author.Needs.{needs}
 use Rattle.matcher.proofs.tree.run_accepted.Statement.{statement}
 use Rattle.matcher.proofs.tree.run_accepted.Tie as tie
@@ -26,7 +26,7 @@ mul-count-cells c =
 slice-reshare-prefix-count-cells : tie.Need-slice-reshare-prefix-count-cells
 slice-reshare-prefix-count-cells c =
     let n = c .before .before .before in
-    run-room _ _ _ _ (start n .pre) _ (n .mark-tree .ensures) _ (c .set-size .ensures)
+    run-fits _ _ _ _ (start n .pre) _ (n .mark-tree .ensures) _ (c .set-size .ensures)
 
 slice-aggregate-count-cells : tie.Need-slice-aggregate-count-cells
 slice-aggregate-count-cells c =

@@ -1,6 +1,6 @@
 -- `marking::mark_new` meets its contract: the first words of the set that is worked out are written at the node's place.
 use native.Mathlib.Omega.{arith}
-use Rattle.memo.proofs.MarkingLaws.{set-length, set-long, set-few, set-room, set-placeable, set-new}
+use Rattle.memo.proofs.MarkingLaws.{set-length, set-long, set-few, set-fits, set-placeable, set-new}
 use borrow.Author.Needs.{needs}
 use Rattle.memo.proofs.marking.mark_new.Statement.{statement}
 use Rattle.memo.proofs.marking.mark_new.Tie as tie
@@ -36,7 +36,7 @@ slice-aggregate-write-set-at : tie.Need-slice-aggregate-write-set-at
 slice-aggregate-write-set-at c = let n = c .before .before .before .before .before .before .before .before .before .before .before .before .before .before in set-length (start n .pre) _ (n .node-set .ensures .0) _ (sized n .set-size .ensures)
 
 write-set-at-requires : tie.Need-write-set-at-requires
-write-set-at-requires c κs = let n = c .before .before .before .before .before .before .before .before .before .before .before .before .before .before in set-room (start n .pre) _ (n .node-set .ensures .0) _ (sized n .set-size .ensures)
+write-set-at-requires c κs = let n = c .before .before .before .before .before .before .before .before .before .before .before .before .before .before in set-fits (start n .pre) _ (n .node-set .ensures .0) _ (sized n .set-size .ensures)
 
 same-length : tie.Need-same-length
 same-length c = search needs

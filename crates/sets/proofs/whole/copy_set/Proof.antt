@@ -1,5 +1,5 @@
 -- `sets::whole::copy_set` meets its contract: the set of its own gets the words at its front.
-use Rattle.sets.proofs.SetLaws.{set-length, set-room, set-copied}
+use Rattle.sets.proofs.SetLaws.{set-length, set-fits, set-copied}
 use borrow.Author.Needs.{needs}
 use Rattle.sets.proofs.whole.copy_set.Statement.{statement}
 use Rattle.sets.proofs.whole.copy_set.Tie as tie
@@ -36,7 +36,7 @@ slice-aggregate-write-set-at c =
 write-set-at-requires : tie.Need-write-set-at-requires
 write-set-at-requires c κs =
     let w = c .before .before .before in
-    set-room (w .before .before .before .before .before .pre) _ _ (w .write-set .ensures)
+    set-fits (w .before .before .before .before .before .pre) _ _ (w .write-set .ensures)
 
 same-length : tie.Need-same-length
 same-length c = search needs

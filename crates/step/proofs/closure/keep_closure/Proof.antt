@@ -2,7 +2,7 @@
 use mathlib.Core.Path.{sym}
 use native.Mathlib.Omega.{arith}
 use Rattle.step.proofs.FollowLaws.{states-most}
-use Rattle.step.proofs.ClosureLaws.{row-inside, row-room, keep-known, keep-other, keep-new}
+use Rattle.step.proofs.ClosureLaws.{row-inside, row-fits, keep-known, keep-other, keep-new}
 use borrow.Author.Needs.{needs}
 use Rattle.step.proofs.closure.keep_closure.Statement.{statement}
 use Rattle.step.proofs.closure.keep_closure.Tie as tie
@@ -35,7 +35,7 @@ slice-aggregate-write-set-at : tie.Need-slice-aggregate-write-set-at
 slice-aggregate-write-set-at c = sym (c .before .before .before .before .close-state .ensures .size)
 
 write-set-at-requires : tie.Need-write-set-at-requires
-write-set-at-requires c κs = rw (c .before .before .before .before .close-state .ensures .size) (row-room (c .before .before .before .before .before .before .before .before .before .before .before .before .before .before .pre))
+write-set-at-requires c κs = rw (c .before .before .before .before .close-state .ensures .size) (row-fits (c .before .before .before .before .before .before .before .before .before .before .before .before .before .before .pre))
 
 mul-owners : tie.Need-mul-owners
 mul-owners c = search needs
