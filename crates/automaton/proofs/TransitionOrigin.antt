@@ -12,10 +12,10 @@ use Rattle.words.proofs.AllLaws.{All, all-append}
 use Rattle.words.proofs.Ascending.{Ascending, next, ascending-le}
 use Rattle.automaton.specs.Transition.{Transition, onSymbol, epsilon}
 use Rattle.automaton.specs.Numbering.{Port, statesOf, portOf, entryFor, epsilons, entryEpsilons, symbolTargets, unionTargets, productTargets, closureTargets}
-use Rattle.automaton.proofs.EntryLaws.{to-epsilons, to-entryEpsilons}
-use Rattle.automaton.proofs.Ports.{statesIn, PortIn, Stack, push, Children, child, children-le}
+use Rattle.automaton.proofs.EveryEntryLaws.{to-epsilons, to-entryEpsilons}
+use Rattle.automaton.proofs.PortStates.{statesIn, PortIn, Stack, push, Children, child, children-le}
 use Rattle.automaton.proofs.OwnTransitions.{Own, leaf, ofSymbol, ofUnion, ofProduct, ofClosure}
-use Rattle.automaton.proofs.Reading.{WordRead, childrenOn}
+use Rattle.automaton.proofs.PortReading.{WordRead, childrenOn}
 
 abbrev pub exits : List Port → List ℕ
 exits Ps = map (λ P. P .exit) Ps

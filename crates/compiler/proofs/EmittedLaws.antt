@@ -22,7 +22,7 @@ use Rattle.words.proofs.AcceptedAlphabet.{AcceptedAlphabet, arity-most}
 use Rattle.automaton.specs.Transition.{Transition, transitionsWords}
 use Rattle.automaton.specs.Numbering.{Port, statesOf, portOf, ownTransitions, transitionsFrom, fullPort}
 use Rattle.automaton.proofs.TransitionLaws.{transitionsWords-append}
-use Rattle.automaton.proofs.Reading.{expression-length}
+use Rattle.automaton.proofs.PortReading.{expression-length}
 use Rattle.emitter.specs.Writing.{Wrote}
 use Rattle.ports.specs.Ports.{portIn, portsIn}
 use Rattle.emitter.specs.Emission.{Emits, Takes}

@@ -17,9 +17,9 @@ use Rattle.compiler.specs.Compiling.{Accepted}
 -- ---- 6 and 7
 
 module _ (a e : List ℕ) (s : ℕ) (q : s ≡ statesAfter a 0 e) where
-  pub states-over : 1024 < s → tooManyStates a e ≡ true
+  pub states-above : 1024 < s → tooManyStates a e ≡ true
   unfolding tooManyStates compiled
-  states-over l = lt-ltb 1024 (statesAfter a 0 e) (omega arith)
+  states-above l = lt-ltb 1024 (statesAfter a 0 e) (omega arith)
 
   pub states-within : s ≤ 1024 → tooManyStates a e ≡ false
   unfolding tooManyStates compiled

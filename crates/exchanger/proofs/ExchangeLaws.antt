@@ -25,14 +25,14 @@ use Rattle.nodes.proofs.LoopLaws as loops
 use Rattle.exchanger.proofs.UpwardLoop.{upwards}
 use Rattle.exchanger.proofs.ExchangeLoops.{movedSets, replacedSets, exchangedSets, exchangedSets-outcomes, length-movedSets, length-replacedSets, words-behind}
 use Rattle.nodes.specs.Nodes.{setFrom, markedFrom}
-use Rattle.nodes.proofs.MarkLaws.{Holding, holding-set, setFrom-rows, markedAt-rows}
+use Rattle.nodes.proofs.MarkLaws.{MarksHolding, holding-set, setFrom-rows, markedAt-rows}
 use Rattle.exchanger.specs.declared.propagate.Progress.{Progress}
 use Rattle.exchanger.specs.Propagation.{propagateStep, propagateFrom, initial}
 use Rattle.exchanger.specs.Exchanging.{exchangedFrom}
-use Rattle.exchanger.proofs.PropagateLaws.{recomputed-is, step-ancestor, propagate-continues, propagate-stops}
+use Rattle.exchanger.proofs.PropagationLaws.{recomputed-is, step-ancestor, propagate-continues, propagate-stops}
 use Rattle.exchanger.proofs.UpwardLaws.{Upward, Same, propagate-upwards}
 use Rattle.exchanger.proofs.TailLaws.{tail-filled}
-use Rattle.exchanger.proofs.CallLaws.{Numbers, numbers, accepted-call, length-used, chapter-fits}
+use Rattle.exchanger.proofs.CallNumberLaws.{CallNumbers, call-numbers, accepted-call, length-used, chapter-fits}
 use Rattle.exchanger.proofs.MovedLaws.{gapSets, behindUse}
 
 -- the marks at exit, and the number worked out
@@ -68,8 +68,8 @@ module _ (a table chapter marks : List ℕ) (n e : ℕ) (xs : List ℕ) (ok : fa
   abbrev above : ℕ → Bool
   above i = isAncestor a used e (i - (s + length xs) + (e + 1))
 
-  facts : Numbers a table chapter marks n e xs s size
-  facts = numbers a table chapter marks n e xs ok s refl size refl
+  facts : CallNumbers a table chapter marks n e xs s size
+  facts = call-numbers a table chapter marks n e xs ok s refl size refl
 
   he : e < length used
   he = rw (length-used a table chapter marks n e xs ok) (accepted-call a table chapter marks n e xs ok .element)
@@ -96,8 +96,8 @@ module _ (a table chapter marks : List ℕ) (n e : ℕ) (xs : List ℕ) (ok : fa
       ∙ sym (length-splice a used e xs he)
 
   -- the replacement's nodes, worked out in the marks
-  module _ (moved : List ℕ) (held : Holding (sizeOf table) moved (movedSets a table stored used e xs gap) rest) where
-    replaced-holds : (k : ℕ) → k ≤ length xs → Holding size (markedFrom a table tree s k moved) (replaced k) rest
+  module _ (moved : List ℕ) (held : MarksHolding (sizeOf table) moved (movedSets a table stored used e xs gap) rest) where
+    replaced-holds : (k : ℕ) → k ≤ length xs → MarksHolding size (markedFrom a table tree s k moved) (replaced k) rest
     unfolding markedFrom replacedSets
     replaced-holds zero h = held
     replaced-holds (suc k) h =
@@ -115,10 +115,10 @@ module _ (a table chapter marks : List ℕ) (n e : ℕ) (xs : List ℕ) (ok : fa
     abbrev rows : List StateSet
     rows = replaced (suc m)
 
-    before-holds : Holding size before (replaced m) rest
+    before-holds : MarksHolding size before (replaced m) rest
     before-holds = replaced-holds m (omega (arith, some))
 
-    work-holds : Holding size work rows rest
+    work-holds : MarksHolding size work rows rest
     work-holds = replaced-holds (suc m) (omega (arith, some))
 
     -- the old element's set stands at the root's place as long as the root is not worked out
@@ -143,7 +143,7 @@ module _ (a table chapter marks : List ℕ) (n e : ℕ) (xs : List ℕ) (ok : fa
     length-tree = length-splice a used e xs he
 
     abbrev v : StateSet
-    v = loops.setFrom a table tree (s + m) (replaced m)
+    v = loops.setFromSets a table tree (s + m) (replaced m)
 
     abbrev new : StateSet
     new = setFrom a table tree before (s + m)
@@ -268,7 +268,7 @@ module _ (a table chapter marks : List ℕ) (n e : ℕ) (xs : List ℕ) (ok : fa
       → filled ≡ refit n (newTree a table chapter marks n e xs) chapter
   unfolding newTree splice
   chapter-left moved filled p q =
-      let g = numbers a table chapter marks n e xs ok place refl (sizeOf table) refl in
+      let g = call-numbers a table chapter marks n e xs ok place refl (sizeOf table) refl in
       let low = g .low in
       let inside = g .inside in
       q ∙ ap (λ (l : List ℕ). paste l place xs (length xs)) p
@@ -280,5 +280,5 @@ module _ (a table chapter marks : List ℕ) (n e : ℕ) (xs : List ℕ) (ok : fa
       → take (place + length xs + (n - e - 1)) filled ≡ splice a (take n chapter) e xs
   unfolding newTree
   nodes-left filled p =
-      let g = numbers a table chapter marks n e xs ok place refl (sizeOf table) refl in
+      let g = call-numbers a table chapter marks n e xs ok place refl (sizeOf table) refl in
       ap₂ take (g .total) p ∙ take-refit n (splice a (take n chapter) e xs) chapter

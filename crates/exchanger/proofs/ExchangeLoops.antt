@@ -1,5 +1,5 @@
 -- What the loops of Exchange do, over the list of state sets: the sets move, those of the replacement are recomputed node by
--- node, its root is compared with the old element's set as it was stored, and the loop behind goes upwards. The sets are then those of
+-- node, its root is compared with the old element's set as it was stored, and the loop behind leads upwards. The sets are then those of
 -- the outcomes, and the count is theirs, whatever the stored sets are.
 use mathlib.Core.Path.{_≡_, refl, ap, ap₂, _∙_, sym, subst}
 use mathlib.Core.Bool.{true, cond}
@@ -22,7 +22,7 @@ use Rattle.operations.specs.Exchange.{Outcome, recomputed, setIn, recomputedIn,
 use Rattle.operations.proofs.PropagateLaws.{sets-kept, count-kept}
 use Rattle.operations.proofs.OutcomeLaws.{sets-recomputed, root-read}
 use Rattle.operations.proofs.OutcomeParts.{recomputed-parts}
-use Rattle.nodes.proofs.LoopLaws.{setAt, setFrom, Recomputing, recomputing-none, recomputing-more}
+use Rattle.nodes.proofs.LoopLaws.{setAt, setFromSets, Recomputing, recomputing-none, recomputing-more}
 use Rattle.exchanger.proofs.UpwardLoop.{upwards, upwards-is}
 
 module _ (a table : List ℕ) (stored : ℕ → StateSet) (ch : List ℕ) (e : ℕ) (x : List ℕ) (gap : List StateSet) where
@@ -42,7 +42,7 @@ module _ (a table : List ℕ) (stored : ℕ → StateSet) (ch : List ℕ) (e : �
   -- the replacement's nodes, one after the other
   unfoldable pub replacedSets : ℕ → List StateSet
   replacedSets zero = movedSets
-  replacedSets (suc k) = set (replacedSets k) (s + k) (setFrom a table tree (s + k) (replacedSets k))
+  replacedSets (suc k) = set (replacedSets k) (s + k) (setFromSets a table tree (s + k) (replacedSets k))
 
   -- all sets, and how many are recomputed; the old element's set is the one stored before the moves
   unfoldable pub exchangedSets : List StateSet × ℕ

@@ -14,22 +14,18 @@ use Rattle.words.proofs.ListLaws.{listFrom-add}
 use Rattle.automaton.specs.StateSet.{StateSet}
 use Rattle.operations.specs.Marks.{sizeOf, storedSet, refit}
 use Rattle.operations.specs.Exchange.{fault}
-use Rattle.operations.proofs.MarksLaws.{Sized}
+use Rattle.operations.proofs.MarksLaws.{Sized, sized-append}
 use Rattle.exchanger.proofs.ExchangeLoops.{movedSets}
 use Rattle.slices.proofs.RefitLaws.{take-drop}
 use Rattle.sets.proofs.RowLaws.{sized-stored, flatten-stored}
-use Rattle.nodes.proofs.MarkLaws.{Holding}
+use Rattle.nodes.proofs.MarkLaws.{MarksHolding}
 use Rattle.exchanger.proofs.TailLaws.{length-kept}
-use Rattle.exchanger.proofs.CallLaws.{Numbers, numbers, marks-fits, length-used}
+use Rattle.exchanger.proofs.CallNumberLaws.{CallNumbers, call-numbers, marks-fits, length-used}
 
 pub flatten-append : (l k : List StateSet) → flatten (l ++ k) ≡ flatten l ++ flatten k
 unfolding flatten
 flatten-append [] k = refl
 flatten-append (r ∷ l) k = ap (λ (t : List ℕ). r ++ t) (flatten-append l k) ∙ sym (append-assoc r (flatten l) (flatten k))
-
-pub sized-append : (size : ℕ) (l k : List StateSet) → Sized size l → Sized size k → Sized size (l ++ k)
-sized-append size [] k h g = g
-sized-append size (r ∷ l) k h g = (h .0, sized-append size l k (h .1) g)
 
 -- what stands behind the words in use
 abbrev pub behindUse : ℕ → ℕ → List ℕ → List ℕ
@@ -59,8 +55,8 @@ module _ (a table chapter marks : List ℕ) (n e : ℕ) (xs : List ℕ) (ok : fa
   abbrev pub gapSets : List StateSet
   gapSets = listFrom stored s (length xs - 1) ++ (stored e ∷ [])
 
-  facts : Numbers a table chapter marks n e xs s size
-  facts = numbers a table chapter marks n e xs ok s refl size refl
+  facts : CallNumbers a table chapter marks n e xs s size
+  facts = call-numbers a table chapter marks n e xs ok s refl size refl
 
   root-is : root ≡ s + (length xs - 1)
   root-is = let some = facts .some in omega arith
@@ -113,7 +109,7 @@ module _ (a table chapter marks : List ℕ) (n e : ℕ) (xs : List ℕ) (ok : fa
   -- the marks behind the move
   pub moved-holds : (moved : List ℕ)
       → moved ≡ refit (n * size) (take ((s + length xs - 1) * size) marks ++ slice (e * size) (n * size) marks) marks
-      → Holding (sizeOf table) moved (movedSets a table stored used e xs gapSets)
+      → MarksHolding (sizeOf table) moved (movedSets a table stored used e xs gapSets)
       (behindUse (n * size) ((s + length xs + k) * size) marks)
   unfolding refit
   moved-holds moved q =

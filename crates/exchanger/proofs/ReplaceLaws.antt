@@ -10,7 +10,7 @@ use Rattle.words.specs.Postfix.{startOf, splice}
 use Rattle.operations.specs.Marks.{sizeOf, refit}
 use Rattle.operations.specs.Exchange.{fault, newTree}
 use Rattle.exchanger.specs.Exchanging.{exchangedFrom, Exchangeable}
-use Rattle.exchanger.proofs.CallLaws.{Numbers, numbers, result-workable}
+use Rattle.exchanger.proofs.CallNumberLaws.{CallNumbers, call-numbers, result-workable}
 use Rattle.exchanger.proofs.MovedLaws.{moved-holds}
 use Rattle.exchanger.proofs.ExchangeLaws.{Left, left-outcomes, chapter-left, nodes-left}
 
@@ -19,8 +19,8 @@ module _ (a table chapter marks : List ℕ) (n e : ℕ) (xs : List ℕ) (ok : fa
   abbrev total : ℕ
   total = s + length xs + (n - e - 1)
 
-  facts : Numbers a table chapter marks n e xs s size
-  facts = numbers a table chapter marks n e xs ok s qs size qz
+  facts : CallNumbers a table chapter marks n e xs s size
+  facts = call-numbers a table chapter marks n e xs ok s qs size qz
 
   -- ---- the chapter
 

@@ -17,10 +17,10 @@ use Rattle.nodes.proofs.LoopLaws.{setAt}
 use Rattle.nodes.proofs.LoopLaws as loops
 use Rattle.exchanger.proofs.UpwardLoop.{upwards, upwards-beside, upwards-last, upwards-onward}
 use Rattle.nodes.specs.Nodes.{setFrom, markedAt}
-use Rattle.nodes.proofs.MarkLaws.{Holding, holding-set, setFrom-rows, markedAt-rows}
+use Rattle.nodes.proofs.MarkLaws.{MarksHolding, holding-set, setFrom-rows, markedAt-rows}
 use Rattle.exchanger.specs.declared.propagate.Progress.{Progress}
 use Rattle.exchanger.specs.Propagation.{propagateFrom}
-use Rattle.exchanger.proofs.PropagateLaws.{recomputed-is, recomputed-same, step-beside, step-ancestor, propagate-continues, propagate-stops}
+use Rattle.exchanger.proofs.PropagationLaws.{recomputed-is, recomputed-same, step-beside, step-ancestor, propagate-continues, propagate-stops}
 
 -- two functions that agree from i and from j on
 module _ {A : Type 0} (f g : ℕ → A) (i j : ℕ) (h : (t : ℕ) → f (i + t) ≡ g (j + t)) where
@@ -41,11 +41,11 @@ module _ (a table ch used : List ℕ) (e : ℕ) (rest : List ℕ) (above : ℕ �
     pub holding : HoldingTree a used e j d
     pub inside : i + n ≤ length ch
     pub rows-inside : i + n ≤ length rows
-    pub sets : Holding (sizeOf table) marks rows rest
+    pub sets : MarksHolding (sizeOf table) marks rows rest
 
   -- the marks hold the state sets, and the counts are the same
   pub record Same (c : List ℕ × ℕ) (u : List StateSet × ℕ) : Type 0 where
-    pub sets : Holding (sizeOf table) (c .0) (u .0) rest
+    pub sets : MarksHolding (sizeOf table) (c .0) (u .0) rest
     pub count : c .1 ≡ u .1
 
   abbrev propagates : ℕ → ℕ → List ℕ → Progress → List ℕ × ℕ
@@ -72,7 +72,7 @@ module _ (a table ch used : List ℕ) (e : ℕ) (rest : List ℕ) (above : ℕ �
 
     -- the loop at the next node
     next : (d′ : ℕ) (marks′ : List ℕ) (rows′ : List StateSet) → HoldingTree a used e (suc j) d′ → length rows′ ≡ length rows
-        → Holding size marks′ rows′ rest → Upward (suc i) (suc j) d′ n marks′ rows′
+        → MarksHolding size marks′ rows′ rest → Upward (suc i) (suc j) d′ n marks′ rows′
     next d′ marks′ rows′ y l s =
         let inside = g .inside in
         let rows-inside = g .rows-inside in
@@ -118,7 +118,7 @@ module _ (a table ch used : List ℕ) (e : ℕ) (rest : List ℕ) (above : ℕ �
         inside-rows : i < length rows
         inside-rows = let h = g .rows-inside in omega arith
 
-        tests : sameWords (loops.setFrom a table ch i rows) (setAt rows i) ≡ sameWords new old
+        tests : sameWords (loops.setFromSets a table ch i rows) (setAt rows i) ≡ sameWords new old
         tests =
             ap₂ sameWords
             (sym (setFrom-rows a table ch marks rows rest i (g .sets) (omega (arith, inside-rows)) inside))
@@ -136,7 +136,7 @@ module _ (a table ch used : List ℕ) (e : ℕ) (rest : List ℕ) (above : ℕ �
         go (fails b) =
             let t′ : Progress = record { reach = 1; recomputed = t .recomputed + 1; active = true } in
             let marks′ = markedAt a table ch i marks in
-            let rows′ = set rows i (loops.setFrom a table ch i rows) in
+            let rows′ = set rows i (loops.setFromSets a table ch i rows) in
             let p : propagates i (suc n) marks t ≡ propagates (suc i) n marks′ t′ =
             propagate-continues a table ch i marks t n marks′ t′
             (step-ancestor a table ch i marks t r refl (omega arith) (marks′, true) (recomputed-is a table ch i marks false b)) refl in

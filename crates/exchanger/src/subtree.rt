@@ -21,7 +21,7 @@ use words::postfix::subtree_start;
 
 // Works out the replacement's nodes, from `start` up to its root, over a stack with the roots of the nodes before and one
 // index of the table and one memo for all. At the root's place in the marks are the old element's words: if the root's differ
-// from them, goes on with the ancestors. Answers how many nodes were worked out.
+// from them, continues with the ancestors. Answers how many nodes were worked out.
 fn recompute_nodes(
     alphabet: &[u32],
     table: &[u32],

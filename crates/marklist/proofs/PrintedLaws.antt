@@ -4,7 +4,7 @@ use mathlib.Core.Bool.{Bool, true, false}
 use mathlib.Core.List.{List, [], _∷_, _++_, append-nil}
 use Prim.Native.Nat.{ℕ, _≤_, min}
 use native.Mathlib.Omega.{arith}
-use lib.ListN.{length, getD, take, drop, replicate, length-replicate}
+use lib.ListN.{length, getD, take, drop}
 use lib.Seq.{length-sets, take-all, length-take-le}
 use Rattle.lines.specs.Line.{refusedLine}
 use Rattle.report.specs.Output.{outputOf}
@@ -12,11 +12,12 @@ use lib.Dec.{ltb}
 use Rattle.words.proofs.TestLaws.{all-append}
 use Rattle.encoding.specs.Words.{areBytes, wordsIn}
 use Rattle.report.specs.Input.{complete, alphabetIn, ruleIn, chapterIn, programOutput}
-use Rattle.encoding.proofs.WordLaws.{length-wordsIn, wordsIn-append, kept-words}
+use Rattle.encoding.proofs.WordByteLaws.{length-wordsIn, wordsIn-append, kept-words}
 use Rattle.report.proofs.OutputLength.{output-short}
 use Rattle.report.proofs.KeptLaws.{early-output}
+use Rattle.report.proofs.ReportLaws.{zeros, many}
 use Rattle.report.proofs.ProgramLaws.{program-early, program-complete}
-use Rattle.marklist.specs.Reading.{Stored, ReadAll, Printed}
+use Rattle.marklist.specs.InputReading.{Stored, ReadAll, Printed}
 
 -- ---- words that are stored
 
@@ -106,12 +107,6 @@ printed false a e ch before after r whole long same =
     record { input = []; small = refl; long = long ∙ ap length q; same = same ∙ ap (λ (l : List ℕ). l ++ drop r before) q }
 
 -- ---- the whole function: four calls that read, and the report
-
-abbrev zeros : ℕ → List ℕ
-zeros n = replicate n 0
-
-many : (n : ℕ) → length (zeros n) ≡ n
-many n = length-replicate {A = ℕ} n 0
 
 module _ {counts alphabet rule chapter : List ℕ} {b₁ b₂ b₃ b₄ : Bool}
     (first : ReadAll true 3 (zeros 3) counts b₁) (second : ReadAll b₁ (getD counts 0 0) (zeros 65) alphabet b₂)

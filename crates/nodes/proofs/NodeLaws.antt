@@ -19,14 +19,14 @@ use Rattle.step.proofs.FollowLaws.{states-most}
 use Rattle.step.proofs.SymbolLaws.{prepared-checked}
 use Rattle.slices.proofs.RefitLaws.{take-drop}
 use Rattle.sets.proofs.StoredLaws.{row-inside, stored-written}
-use Rattle.memo.specs.Memo.{setOver, AtNext, Next}
+use Rattle.memo.specs.Memo.{setOver, AtNext, MarkedNext}
 use Rattle.memo.proofs.MarkingLaws.{length-setOver}
 use Rattle.memo.proofs.MemoLaws.{stored-kept}
-use Rattle.nodes.specs.Nodes.{rootsOf, setFrom, markedAt, TreeOver}
-use Rattle.nodes.specs.Marking.{Represented, AtNode, Prepared as Kept}
+use Rattle.nodes.specs.Nodes.{rootsOf, setFrom, markedAt, BoundedTree}
+use Rattle.nodes.specs.Marking.{Represented, AtNode, Maintained}
 use Rattle.nodes.proofs.RootLaws.{drop-reverse, below-getD, roots-few}
 use Rattle.nodes.proofs.WorkableLaws.{node-arity}
-use Rattle.nodes.proofs.StackLaws.{nodes-fit, stack-fits, stack-height, represented-more}
+use Rattle.nodes.proofs.RootStackLaws.{nodes-fit, stack-fits, stack-height, represented-more}
 
 below-up : (m n : ℕ) → m ≤ n → (l : List ℕ) → AllBelow m l → AllBelow n l
 below-up m n h [] b = tt
@@ -46,7 +46,7 @@ module _ {a table index ch : List ℕ} {i : ℕ} {marks array : List ℕ} {heigh
   stacked : Represented a table ch i marks array height
   stacked = g .prepared .represented
 
-  tree : TreeOver a ch
+  tree : BoundedTree a ch
   tree = g .workable .tree
 
   abbrev nodes : List ℕ
@@ -175,7 +175,7 @@ module _ {a table index ch : List ℕ} {i : ℕ} {marks array : List ℕ} {heigh
 
   -- node i is marked, and its representative is on the stack
   module _ {node : ℕ} {marks′ keys′ known′ places′ owners′ rows′ pending′ : List ℕ}
-      (n : Next table (symbolOf (getD ch i 0)) marks (drop (4 - r) four) i marks′ node keys′ known′ places′ owners′ rows′ pending′) where
+      (n : MarkedNext table (symbolOf (getD ch i 0)) marks (drop (4 - r) four) i marks′ node keys′ known′ places′ owners′ rows′ pending′) where
     abbrev v : StateSet
     v = setOver table (symbolOf (getD ch i 0)) marks (drop (4 - r) four)
 
@@ -183,7 +183,7 @@ module _ {a table index ch : List ℕ} {i : ℕ} {marks array : List ℕ} {heigh
     unfolding markedAt
     node-words = n .new .words ∙ ap (λ (l : List ℕ). paste marks (i * size) l size) set-is
 
-    pub node-kept : Kept a table ch (i + 1) marks′ (set array (height - r) node) (height - r + 1) keys′ known′ places′ owners′ rows′ pending′
+    pub node-kept : Maintained a table ch (i + 1) marks′ (set array (height - r) node) (height - r + 1) keys′ known′ places′ owners′ rows′ pending′
     node-kept =
         let long = length-setOver table (symbolOf w) marks (drop (4 - r) four) in
         record {

@@ -49,14 +49,14 @@ pub record Pushable (a ch : List ℕ) (i : ℕ) (array : List ℕ) (height : ℕ
   pub small : length array ≤ 4100
 
 -- a tree over the alphabet, of no more than 4,096 nodes
-pub record TreeOver (a ch : List ℕ) : Type 0 where
+pub record BoundedTree (a ch : List ℕ) : Type 0 where
   pub nodes : all (isNode a) ch ≡ true
   pub tree : oneTree a ch ≡ true
   pub few : length ch ≤ 4096
 
 -- what filling the stack with the roots of the first `count` nodes asks
 pub record Stackable (a ch : List ℕ) (count : ℕ) (array : List ℕ) : Type 0 where
-  pub tree : TreeOver a ch
+  pub tree : BoundedTree a ch
   pub within : count ≤ length ch
   pub long : length array ≡ 4100
   pub zeros : take 4 array ≡ replicate 4 0
@@ -68,5 +68,5 @@ pub record Workable (a table ch : List ℕ) (marksLength : ℕ) : Type 0 where
   pub alphabet : length a ≤ 64
   pub ranks : (f : ℕ) → rankOf a f ≤ 4
   pub checked : isTable a table ≡ true
-  pub tree : TreeOver a ch
+  pub tree : BoundedTree a ch
   pub marks-fit : length ch * sizeOf table ≤ marksLength

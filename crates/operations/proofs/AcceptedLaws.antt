@@ -41,24 +41,24 @@ unfolding noTable
 table-right a table h = not-false (isTable a table) h
 
 -- 9
-pub record Counted (n : ℕ) : Type 0 where
+pub record ElementCount (n : ℕ) : Type 0 where
   pub some : 0 < n
   pub few : n ≤ 4096
 
-pub count-right : (n : ℕ) → wrongCount n ≡ false → Counted n
+pub count-right : (n : ℕ) → wrongCount n ≡ false → ElementCount n
 unfolding wrongCount
 count-right n h =
     let p = or-false (eqb n 0) (ltb 4096 n) h in
     let z = eqb-false n 0 (p .0) in
     record { some = omega arith; few = ltb-false 4096 n (p .1) }
 
-pub right-count : (n : ℕ) → Counted n → wrongCount n ≡ false
+pub right-count : (n : ℕ) → ElementCount n → wrongCount n ≡ false
 unfolding wrongCount
 right-count n c = let s = c .some in false-or (eqb n 0) (ltb 4096 n) (ne-eqb n 0 (omega arith)) (le-ltb 4096 n (c .few))
 
 -- 9 of Exchange
 pub record Used (n chapterLength : ℕ) : Type 0 where
-  pub counted : Counted n
+  pub counted : ElementCount n
   pub within : n ≤ chapterLength
 
 pub used-count-right : (n chapterLength : ℕ) → wrongUsedCount n chapterLength ≡ false → Used n chapterLength
@@ -95,7 +95,7 @@ fit-marks table n marksLength h = le-ltb marksLength (n * sizeOf table) h
 
 -- 15
 pub record Replacement (a xs : List ℕ) : Type 0 where
-  pub counted : Counted (length xs)
+  pub counted : ElementCount (length xs)
   pub nodes : all (isNode a) xs ≡ true
   pub tree : oneTree a xs ≡ true
 
@@ -188,7 +188,7 @@ pub record RunAccepted (a table p : List ℕ) (marksLength : ℕ) : Type 0 where
   -- 8
   pub automaton : noTable a table ≡ false
   -- 9
-  pub counted : Counted (length p)
+  pub counted : ElementCount (length p)
   -- 10
   pub nodes : all (isNode a) p ≡ true
   -- 11
@@ -233,7 +233,7 @@ pub record ListAccepted (a table : List ℕ) (n marksLength listLength : ℕ) : 
   -- 8
   pub automaton : noTable a table ≡ false
   -- 9
-  pub counted : Counted n
+  pub counted : ElementCount n
   -- 12
   pub marks : n * sizeOf table ≤ marksLength
   -- 13
@@ -276,7 +276,7 @@ pub record ExchangeAccepted (a table : List ℕ) (n : ℕ) (used : List ℕ) (ch
   -- 8
   pub automaton : noTable a table ≡ false
   -- 9
-  pub counted : Counted n
+  pub counted : ElementCount n
   pub within : n ≤ chapterLength
   -- 10
   pub nodes : all (isNode a) used ≡ true

@@ -97,11 +97,11 @@ module _ (a table : List ℕ) (chapterLength marksLength : ℕ) where
     abbrev p′ : List ℕ
     p′ = splice a p (c .element) (c .replacement)
 
-    abbrev refused-by : ℕ
-    refused-by = exchangeFault a table (length p) p chapterLength marksLength (c .element) (c .replacement)
+    abbrev callFault : ℕ
+    callFault = exchangeFault a table (length p) p chapterLength marksLength (c .element) (c .replacement)
 
     -- the plain chapter is refused as the memory is
-    same-fault : fault a table (s .chapter) (s .marks) (s .count) (c .element) (c .replacement) ≡ refused-by
+    same-fault : fault a table (s .chapter) (s .marks) (s .count) (c .element) (c .replacement) ≡ callFault
     unfolding fault
     same-fault =
         ap (λ (u : List ℕ). exchangeFault a table (s .count) u (length (s .chapter)) (length (s .marks)) (c .element) (c .replacement)) (g .elements)
@@ -145,12 +145,12 @@ module _ (a table : List ℕ) (chapterLength marksLength : ℕ) where
 
     related-call : Related a table chapterLength marksLength (plain a table chapterLength marksLength p c) (exchange a table s c)
     unfolding plain exchange exchangeChapter exchangeMarks exchangeAnswer
-    related-call = go (tested (eqb refused-by 0))
+    related-call = go (tested (eqb callFault 0))
       where
-        go : Tested (eqb refused-by 0) → Related a table chapterLength marksLength (plain a table chapterLength marksLength p c) (exchange a table s c)
+        go : Tested (eqb callFault 0) → Related a table chapterLength marksLength (plain a table chapterLength marksLength p c) (exchange a table s c)
         go (holds b) =
             rw (same-fault, b)
-            (related-exchanged (exchange-accepted a table (length p) p chapterLength marksLength (c .element) (c .replacement) (eqb-true refused-by 0 b)))
+            (related-exchanged (exchange-accepted a table (length p) p chapterLength marksLength (c .element) (c .replacement) (eqb-true callFault 0 b)))
         go (fails b) = rw (same-fault, b) g
 
   -- ---- all calls

@@ -161,9 +161,9 @@ module _ (c : ExchangeCall) (he : c .element < length (usedIn c)) (hx : oneTree 
       ∙ ap (λ (n : ℕ). count (recomputes c) (listFrom (λ i. i) 0 n)) many
 
   -- "it is at most the replacement's elements plus the depth of the place"
-  pub count-most : recomputedIn behind ≤ depthOf (c .alphabet) (usedIn c) (c .element)
+  pub recomputed-most : recomputedIn behind ≤ depthOf (c .alphabet) (usedIn c) (c .element)
   unfolding depthOf
-  count-most =
+  recomputed-most =
       let w = count-wider (recomputes c) (ancestor c) (λ k h. and-true (continues c k) (ancestor c k) h .1) (listFrom (λ i. i) 0 m) in
       omega (arith, count-rest, shifted, parts)
     where

@@ -30,7 +30,7 @@ module _ (a table : List ℕ) where
   Is (recomputed r) v = r ≡ v
 
   -- the outcomes of the words over a stack: each recomputed set is the one that the word and the stack give, and each set
-  -- goes on the stack
+  -- is put on the stack
   abbrev pub Follows : List ℕ → List StateSet → List Outcome → Type 0
   Follows [] s [] = Unit {0}
   Follows [] s (o ∷ os) = ⊥

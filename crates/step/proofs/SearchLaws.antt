@@ -13,10 +13,10 @@ use Rattle.automaton.specs.Transition.{automatonOf}
 use Rattle.automaton.specs.StateSet.{StateSet, contains, insert}
 use Rattle.automaton.proofs.BitLaws.{words-insert, insert-same, insert-other, insert-keeps}
 use Rattle.step.specs.Index.{keyOf}
-use Rattle.step.specs.Closure.{ReachedFrom, itself, ClosedAt, SettledAt, satisfied, waiting, Stack, Search, Settled, Put, ClosedSet}
-use Rattle.step.proofs.ChainLaws.{Next}
-use Rattle.step.proofs.WordLaws.{starts-epsilon}
-use Rattle.step.proofs.StackLaws.{put-cases, stack-puttable}
+use Rattle.step.specs.Closure.{ReachedFrom, itself, ClosedAt, SettledAt, satisfied, waiting, PendingStack, Search, Settled, Put, ClosedSet}
+use Rattle.step.proofs.ChainLaws.{FirstWith}
+use Rattle.step.proofs.KeyedWordLaws.{starts-epsilon}
+use Rattle.step.proofs.PendingStackLaws.{put-cases, stack-puttable}
 
 -- ---- one state more
 
@@ -36,7 +36,7 @@ module _ (table : List ℕ) (r : StateSet) (pending : List ℕ) (top s : ℕ) (f
 
 module _ {table : List ℕ} {base : StateSet} {o : ℕ} where
   module _ {key from : ℕ} {r : StateSet} {pending : List ℕ} {top : ℕ} (g : Search table base o key from r pending top) where
-    pub search-put : automatonOf table .states ≤ 1024 → Stack table r pending top → {s : ℕ} → s < automatonOf table .states
+    pub search-put : automatonOf table .states ≤ 1024 → PendingStack table r pending top → {s : ℕ} → s < automatonOf table .states
         → (contains base s ≡ true) ⊎ ReachedFrom (automatonOf table .transitions) o s → {t : StateSet} {pushed : List ℕ} {height : ℕ} → Put r pending top s t pushed height
         → Search table base o key from t pushed height
     search-put most stack {s} below reaches p = put-cases (λ t k n. Search table base o key from t k n) p (λ e. g) new
@@ -57,7 +57,7 @@ module _ {table : List ℕ} {base : StateSet} {o : ℕ} where
 
     -- ---- the first word of the chain is followed, or there is none
 
-    pub search-word : {i : ℕ} → Next table key from i → ClosedAt table r i → Search table base o key (i + 1) r pending top
+    pub search-word : {i : ℕ} → FirstWith table key from i → ClosedAt table r i → Search table base o key (i + 1) r pending top
     search-word {i} n done =
         record { words = g .words; grown = g .grown; holds = g .holds; reached = g .reached; settled = λ j l h. go j l h (ℕ-discrete j i) (decLt j from) }
       where

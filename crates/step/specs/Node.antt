@@ -56,7 +56,7 @@ pub record Joined (table : List ℕ) (f : ℕ) (rs : List StateSet) (i : ℕ) (r
   pub satisfied : Satisfied table rs t i
 
 -- all transitions on the symbol were followed
-pub record Seeded (table : List ℕ) (f : ℕ) (rs : List StateSet) (t : StateSet) (owners rows : List ℕ) : Type 0 where
+pub record SymbolFollowed (table : List ℕ) (f : ℕ) (rs : List StateSet) (t : StateSet) (owners rows : List ℕ) : Type 0 where
   pub closures : Closures table owners rows
   pub growing : Growing table f rs t
   pub satisfied : (i : ℕ) → i < length table → keyOf (getD table i 0) ≡ f → Satisfied table rs t i

@@ -1,5 +1,5 @@
 -- `exchanger::exchange` meets its contract: a refused call changes nothing, and an accepted one does what the definitions say.
-use Rattle.exchanger.proofs.AnswerLaws.{call-refused, call-accepted, call-replaced}
+use Rattle.exchanger.proofs.ExchangeAnswerLaws.{call-refused, call-accepted, call-replaced}
 use borrow.Author.Needs.{needs}
 use Rattle.exchanger.proofs.exchange.Statement.{statement}
 use Rattle.exchanger.proofs.exchange.Tie as tie

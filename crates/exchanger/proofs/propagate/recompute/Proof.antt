@@ -2,7 +2,7 @@
 use native.Mathlib.Omega.{arith}
 use Prim.Native.Nat.{ℕ}
 use lib.ListN.{length-replicate}
-use Rattle.exchanger.proofs.PropagateLaws.{row-fits, row-small, row-few, row-part, before-length, node-recomputed}
+use Rattle.exchanger.proofs.PropagationLaws.{row-fits, row-small, row-few, row-part, before-length, node-recomputed}
 use borrow.Author.Needs.{needs}
 use Rattle.exchanger.proofs.propagate.recompute.Statement.{statement}
 use Rattle.exchanger.proofs.propagate.recompute.Tie as tie

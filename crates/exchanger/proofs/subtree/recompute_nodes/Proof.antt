@@ -1,7 +1,7 @@
 -- `subtree::recompute_nodes` meets its contract: the index of the table, the stack of the nodes before the replacement, the
 -- replacement's nodes up to its root, and the loop over the root and the ancestors.
 use native.Mathlib.Omega.{arith}
-use Rattle.exchanger.proofs.NodesLaws.{nodes-index, nodes-stack, nodes-marks, nodes-propagate, nodes-exchanged}
+use Rattle.exchanger.proofs.RecomputedNodesLaws.{nodes-index, nodes-stack, nodes-marks, nodes-propagate, nodes-exchanged}
 use borrow.Author.Needs.{needs}
 use Rattle.exchanger.proofs.subtree.recompute_nodes.Statement.{statement}
 use Rattle.exchanger.proofs.subtree.recompute_nodes.Tie as tie

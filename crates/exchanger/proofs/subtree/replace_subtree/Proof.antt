@@ -6,7 +6,7 @@ use Prim.Native.Nat.{ℕ}
 use native.Mathlib.Omega.{arith}
 use Rattle.words.specs.Answer.{accepted}
 use Rattle.operations.specs.Exchange.{newTree}
-use Rattle.exchanger.proofs.CallLaws.{Numbers, numbers, accepted-call, length-used, chapter-fits, marks-fits}
+use Rattle.exchanger.proofs.CallNumberLaws.{CallNumbers, call-numbers, accepted-call, length-used, chapter-fits, marks-fits}
 use Rattle.exchanger.proofs.ReplaceLaws.{chapter-exit, chapter-count, call-exchangeable, marks-exit}
 use borrow.Author.Needs.{needs}
 use Rattle.exchanger.proofs.subtree.replace_subtree.Statement.{statement}
@@ -29,10 +29,10 @@ abbrev filled : tie.After-move-tail2 → tie.After-copy-words
 filled c = c .before .before .before .before
 
 facts : (c : tie.After-subtree-start)
-    → Numbers (start (sized c) .args .alphabet .now) (start (sized c) .args .table .now) (start (sized c) .args .chapter .now)
+    → CallNumbers (start (sized c) .args .alphabet .now) (start (sized c) .args .table .now) (start (sized c) .args .chapter .now)
     (start (sized c) .args .marks .now) (start (sized c) .args .count) (start (sized c) .args .element)
     (start (sized c) .args .replacement .now) (c .subtree-start .result) (sized c .set-size .result)
-facts c = numbers _ _ _ _ _ _ _ (start (sized c) .pre) _ (c .subtree-start .ensures) _ (sized c .set-size .ensures)
+facts c = call-numbers _ _ _ _ _ _ _ (start (sized c) .pre) _ (c .subtree-start .ensures) _ (sized c .set-size .ensures)
 
 set-size-requires : tie.Need-set-size-requires
 set-size-requires c κs = search needs

@@ -4,14 +4,14 @@ use native.Mathlib.Omega.{arith}
 use lib.ListN.{length}
 use Rattle.operations.proofs.AcceptedLaws.{list-accepted}
 use Rattle.operations.proofs.MatchLaws.{matchesOf-few}
-use Rattle.matcher.proofs.CallLaws.{list-row}
-use Rattle.matcher.proofs.ListingLaws.{Found, found-none, found-more, found-end, part-set}
+use Rattle.matcher.proofs.AcceptedCallLaws.{list-row}
+use Rattle.matcher.proofs.ListingLaws.{FoundMatches, found-none, found-more, found-end, part-set}
 use borrow.Author.Needs.{needs}
 use Rattle.matcher.proofs.matches.list_accepted.Statement.{statement}
 use Rattle.matcher.proofs.matches.list_accepted.Tie as tie
 
 abbrev Inv-loop : tie.InvT-loop
-Inv-loop alphabet table count marks list₀ size last found₀ i₀ list found i = (i ≤ count) × Found table marks list₀ list found i
+Inv-loop alphabet table count marks list₀ size last found₀ i₀ list found i = (i ≤ count) × FoundMatches table marks list₀ list found i
 
 abbrev μ-loop : tie.MeasureT-loop
 μ-loop alphabet table count marks list₀ size last found₀ i₀ list found i = count - i

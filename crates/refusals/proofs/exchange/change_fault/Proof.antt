@@ -11,7 +11,7 @@ use Rattle.words.proofs.RefusalLaws.{none, here, next, number}
 use Rattle.words.proofs.PostfixLaws.{start-le}
 use Rattle.operations.specs.Exchange.{noElement, changeRefusals}
 use Rattle.operations.proofs.AcceptedLaws.{replacement-right}
-use Rattle.refusals.proofs.ExchangeLaws.{result-length, judged-length}
+use Rattle.refusals.proofs.ReplacementRefusalLaws.{result-length, judged-length}
 use Rattle.refusals.proofs.exchange.change_fault.Statement.{statement}
 use Rattle.refusals.proofs.exchange.change_fault.Tie as tie
 

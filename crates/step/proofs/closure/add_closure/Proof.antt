@@ -1,5 +1,5 @@
 -- `step::closure::add_closure` meets its contract: the state is put into the set, and all that waits is followed.
-use Rattle.step.proofs.ClosureLaws.{add-puttable, add-stack, add-end}
+use Rattle.step.proofs.KeptClosureLaws.{add-puttable, add-stack, add-end}
 use borrow.Author.Needs.{needs}
 use Rattle.step.proofs.closure.add_closure.Statement.{statement}
 use Rattle.step.proofs.closure.add_closure.Tie as tie

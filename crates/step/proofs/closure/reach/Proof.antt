@@ -2,7 +2,7 @@
 use mathlib.Core.Path.{sym, _∙_}
 use native.Mathlib.Omega.{arith}
 use borrow.Author.Needs.{needs}
-use Rattle.step.proofs.StackLaws.{put-none, put-one}
+use Rattle.step.proofs.PendingStackLaws.{put-present-none, put-one}
 use Rattle.step.proofs.closure.reach.Statement.{statement}
 use Rattle.step.proofs.closure.reach.Tie as tie
 
@@ -13,7 +13,7 @@ same-length : tie.Need-same-length
 same-length c = search needs
 
 returns : tie.Need-returns
-returns c = put-none (sym (c .before .contains .ensures) ∙ c .if1 .taken)
+returns c = put-present-none (sym (c .before .contains .ensures) ∙ c .if1 .taken)
 
 insert-requires : tie.Need-insert-requires
 insert-requires c κs = search needs
