@@ -30,6 +30,6 @@ pub list-small : (a table : List ℕ) (n : ℕ) (marks list : List ℕ) {k : ℕ
     → answerInListed r ≡ listAnswer a table n marks list → k < 2 ^ 32
 list-small a table n marks list r told answer = list-value a table n marks list (rw told at answer)
 
-pub exchange-small : (a table chapter marks : List ℕ) (n e : ℕ) (xs : List ℕ) {count worked : ℕ} (r : Exchanged) → r ≡ Replaced count worked
-    → answerInExchanged r ≡ exchangeAnswer a table chapter marks n e xs → (count < 2 ^ 32) × (worked < 2 ^ 32)
-exchange-small a table chapter marks n e xs r told answer = exchange-values a table chapter marks n e xs (rw told at answer)
+pub exchange-small : (a table chapter marks : List ℕ) (n i : ℕ) (xs : List ℕ) {count worked : ℕ} (r : Exchanged) → r ≡ Replaced count worked
+    → answerInExchanged r ≡ exchangeAnswer a table chapter marks n i xs → (count < 2 ^ 32) × (worked < 2 ^ 32)
+exchange-small a table chapter marks n i xs r told answer = exchange-values a table chapter marks n i xs (rw told at answer)

@@ -268,7 +268,7 @@ module _ (a table : List ℕ) (n marksLength listLength : ℕ) where
 
 -- ---- Exchange
 
-pub record ExchangeAccepted (a table : List ℕ) (n : ℕ) (used : List ℕ) (chapterLength marksLength e : ℕ) (xs : List ℕ) : Type 0 where
+pub record ExchangeAccepted (a table : List ℕ) (n : ℕ) (used : List ℕ) (chapterLength marksLength i : ℕ) (xs : List ℕ) : Type 0 where
   -- 1
   pub alphabet : noAlphabet a ≡ false
   -- 2
@@ -285,17 +285,17 @@ pub record ExchangeAccepted (a table : List ℕ) (n : ℕ) (used : List ℕ) (ch
   -- 12
   pub marks : n * sizeOf table ≤ marksLength
   -- 14
-  pub element : e < n
+  pub element : i < n
   -- 15
   pub replacement : Replacement a xs
   -- 16
-  pub fits : ResultFits table (length (splice a used e xs)) chapterLength marksLength
+  pub fits : ResultFits table (length (splice a used i xs)) chapterLength marksLength
 
-module _ (a table : List ℕ) (n : ℕ) (used : List ℕ) (chapterLength marksLength e : ℕ) (xs : List ℕ) where
-  pub exchange-accepted : exchangeFault a table n used chapterLength marksLength e xs ≡ 0 → ExchangeAccepted a table n used chapterLength marksLength e xs
+module _ (a table : List ℕ) (n : ℕ) (used : List ℕ) (chapterLength marksLength i : ℕ) (xs : List ℕ) where
+  pub exchange-accepted : exchangeFault a table n used chapterLength marksLength i xs ≡ 0 → ExchangeAccepted a table n used chapterLength marksLength i xs
   unfolding noElement
   exchange-accepted h =
-      let rs = exchangeRefusals a table n used chapterLength marksLength e xs in
+      let rs = exchangeRefusals a table n used chapterLength marksLength i xs in
       let not-so : (k : ℕ) → conditionOf k rs ≡ false = none-applies rs refl h in
       let count = used-count-right n chapterLength (not-so 9) in
       record {
@@ -307,7 +307,7 @@ module _ (a table : List ℕ) (n : ℕ) (used : List ℕ) (chapterLength marksLe
         nodes = nodes-right a used (not-so 10);
         tree = tree-right a used (not-so 11);
         marks = marks-fit table n marksLength (not-so 12);
-        element = ltb-true e n (not-false (ltb e n) (not-so 14));
+        element = ltb-true i n (not-false (ltb i n) (not-so 14));
         replacement = replacement-right a xs (not-so 15);
-        fits = result-right table (length (splice a used e xs)) chapterLength marksLength (not-so 16);
+        fits = result-right table (length (splice a used i xs)) chapterLength marksLength (not-so 16);
       }

@@ -108,17 +108,17 @@ is-chosen o false r s e = ap isRecomputed e
 
 -- ---- the nodes behind the replaced subtree
 
-module _ (a table : List ℕ) (stored : ℕ → StateSet) (used : List ℕ) (e : ℕ) (xs : List ℕ) where
+module _ (a table : List ℕ) (stored : ℕ → StateSet) (used : List ℕ) (element : ℕ) (xs : List ℕ) where
   abbrev behind : List ℕ
-  behind = drop (e + 1) used
+  behind = drop (element + 1) used
 
   abbrev changed : Bool
-  changed = not (sameWords (rootSet a table xs) (stored e))
+  changed = not (sameWords (rootSet a table xs) (stored element))
 
-  pub chosen-behind : Chosen stored (isAncestor a used e) (e + 1) changed (outcomesBehind a table stored used e xs)
+  pub chosen-behind : Chosen stored (isAncestor a used element) (element + 1) changed (outcomesBehind a table stored used element xs)
   unfolding outcomesBehind
-  chosen-behind = go (tested (sameWords (rootSet a table xs) (stored e)))
+  chosen-behind = go (tested (sameWords (rootSet a table xs) (stored element)))
     where
-      go : Tested (sameWords (rootSet a table xs) (stored e)) → Chosen stored (isAncestor a used e) (e + 1) changed (outcomesBehind a table stored used e xs)
-      go (holds b) = rw b (chosen-kept stored (isAncestor a used e) (length behind) (e + 1))
-      go (fails b) = rw b (chosen-propagate stored (isAncestor a used e) a table behind (e + 1) _)
+      go : Tested (sameWords (rootSet a table xs) (stored element)) → Chosen stored (isAncestor a used element) (element + 1) changed (outcomesBehind a table stored used element xs)
+      go (holds b) = rw b (chosen-kept stored (isAncestor a used element) (length behind) (element + 1))
+      go (fails b) = rw b (chosen-propagate stored (isAncestor a used element) a table behind (element + 1) _)

@@ -47,32 +47,32 @@ module _ (a table : List ℕ) (chapterLength marksLength : ℕ) where
   run-spliced : (p : List ℕ) (c : Call) → Accepted p c → runFault a table (splice a p (c .element) (c .replacement)) marksLength ≡ 0
   unfolding splice
   run-spliced p c k =
-      accepted-run a table (splice a p e xs) marksLength
+      accepted-run a table (splice a p element xs) marksLength
       (record {
         alphabet = k .alphabet;
         constants = k .constants;
         automaton = k .automaton;
         counted = record { some = some; few = k .fits .few };
         nodes = nodes;
-        tree = splice-tree a p e (k .tree) (k .element) xs (k .replacement .tree);
+        tree = splice-tree a p element (k .tree) (k .element) xs (k .replacement .tree);
         marks = k .fits .marks;
       })
     where
-      e : ℕ
-      e = c .element
+      element : ℕ
+      element = c .element
 
       xs : List ℕ
       xs = c .replacement
 
-      nodes : all (isNode a) (splice a p e xs) ≡ true
+      nodes : all (isNode a) (splice a p element xs) ≡ true
       nodes =
-          let s = startOf a p e in
-          all-append (isNode a) (take s p) (xs ++ drop (e + 1) p)
+          let s = startOf a p element in
+          all-append (isNode a) (take s p) (xs ++ drop (element + 1) p)
           (all-left (isNode a) (take s p) (drop s p) (rw (take-append-drop s p) (k .nodes)))
-          (all-append (isNode a) xs (drop (e + 1) p) (k .replacement .nodes)
-          (all-right (isNode a) (take (e + 1) p) (drop (e + 1) p) (rw (take-append-drop (e + 1) p) (k .nodes))))
+          (all-append (isNode a) xs (drop (element + 1) p) (k .replacement .nodes)
+          (all-right (isNode a) (take (element + 1) p) (drop (element + 1) p) (rw (take-append-drop (element + 1) p) (k .nodes))))
 
-      some : 0 < length (splice a p e xs)
+      some : 0 < length (splice a p element xs)
       some =
           let l = k .replacement .counted .some in
           simp length-append (omega arith)

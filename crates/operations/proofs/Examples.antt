@@ -74,10 +74,10 @@ pub record ListingRow (al e ch : List ℕ) (states words head : ℕ) (lines : Li
       ≡ lines
 
 -- what an Exchange answers and leaves with the table of a rule, where these marks are stored; and what List then names
-pub record ExchangeRow (rl slice stored : List ℕ) (n e : ℕ) (xs : List ℕ) (answer : Answer) (left : List ℕ) (leftMarks : List ℕ) (hits : List ℕ) : Type 0 where
-  pub answers : exchangeAnswer alphabet (compiledTable alphabet rl) slice stored n e xs ≡ answer
-  pub chapterLeft : exchangeChapter alphabet (compiledTable alphabet rl) slice stored n e xs ≡ left
-  pub marksLeft : exchangeMarks alphabet (compiledTable alphabet rl) slice stored n e xs ≡ leftMarks
+pub record ExchangeRow (rl slice stored : List ℕ) (n i : ℕ) (xs : List ℕ) (answer : Answer) (left : List ℕ) (leftMarks : List ℕ) (hits : List ℕ) : Type 0 where
+  pub answers : exchangeAnswer alphabet (compiledTable alphabet rl) slice stored n i xs ≡ answer
+  pub chapterLeft : exchangeChapter alphabet (compiledTable alphabet rl) slice stored n i xs ≡ left
+  pub marksLeft : exchangeMarks alphabet (compiledTable alphabet rl) slice stored n i xs ≡ leftMarks
   pub lists : matchesOf (compiledTable alphabet rl) (firstValue answer n) leftMarks ≡ hits
 
 -- every call of Compile, Run and List with the alphabet and this rule, whatever the chapter: List names exactly the nodes
@@ -97,7 +97,7 @@ pub data Row : Type 0 where
   running : (al e ch : List ℕ) (answer : Answer) → Row
   listing : (al e ch : List ℕ) (states words head : ℕ) (lines : List (ℕ × ℕ × ℕ)) → Row
   marking : (al e ch slice left : List ℕ) → Row
-  exchanging : (rl slice stored : List ℕ) (n e : ℕ) (xs : List ℕ) (answer : Answer) (left leftMarks hits : List ℕ) → Row
+  exchanging : (rl slice stored : List ℕ) (n i : ℕ) (xs : List ℕ) (answer : Answer) (left leftMarks hits : List ℕ) → Row
 
 abbrev pub Holds : Row → Type 0
 Holds (member E t) = Member E t
@@ -108,7 +108,7 @@ Holds (hitsAt e c) = Names e (λ t. t ≡ constant c)
 Holds (listing al e ch states words head lines) = ListingRow al e ch states words head lines
 Holds (running al e ch answer) = runAnswer al (compiledTable al e) ch (replicate (length ch) 0) ≡ answer
 Holds (marking al e ch slice left) = runExit al (compiledTable al e) ch slice ≡ left
-Holds (exchanging rl slice stored n e xs answer left leftMarks hits) = ExchangeRow rl slice stored n e xs answer left leftMarks hits
+Holds (exchanging rl slice stored n i xs answer left leftMarks hits) = ExchangeRow rl slice stored n i xs answer left leftMarks hits
 
 abbrev pub AllHold : List Row → Type 0
 AllHold [] = Unit {0}
@@ -119,7 +119,7 @@ abbrev slice : List ℕ
 slice = chapter ++ (1 ∷ 2 ∷ 3 ∷ [])
 
 abbrev inSource : List ℕ → ℕ → List ℕ → Answer → List ℕ → List ℕ → List ℕ → Row
-inSource stored e xs answer left leftMarks hits = exchanging rule slice stored 7 e xs answer left leftMarks hits
+inSource stored i xs answer left leftMarks hits = exchanging rule slice stored 7 i xs answer left leftMarks hits
 
 abbrev pub rows : List Row
 rows =

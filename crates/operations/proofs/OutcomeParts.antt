@@ -57,9 +57,9 @@ root-last a table xs h l =
         list-right a (nodeSet table) f xs 0 []
         (ap (listFrom f 0) (sym (length-values a (nodeSet table) xs [])) ∙ listFrom-getD [] vs)
 
-module _ (a table : List ℕ) (stored : ℕ → StateSet) (used : List ℕ) (e : ℕ) (xs : List ℕ) where
+module _ (a table : List ℕ) (stored : ℕ → StateSet) (used : List ℕ) (element : ℕ) (xs : List ℕ) where
   abbrev start : ℕ
-  start = startOf a used e
+  start = startOf a used element
 
   abbrev front : List Outcome
   front = keptFrom stored 0 start
@@ -68,10 +68,10 @@ module _ (a table : List ℕ) (stored : ℕ → StateSet) (used : List ℕ) (e :
   replaced = map recomputed (nodeSets a table xs)
 
   abbrev rest : List Outcome
-  rest = outcomesBehind a table stored used e xs
+  rest = outcomesBehind a table stored used element xs
 
   abbrev os : List Outcome
-  os = outcomesAfter a table stored used e xs
+  os = outcomesAfter a table stored used element xs
 
   length-front : length front ≡ start
   length-front = length-listFrom (λ i. kept (stored i)) start 0
