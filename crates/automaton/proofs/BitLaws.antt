@@ -121,7 +121,7 @@ contains-replicate n s = contains-zero (replicate n 0) s (go (decLt (s / 32) n))
 pub contains-beyond : (r : StateSet) (s : ℕ) → length r ≤ s / 32 → contains r s ≡ false
 contains-beyond r s h = contains-zero r s (List·getD-eq-default r 0 h)
 
--- no state goes, also where the new one is beyond the words
+-- no state is lost, also where the new one is beyond the words
 pub insert-keeps : (r : StateSet) (s q : ℕ) → contains r q ≡ true → contains (insert r s) q ≡ true
 insert-keeps r s q h = go (ℕ-discrete q s) (decLt (q / 32) (length r))
   where

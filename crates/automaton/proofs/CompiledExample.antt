@@ -37,7 +37,7 @@ example-table = refl
 abbrev smallAlphabet : List ℕ
 smallAlphabet = 0x10000000 ∷ 0x10000002 ∷ []
 
--- f(c, c): the entry for c goes to both children, the left one first
+-- f(c, c): the entry for c leads to both children, the left one first
 pub twice-table :
     tableWords (compiled smallAlphabet (0x20000000 ∷ 0x20000000 ∷ 0x20000001 ∷ []))
     ≡ 0x80001002 ∷ 0x90000003 ∷ 0x90000402 ∷ 0xb0000000 ∷ 0xb0000001 ∷ 0xa0000c00 ∷ 0xa0000c01 ∷ []

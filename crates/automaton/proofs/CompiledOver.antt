@@ -17,10 +17,10 @@ use Rattle.words.proofs.Ascending.{Ascending, end, next, ascending-le, ascendin
 use Rattle.automaton.specs.Transition.{Transition, onSymbol, epsilon}
 use Rattle.automaton.specs.Numbering.{Port, statesOf, portOf, entryFor, epsilons, entryEpsilons, statesAfter, ownTransitions, transitionsFrom, constantTransitions, lastPort, compiled, symbolTargets, unionTargets, productTargets, closureTargets}
 use Rattle.automaton.specs.Table.{AllBelow, TransitionOver, TransitionsOver, AutomatonOver}
-use Rattle.automaton.proofs.EntryLaws.{to-epsilons, to-entryEpsilons, to-constants, numbered-all}
-use Rattle.automaton.proofs.Ports.{statesIn, Entries, every, own, missing, PortIn, Children, noChild, child, children-le}
+use Rattle.automaton.proofs.EveryEntryLaws.{to-epsilons, to-entryEpsilons, to-constants, numbered-all}
+use Rattle.automaton.proofs.PortStates.{statesIn, Entries, every, own, missing, PortIn, Children, noChild, child, children-le}
 use Rattle.automaton.proofs.OwnTransitions.{Own, leaf, ofSymbol, ofUnion, ofProduct, ofClosure}
-use Rattle.automaton.proofs.Reading.{Reading, ended, word, childrenOn, expression-reading}
+use Rattle.automaton.proofs.PortReading.{Reading, ended, word, childrenOn, expression-reading}
 use Rattle.automaton.proofs.LastPort.{statesAfter-le, lastPort-in}
 use Rattle.automaton.proofs.TargetLaws.{entryFor-ascending, symbol-ascending, union-ascending, product-ascending, closure-ascending}
 

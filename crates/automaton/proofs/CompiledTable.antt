@@ -20,7 +20,7 @@ use Rattle.words.proofs.AcceptedAlphabet.{AcceptedAlphabet, alphabet-accepted, 
 use Rattle.automaton.specs.Transition.{tableWords}
 use Rattle.automaton.specs.Numbering.{hasEntries, compiled}
 use Rattle.automaton.specs.Table.{isTable}
-use Rattle.automaton.proofs.Reading.{expression-length}
+use Rattle.automaton.proofs.PortReading.{expression-length}
 use Rattle.automaton.proofs.StateCount.{innerWords, leafWords, inner-leaf, states-counted}
 use Rattle.automaton.proofs.TableLength.{branchingWords, table-length}
 use Rattle.automaton.proofs.CompiledOver.{compiled-over}

@@ -152,31 +152,31 @@ module _ (cs : List ℕ) (ts : List Transition) where
   complete-none n σ g us vs m (atMore p ps) = absurd m
 
   mutual
-    pub complete : (E : Expression) (n : ℕ) → ConstantsListed cs E → All (Present ts) (transitionsOf cs E n) → Complete E n
-    complete (symbol f es) n k h =
+    pub complete-expression : (E : Expression) (n : ℕ) → ConstantsListed cs E → All (Present ts) (transitionsOf cs E n) → Complete E n
+    complete-expression (symbol f es) n k h =
         complete-symbol f es n (complete-all es n (k .1) (all-left (Present ts) (transitionsOfAll cs es n) (own cs (symbol f es) n) h))
         (all-right (Present ts) (transitionsOfAll cs es n) (own cs (symbol f es) n) h)
-    complete empty n k h = λ σ g t d. absurd (d .1)
-    complete (union F G) n k h =
+    complete-expression empty n k h = λ σ g t d. absurd (d .1)
+    complete-expression (union F G) n k h =
         let g = next cs F n in
         let hG = all-right (Present ts) (transitionsOf cs F n) (transitionsOf cs G g ++ own cs (union F G) n) h in
         complete-union F G n (k .0) (k .1)
-        (complete F n (k .0) (all-left (Present ts) (transitionsOf cs F n) (transitionsOf cs G g ++ own cs (union F G) n) h))
-        (complete G g (k .1) (all-left (Present ts) (transitionsOf cs G g) (own cs (union F G) n) hG))
+        (complete-expression F n (k .0) (all-left (Present ts) (transitionsOf cs F n) (transitionsOf cs G g ++ own cs (union F G) n) h))
+        (complete-expression G g (k .1) (all-left (Present ts) (transitionsOf cs G g) (own cs (union F G) n) hG))
         (all-right (Present ts) (transitionsOf cs G g) (own cs (union F G) n) hG)
-    complete (product c F G) n k h =
+    complete-expression (product c F G) n k h =
         let g = next cs F n in
         let hG = all-right (Present ts) (transitionsOf cs F n) (transitionsOf cs G g ++ own cs (product c F G) n) h in
         complete-product c F G n (k .1) (k .2)
-        (complete F n (k .1) (all-left (Present ts) (transitionsOf cs F n) (transitionsOf cs G g ++ own cs (product c F G) n) h))
-        (complete G g (k .2) (all-left (Present ts) (transitionsOf cs G g) (own cs (product c F G) n) hG))
+        (complete-expression F n (k .1) (all-left (Present ts) (transitionsOf cs F n) (transitionsOf cs G g ++ own cs (product c F G) n) h))
+        (complete-expression G g (k .2) (all-left (Present ts) (transitionsOf cs G g) (own cs (product c F G) n) hG))
         (all-right (Present ts) (transitionsOf cs G g) (own cs (product c F G) n) hG)
-    complete (closure c F) n k h =
-        complete-closure c F n (k .0) (k .1) (complete F n (k .1) (all-left (Present ts) (transitionsOf cs F n) (own cs (closure c F) n) h))
+    complete-expression (closure c F) n k h =
+        complete-closure c F n (k .0) (k .1) (complete-expression F n (k .1) (all-left (Present ts) (transitionsOf cs F n) (own cs (closure c F) n) h))
         (all-right (Present ts) (transitionsOf cs F n) (own cs (closure c F) n) h)
 
     complete-all : (es : Expressions) (n : ℕ) → ConstantsListedAll cs es → All (Present ts) (transitionsOfAll cs es n) → CompleteAll es n
     complete-all noneᵉ n k h = complete-none n
     complete-all (moreᵉ e es) n k h =
-        complete-more e es n (k .0) (complete e n (k .0) (all-left (Present ts) (transitionsOf cs e n) (transitionsOfAll cs es (next cs e n)) h))
+        complete-more e es n (k .0) (complete-expression e n (k .0) (all-left (Present ts) (transitionsOf cs e n) (transitionsOfAll cs es (next cs e n)) h))
         (complete-all es (next cs e n) (k .1) (all-right (Present ts) (transitionsOf cs e n) (transitionsOfAll cs es (next cs e n)) h))

@@ -12,8 +12,8 @@ use Rattle.words.proofs.Ascending.{Ascending, next}
 use Rattle.words.proofs.DistinctLaws.{Distinct, distinct-append}
 use Rattle.automaton.specs.Transition.{Transition, onSymbol, epsilon}
 use Rattle.automaton.specs.Numbering.{Port, statesOf, portOf, ownTransitions, transitionsFrom, constantTransitions, lastPort, compiled}
-use Rattle.automaton.proofs.Ports.{statesIn}
-use Rattle.automaton.proofs.Reading.{Reading, ended, word, childrenOn, expression-reading}
+use Rattle.automaton.proofs.PortStates.{statesIn}
+use Rattle.automaton.proofs.PortReading.{Reading, ended, word, childrenOn, expression-reading}
 use Rattle.automaton.proofs.TransitionOrder.{own-ordered}
 use Rattle.automaton.proofs.LastPort.{lastPort-in}
 use Rattle.automaton.proofs.OrderDistinct.{inOrder-distinct}

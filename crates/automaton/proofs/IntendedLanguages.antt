@@ -11,7 +11,7 @@ use Rattle.language.specs.Expression.{Expression, Expressions, symbol, empty, u
 use Rattle.language.specs.Membership.{Language, Assignment, constant, atConstant, Member}
 use Rattle.language.proofs.SubstitutionLaws.{assigned, Under, constant-under}
 use Rattle.automaton.specs.Numbering.{numbered}
-use Rattle.automaton.proofs.EntryLaws.{EveryEntry}
+use Rattle.automaton.proofs.EveryEntryLaws.{EveryEntry}
 use Rattle.automaton.proofs.TreeNumbering.{behind, next, nextAll, exitState, entryStates}
 
 -- a language for each state

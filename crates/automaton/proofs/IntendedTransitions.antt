@@ -9,7 +9,7 @@ use Rattle.language.specs.Membership.{Assignment}
 use Rattle.automaton.specs.Transition.{Transition, onSymbol, epsilon}
 use Rattle.automaton.specs.Numbering.{entryEpsilons}
 use Rattle.automaton.specs.Reached.{Reaches, ReachesAll, onNode, onEpsilon, onNone, onMore}
-use Rattle.automaton.proofs.EntryLaws.{every-found, to-entryEpsilons}
+use Rattle.automaton.proofs.EveryEntryLaws.{every-found, to-entryEpsilons}
 use Rattle.automaton.proofs.TreeNumbering.{next, entryStates, entry, childEntries}
 use Rattle.automaton.proofs.IntendedLanguages.{Intended, Has, has-left, languages, languagesAll, behind-part, EntriesAre, entries-are}
 

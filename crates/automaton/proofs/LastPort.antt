@@ -8,8 +8,8 @@ use lib.ListN.{length}
 use Rattle.words.specs.Expression.{expressionFault}
 use Rattle.words.proofs.Ascending.{Ascending}
 use Rattle.automaton.specs.Numbering.{Port, statesOf, portOf, childPort, portsFrom, statesAfter, lastPort}
-use Rattle.automaton.proofs.Ports.{constantsIn, PortIn, portIn-from}
-use Rattle.automaton.proofs.Reading.{Reading, word, expression-reading, expression-length}
+use Rattle.automaton.proofs.PortStates.{constantsIn, PortIn, portIn-from}
+use Rattle.automaton.proofs.PortReading.{Reading, word, expression-reading, expression-length}
 
 -- the states of the last of the words w and ws, from state n on
 abbrev pub lastFrom : List ℕ → ℕ → ℕ → List ℕ → Port

@@ -1,9 +1,9 @@
 pub mod CompiledExample
 pub mod BitLaws
 pub mod KeepLaws
-pub mod Ports
+pub mod PortStates
 pub mod OwnTransitions
-pub mod Reading
+pub mod PortReading
 pub mod TargetLaws
 pub mod TransitionOrder
 pub mod OrderDistinct
@@ -20,7 +20,7 @@ pub mod SetLength
 pub mod PassLaws
 pub mod ClosureLaws
 pub mod TreeSets
-pub mod EntryLaws
+pub mod EveryEntryLaws
 pub mod TreeNumbering
 pub mod ReachedBy
 pub mod Completeness

@@ -15,7 +15,7 @@ use Rattle.language.proofs.SubstitutionLaws.{assigned}
 use Rattle.automaton.specs.Transition.{Transition, epsilon}
 use Rattle.automaton.specs.Numbering.{numbered, epsilons, entryEpsilons}
 use Rattle.automaton.specs.Reached.{Reaches, onEpsilon}
-use Rattle.automaton.proofs.EntryLaws.{EveryEntry, found-every, every-numbered, numbered-all, of-epsilons, of-entryEpsilons}
+use Rattle.automaton.proofs.EveryEntryLaws.{EveryEntry, found-every, every-numbered, numbered-all, of-epsilons, of-entryEpsilons}
 use Rattle.automaton.proofs.TreeNumbering.{nextAll, exitState, entryStates, entry, ConstantsListed}
 
 module _ (ts : List Transition) where

@@ -16,7 +16,7 @@ use Rattle.language.proofs.SubstitutionLaws.{itself, assigned, Under, product-o
 use Rattle.automaton.specs.Transition.{Transition, onSymbol}
 use Rattle.automaton.specs.Numbering.{epsilons, entryEpsilons, constantTransitions}
 use Rattle.automaton.specs.Reached.{Reaches}
-use Rattle.automaton.proofs.EntryLaws.{to-epsilons, to-constants}
+use Rattle.automaton.proofs.EveryEntryLaws.{to-epsilons, to-constants}
 use Rattle.automaton.proofs.TreeNumbering.{next, exitState, entryStates, entry, exits, childEntries, own, transitionsOf, transitionsOfAll, treeTransitions}
 use Rattle.automaton.proofs.IntendedLanguages.{Intended, Has, has-left, nth, has-nth, block, symbolBlock, languages, languagesAll, behind-part, exit-is, entries-are}
 use Rattle.automaton.proofs.IntendedTransitions.{Intend, Keeps, intended, Into, into-append, into-entry, into-children, keeps-entryEpsilons}

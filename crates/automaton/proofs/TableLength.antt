@@ -14,9 +14,9 @@ use Rattle.words.specs.Postfix.{arity}
 use Rattle.words.specs.Expression.{expressionFault}
 use Rattle.automaton.specs.Transition.{Transition, onSymbol, transitionWords, transitionsWords, tableWords}
 use Rattle.automaton.specs.Numbering.{Port, hasEntries, statesOf, portOf, entryFor, epsilons, entryEpsilons, statesAfter, ownTransitions, transitionsFrom, constantTransitions, lastPort, compiled, symbolTargets, unionTargets, productTargets, closureTargets}
-use Rattle.automaton.proofs.Ports.{constantsIn, PortIn, Children, child}
+use Rattle.automaton.proofs.PortStates.{constantsIn, PortIn, Children, child}
 use Rattle.automaton.proofs.OwnTransitions.{Own, leaf, ofSymbol, ofUnion, ofProduct, ofClosure}
-use Rattle.automaton.proofs.Reading.{WordRead, Reading, word, childrenOn, expression-reading, expression-length}
+use Rattle.automaton.proofs.PortReading.{WordRead, Reading, word, childrenOn, expression-reading, expression-length}
 use Rattle.automaton.proofs.TargetCount.{total, weight, lookup-once, total-symbol, total-union, total-product, total-closure}
 use Rattle.automaton.proofs.StateCount.{innerWords}
 use Rattle.automaton.proofs.LastPort.{lastFrom, lastPort-from}
@@ -26,10 +26,10 @@ use Rattle.automaton.proofs.LastPort.{lastFrom, lastPort-from}
 abbrev wordCount : List Transition → ℕ
 wordCount ts = length (transitionsWords ts)
 
-count-append : (xs ys : List Transition) → wordCount (xs ++ ys) ≡ wordCount xs + wordCount ys
-count-append [] ys = omega arith
-count-append (t ∷ xs) ys =
-    omega (arith, length-append (transitionWords t) (transitionsWords (xs ++ ys)), length-append (transitionWords t) (transitionsWords xs), count-append xs ys)
+wordCount-append : (xs ys : List Transition) → wordCount (xs ++ ys) ≡ wordCount xs + wordCount ys
+wordCount-append [] ys = omega arith
+wordCount-append (t ∷ xs) ys =
+    omega (arith, length-append (transitionWords t) (transitionsWords (xs ++ ys)), length-append (transitionWords t) (transitionsWords xs), wordCount-append xs ys)
 
 count-epsilons : (p : ℕ) (qs : List ℕ) → wordCount (epsilons p qs) ≡ length qs
 count-epsilons p [] = refl
@@ -38,7 +38,7 @@ count-epsilons p (q ∷ qs) = ap suc (count-epsilons p qs)
 count-entryEpsilons : (targets : ℕ → List ℕ) (es : List (ℕ × ℕ)) → wordCount (entryEpsilons es targets) ≡ total targets (constantsIn es)
 count-entryEpsilons targets [] = refl
 count-entryEpsilons targets (e ∷ es) =
-    omega (arith, count-append (epsilons (e .1) (targets (e .0))) (entryEpsilons es targets), count-epsilons (e .1) (targets (e .0)), count-entryEpsilons targets es)
+    omega (arith, wordCount-append (epsilons (e .1) (targets (e .0))) (entryEpsilons es targets), count-epsilons (e .1) (targets (e .0)), count-entryEpsilons targets es)
 
 count-symbol : (f q : ℕ) (ps : List ℕ) (ts : List Transition) → wordCount (onSymbol f ps q ∷ ts) ≡ suc (length ps + wordCount ts)
 count-symbol f q ps ts =
@@ -74,12 +74,12 @@ own-length {E} x c (ofUnion {F} {G} i) =
     omega (arith, x .from, i .last, count-entryEpsilons (unionTargets F G) (E .entries), total-union (x .constants) F G)
 own-length {w} {E} x (child p q) (ofProduct {F} {G} i) =
     let c = lowByte w in
-    let e = count-append (epsilons (G .exit) (entryFor F c)) (entryEpsilons (E .entries) (productTargets c F G)) in
+    let e = wordCount-append (epsilons (G .exit) (entryFor F c)) (entryEpsilons (E .entries) (productTargets c F G)) in
     let o = lookup-once (F .entries) c (p .constants) in
     omega (arith, e, count-epsilons (G .exit) (entryFor F c), x .from, i .last, count-entryEpsilons (productTargets c F G) (E .entries), total-product (x .constants) c F G)
 own-length {w} {E} x (child p q) (ofClosure {F} i) =
     let c = lowByte w in
-    let e = count-append (epsilons (F .exit) (entryFor F c ++ (E .exit ∷ []))) (entryEpsilons (E .entries) (closureTargets c (E .exit) F)) in
+    let e = wordCount-append (epsilons (F .exit) (entryFor F c ++ (E .exit ∷ []))) (entryEpsilons (E .entries) (closureTargets c (E .exit) F)) in
     let o = lookup-once (F .entries) c (p .constants) in
     omega (arith, e, count-epsilons (F .exit) (entryFor F c ++ (E .exit ∷ [])), length-append (entryFor F c) (E .exit ∷ []), x .from, i .last, count-entryEpsilons (closureTargets c (E .exit) F) (E .entries), total-closure (x .constants) c (E .exit) F)
 
@@ -119,10 +119,10 @@ module _ (a : List ℕ) where
       ≤ weight stack + statesAfter a n (w ∷ ws) + (length (w ∷ ws) + innerWords a (w ∷ ws))
   unfolding transitionsFrom statesAfter
   reading-length [] (word {n} {w} {stack} d r) =
-      omega (arith, count-append (ownTransitions w (portOf a n w) (childrenOn a w stack)) [], word-length d)
+      omega (arith, wordCount-append (ownTransitions w (portOf a n w) (childrenOn a w stack)) [], word-length d)
   reading-length (v ∷ ws) (word {n} {w} {stack} d r) =
       let ts = transitionsFrom a (n + statesOf a w) (v ∷ ws) (portOf a n w ∷ drop (arity a w) stack) in
-      omega (arith, count-append (ownTransitions w (portOf a n w) (childrenOn a w stack)) ts, word-length d, reading-length ws r)
+      omega (arith, wordCount-append (ownTransitions w (portOf a n w) (childrenOn a w stack)) ts, word-length d, reading-length ws r)
 
   -- the words of the whole table: its states, and less than two for each word
   pub table-length : (e : List ℕ) → expressionFault a e ≡ 0
@@ -135,4 +135,4 @@ module _ (a : List ℕ) where
       go (w ∷ ws) l r =
           let P = lastPort a (w ∷ ws) in
           let p = ap (λ Q. length (Q .entries)) (lastPort-from a w ws) in
-          omega (arith, p, count-append (constantTransitions (P .entries)) (transitionsFrom a 0 (w ∷ ws) []), count-constants (P .entries), reading-length ws r)
+          omega (arith, p, wordCount-append (constantTransitions (P .entries)) (transitionsFrom a 0 (w ∷ ws) []), count-constants (P .entries), reading-length ws r)

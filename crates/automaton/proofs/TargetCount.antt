@@ -12,7 +12,7 @@ use borrow.Author.Tests.{eqb-true}
 use Rattle.words.specs.Lists.{count}
 use Rattle.words.proofs.Ascending.{Ascending, count-once}
 use Rattle.automaton.specs.Numbering.{Port, lookup, entryFor, symbolTargets, unionTargets, productTargets, closureTargets}
-use Rattle.automaton.proofs.Ports.{constantsIn}
+use Rattle.automaton.proofs.PortStates.{constantsIn}
 
 -- the number of all targets of the constants
 abbrev pub total : (ℕ → List ℕ) → List ℕ → ℕ

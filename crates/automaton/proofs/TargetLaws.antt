@@ -8,7 +8,7 @@ use native.Mathlib.Nat.{le-refl, le-trans, le-of-lt, le-suc}
 use lib.Dec.{eqb}
 use Rattle.words.proofs.Ascending.{Ascending, end, next, ascending-from, ascending-append, ascending-one}
 use Rattle.automaton.specs.Numbering.{Port, lookup, entryFor, symbolTargets, unionTargets, productTargets, closureTargets}
-use Rattle.automaton.proofs.Ports.{statesIn, PortIn, Children, noChild, child}
+use Rattle.automaton.proofs.PortStates.{statesIn, PortIn, Children, noChild, child}
 
 pub lookup-ascending : {lo hi : ℕ} (c : ℕ) (es : List (ℕ × ℕ)) → Ascending lo hi (statesIn es) → Ascending lo hi (lookup es c)
 lookup-ascending c [] h = h

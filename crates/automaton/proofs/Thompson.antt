@@ -15,10 +15,10 @@ use Rattle.language.proofs.SubstitutionLaws.{itself, substitution-same, substit
 use Rattle.automaton.specs.Transition.{Transition, Automaton, onSymbol}
 use Rattle.automaton.specs.Numbering.{constantTransitions, compiled}
 use Rattle.automaton.specs.Reached.{Reaches, onNode, onNone}
-use Rattle.automaton.proofs.EntryLaws.{of-constants}
-use Rattle.automaton.proofs.TreeNumbering.{exitState, entryStates, transitionsOf, treeTransitions, Listed, ConstantsListed, ConstantsListedAll}
+use Rattle.automaton.proofs.EveryEntryLaws.{of-constants}
+use Rattle.automaton.proofs.TreeNumbering.{exitState, entryStates, transitionsOf, treeTransitions, SymbolListed, ConstantsListed, ConstantsListedAll}
 use Rattle.automaton.proofs.ReachedBy.{Present, ReachedBy}
-use Rattle.automaton.proofs.Completeness.{complete}
+use Rattle.automaton.proofs.Completeness.{complete-expression}
 use Rattle.automaton.proofs.Soundness.{sound}
 use Rattle.automaton.proofs.WordNumbering.{compiled-tree}
 
@@ -33,7 +33,7 @@ module _ (cs : List ℕ) (E : Expression) where
 
   member-reaches : ConstantsListed cs E → (t : Tree) → Member E t → Reaches ts (exitState cs E 0) t
   member-reaches k t m =
-      complete cs ts E 0 k (all-right (Present ts) (constantTransitions (entryStates cs E 0)) (transitionsOf cs E 0) (all-self ts)) itself
+      complete-expression cs ts E 0 k (all-right (Present ts) (constantTransitions (entryStates cs E 0)) (transitionsOf cs E 0) (all-self ts)) itself
       (all-map (λ e. Present ts (onSymbol (e .0) [] (e .1))) (λ e. ReachedBy ts (itself (e .0)) (e .1))
       (λ e l s p. subst (λ z. Reaches ts (e .1) z) (sym p) (onNode l onNone)) (entryStates cs E 0)
       (of-constants (Present ts) (entryStates cs E 0)
@@ -47,7 +47,7 @@ module _ (cs : List ℕ) (E : Expression) where
 
 -- the constants of an expression over an alphabet are among the alphabet's
 module _ (a : List ℕ) where
-  symbol-listed : (f : ℕ) (es : Expressions) → f < length a → rankOf a f ≡ numberᵉ es → Listed (constantsOf a) f es
+  symbol-listed : (f : ℕ) (es : Expressions) → f < length a → rankOf a f ≡ numberᵉ es → SymbolListed (constantsOf a) f es
   symbol-listed c noneᵉ h e = constantsOf-isConstant a c .1 (zero-isConstant a c h e)
   symbol-listed f (moreᵉ e es) h r = tt
 

@@ -13,9 +13,9 @@ use Rattle.words.specs.Expression.{expressionFault}
 use Rattle.words.proofs.Ascending.{Ascending, end, next, ascending-append, ascending-one}
 use Rattle.automaton.specs.Transition.{Transition, onSymbol, epsilon}
 use Rattle.automaton.specs.Numbering.{Port, statesOf, portOf, epsilons, entryEpsilons, ownTransitions, symbolTargets, unionTargets, productTargets, closureTargets}
-use Rattle.automaton.proofs.Ports.{statesIn, Children, noChild, child}
+use Rattle.automaton.proofs.PortStates.{statesIn, Children, noChild, child}
 use Rattle.automaton.proofs.OwnTransitions.{Own, leaf, ofSymbol, ofUnion, ofProduct, ofClosure}
-use Rattle.automaton.proofs.Reading.{Reading, ended, word, childrenOn, expression-reading}
+use Rattle.automaton.proofs.PortReading.{Reading, ended, word, childrenOn, expression-reading}
 use Rattle.automaton.proofs.TargetLaws.{entryFor-ascending, symbol-ascending, union-ascending, product-ascending, closure-ascending}
 
 -- epsilon transitions strictly ordered by from and then by to, none before the one from p to q

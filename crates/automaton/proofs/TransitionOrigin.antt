@@ -12,44 +12,44 @@ use Rattle.words.proofs.AllLaws.{All, all-append}
 use Rattle.words.proofs.Ascending.{Ascending, next, ascending-le}
 use Rattle.automaton.specs.Transition.{Transition, onSymbol, epsilon}
 use Rattle.automaton.specs.Numbering.{Port, statesOf, portOf, entryFor, epsilons, entryEpsilons, symbolTargets, unionTargets, productTargets, closureTargets}
-use Rattle.automaton.proofs.EntryLaws.{to-epsilons, to-entryEpsilons}
-use Rattle.automaton.proofs.Ports.{statesIn, PortIn, Stack, push, Children, child, children-le}
+use Rattle.automaton.proofs.EveryEntryLaws.{to-epsilons, to-entryEpsilons}
+use Rattle.automaton.proofs.PortStates.{statesIn, PortIn, Stack, push, Children, child, children-le}
 use Rattle.automaton.proofs.OwnTransitions.{Own, leaf, ofSymbol, ofUnion, ofProduct, ofClosure}
-use Rattle.automaton.proofs.Reading.{WordRead, childrenOn}
+use Rattle.automaton.proofs.PortReading.{WordRead, childrenOn}
 
-abbrev pub exits : List Port → List ℕ
-exits Ps = map (λ P. P .exit) Ps
+abbrev pub exitsOf : List Port → List ℕ
+exitsOf Ps = map (λ P. P .exit) Ps
 
 -- of the word with the states from x to below m: at its entries or at an exit of its children; into a state of its own
 abbrev pub OfWord : ℕ → ℕ → List Port → Transition → Type 0
-OfWord x m Ps (epsilon p q) = ((x < p) × (p < m)) ⊎ List·Memᴰ p (exits Ps)
+OfWord x m Ps (epsilon p q) = ((x < p) × (p < m)) ⊎ List·Memᴰ p (exitsOf Ps)
 OfWord x m Ps (onSymbol f ps q) = (0 < length ps) × (x ≤ q) × (q < m)
 
 -- of the words behind: at a later state or at an exit on the stack; into a later state
 abbrev pub OfRest : ℕ → List Port → Transition → Type 0
-OfRest n stack (epsilon p q) = (n ≤ p) ⊎ List·Memᴰ p (exits stack)
+OfRest n stack (epsilon p q) = (n ≤ p) ⊎ List·Memᴰ p (exitsOf stack)
 OfRest n stack (onSymbol f ps q) = (0 < length ps) × (n ≤ q)
 
-exit-child : {a : List ℕ} {lo hi p : ℕ} {Ps : List Port} → Children a lo hi Ps → List·Memᴰ p (exits Ps) → (lo ≤ p) × (p < hi)
+exit-child : {a : List ℕ} {lo hi p : ℕ} {Ps : List Port} → Children a lo hi Ps → List·Memᴰ p (exitsOf Ps) → (lo ≤ p) × (p < hi)
 exit-child (child p c) (List·Memᴰ·head e) = let l = children-le _ c in (omega arith, omega arith)
 exit-child (child p c) (List·Memᴰ·tail m) = let b = exit-child c m in (omega arith, b .1)
 
-exit-stack : {a : List ℕ} {n p : ℕ} {stack : List Port} → Stack a n stack → List·Memᴰ p (exits stack) → p < n
+exit-stack : {a : List ℕ} {n p : ℕ} {stack : List Port} → Stack a n stack → List·Memᴰ p (exitsOf stack) → p < n
 exit-stack (push p s) (List·Memᴰ·head e) = omega arith
 exit-stack (push p s) (List·Memᴰ·tail m) = let b = exit-stack s m in omega arith
 
-exit-taken : {p : ℕ} (r : ℕ) (stack right : List Port) → List·Memᴰ p (exits (reverseAux (take r stack) right))
-    → List·Memᴰ p (exits stack) ⊎ List·Memᴰ p (exits right)
+exit-taken : {p : ℕ} (r : ℕ) (stack right : List Port) → List·Memᴰ p (exitsOf (reverseAux (take r stack) right))
+    → List·Memᴰ p (exitsOf stack) ⊎ List·Memᴰ p (exitsOf right)
 exit-taken zero stack right m = inr m
 exit-taken (suc r) [] right m = inr m
 exit-taken {p} (suc r) (P ∷ stack) right m = go (exit-taken r stack (P ∷ right) m)
   where
-    go : List·Memᴰ p (exits stack) ⊎ List·Memᴰ p (exits (P ∷ right)) → List·Memᴰ p (exits (P ∷ stack)) ⊎ List·Memᴰ p (exits right)
+    go : List·Memᴰ p (exitsOf stack) ⊎ List·Memᴰ p (exitsOf (P ∷ right)) → List·Memᴰ p (exitsOf (P ∷ stack)) ⊎ List·Memᴰ p (exitsOf right)
     go (inl k) = inl (List·Memᴰ·tail k)
     go (inr (List·Memᴰ·head e)) = inl (List·Memᴰ·head e)
     go (inr (List·Memᴰ·tail k)) = inr k
 
-exit-dropped : {p : ℕ} (r : ℕ) (stack : List Port) → List·Memᴰ p (exits (drop r stack)) → List·Memᴰ p (exits stack)
+exit-dropped : {p : ℕ} (r : ℕ) (stack : List Port) → List·Memᴰ p (exitsOf (drop r stack)) → List·Memᴰ p (exitsOf stack)
 exit-dropped zero stack m = m
 exit-dropped (suc r) [] m = m
 exit-dropped (suc r) (P ∷ stack) m = List·Memᴰ·tail (exit-dropped r stack m)
@@ -61,7 +61,7 @@ everywhere C h [] = tt
 everywhere C h (x ∷ xs) = (h x, everywhere C h xs)
 
 module _ (x m : ℕ) (Ps : List Port) where
-  from-child : (p : ℕ) (qs : List ℕ) → List·Memᴰ p (exits Ps) → All (OfWord x m Ps) (epsilons p qs)
+  from-child : (p : ℕ) (qs : List ℕ) → List·Memᴰ p (exitsOf Ps) → All (OfWord x m Ps) (epsilons p qs)
   from-child p qs k = to-epsilons (OfWord x m Ps) p qs (everywhere (λ q. OfWord x m Ps (epsilon p q)) (λ q. inr k) qs)
 
   from-own : {lo : ℕ} (targets : ℕ → List ℕ) (es : List (ℕ × ℕ)) → x < lo → Ascending lo m (statesIn es) → All (OfWord x m Ps) (entryEpsilons es targets)
@@ -125,7 +125,7 @@ module _ {a : List ℕ} {n w : ℕ} {stack : List Port} (d : WordRead a n w stac
   word-rest (epsilon p q) (inl h) = inl (omega (arith, d .port .from))
   word-rest (epsilon p q) (inr h) = go (exit-taken (arity a w) stack [] h)
     where
-      go : List·Memᴰ p (exits stack) ⊎ List·Memᴰ p [] → OfRest n stack (epsilon p q)
+      go : List·Memᴰ p (exitsOf stack) ⊎ List·Memᴰ p [] → OfRest n stack (epsilon p q)
       go (inl k) = inr k
       go (inr k) = elim k [ ]
 

@@ -91,13 +91,13 @@ module _ (cs : List ℕ) where
 
   -- ---- the constants of an expression are listed
 
-  abbrev pub Listed : ℕ → Expressions → Type 0
-  Listed c noneᵉ = List·Memᴰ c cs
-  Listed f (moreᵉ e es) = Unit {0}
+  abbrev pub SymbolListed : ℕ → Expressions → Type 0
+  SymbolListed c noneᵉ = List·Memᴰ c cs
+  SymbolListed f (moreᵉ e es) = Unit {0}
 
   abbrev mutual
     pub ConstantsListed : Expression → Type 0
-    ConstantsListed (symbol f es) = Listed f es × ConstantsListedAll es
+    ConstantsListed (symbol f es) = SymbolListed f es × ConstantsListedAll es
     ConstantsListed empty = Unit {0}
     ConstantsListed (union F G) = ConstantsListed F × ConstantsListed G
     ConstantsListed (product c F G) = List·Memᴰ c cs × ConstantsListed F × ConstantsListed G

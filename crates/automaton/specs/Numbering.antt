@@ -126,7 +126,7 @@ transitionsFrom a n (w ∷ ws) stack =
 
 -- the symbol moves of constants into entries, in the order of the entries
 abbrev pub constantTransitions : List (ℕ × ℕ) → List Transition
-constantTransitions es = map (λ e. onSymbol (e .0) [] (e .1)) es
+constantTransitions es = map (λ entry. onSymbol (entry .0) [] (entry .1)) es
 
 -- the states of the last word
 abbrev pub lastPort : List ℕ → List ℕ → Port

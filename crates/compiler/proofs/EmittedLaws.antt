@@ -23,7 +23,7 @@ use Rattle.words.proofs.AcceptedAlphabet.{AcceptedAlphabet, arity-most}
 use Rattle.automaton.specs.Transition.{Transition, transitionsWords}
 use Rattle.automaton.specs.Numbering.{Port, statesOf, portOf, ownTransitions, transitionsFrom, fullPort}
 use Rattle.automaton.proofs.TransitionLaws.{transitionsWords-append}
-use Rattle.automaton.proofs.Reading.{expression-length}
+use Rattle.automaton.proofs.PortReading.{expression-length}
 use Rattle.emitter.specs.Writing.{Wrote}
 use Rattle.ports.specs.Ports.{portIn, portsIn}
 use Rattle.emitter.specs.Emission.{Emits, Takes}
@@ -85,7 +85,7 @@ pub record Emitted (a cs e : List ℕ) (at : ℕ) (out out′ stack : List ℕ) 
   pub words : all (isExpressionWord a) (drop i e) ≡ true
   pub shape : trees a height (drop i e) 1 ≡ true
   pub below : height ≤ i
-  pub room : length stack ≡ 64
+  pub stack-long : length stack ≡ 64
   pub low : state ≤ 17 * i
   pub long : length out′ ≡ length out
   pub done : List Transition
@@ -100,7 +100,7 @@ emitted-none a cs e at out stack h t l =
       words = h;
       shape = t;
       below = omega arith;
-      room = l;
+      stack-long = l;
       low = omega arith;
       long = refl;
       done = [];
@@ -134,7 +134,7 @@ module _ {a cs e : List ℕ} {at : ℕ} {out out′ stack : List ℕ} {height st
       → base ≡ height - r → Emits cs (take (height - base) (drop base stack)) state next 85
   emitted-emits r base known h i< le early q b =
       let few = m .below in
-      let room = m .room in
+      let stack-long = m .stack-long in
       let low = m .low in
       let c = emitted-children r i< q in
       let most = arity-most h (getD e i 0) in
@@ -151,7 +151,7 @@ module _ {a cs e : List ℕ} {at : ℕ} {out out′ stack : List ℕ} {height st
       → base ≡ height - r → Takes cs (take (height - base) (drop base stack)) (getD e i 0)
   emitted-takes r base known h le q b =
       let few = m .below in
-      let room = m .room in
+      let stack-long = m .stack-long in
       let c = emitted-children r h q in
       let t : height - base ≡ r = omega arith in
       word-takes a cs known (take (height - base) (drop base stack)) (getD e i 0) (emitted-word h)
@@ -165,7 +165,7 @@ module _ {a cs e : List ℕ} {at : ℕ} {out out′ stack : List ℕ} {height st
   emitted-more r base p s n out″ known h le q b w l ep es s≤ =
       let word = getD e i 0 in
       let few = m .below in
-      let room = m .room in
+      let stack-long = m .stack-long in
       let low = m .low in
       let c = emitted-children r h q in
       let b≤ : base ≤ height = omega arith in
@@ -181,7 +181,7 @@ module _ {a cs e : List ℕ} {at : ℕ} {out out′ stack : List ℕ} {height st
             (subst (λ (x : List ℕ). all (isExpressionWord a) x ≡ true) (drop-step e i h) (m .words)) .1;
         shape = rw (b, q) (step h .1);
         below = omega arith;
-        room = length-set stack base p ∙ room;
+        stack-long = length-set stack base p ∙ stack-long;
         low = omega arith;
         long = l ∙ m .long;
         done = m .done ++ own;

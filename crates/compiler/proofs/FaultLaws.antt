@@ -17,22 +17,22 @@ use Rattle.compiler.specs.Compiling.{Accepted}
 -- ---- 6 and 7
 
 module _ (a e : List ℕ) (s : ℕ) (q : s ≡ statesAfter a 0 e) where
-  pub states-over : 1024 < s → tooManyStates a e ≡ true
+  pub states-above : 1024 < s → tooManyStates a e ≡ true
   unfolding tooManyStates compiled
-  states-over l = lt-ltb 1024 (statesAfter a 0 e) (omega arith)
+  states-above l = lt-ltb 1024 (statesAfter a 0 e) (omega arith)
 
   pub states-within : s ≤ 1024 → tooManyStates a e ≡ false
   unfolding tooManyStates compiled
   states-within l = le-ltb 1024 (statesAfter a 0 e) (omega arith)
 
-module _ (a e : List ℕ) (room n : ℕ) (t : n ≡ 0 + length (compiledTable a e)) where
-  pub table-over : room < n → tableTooLong a e room ≡ true
+module _ (a e : List ℕ) (tableLength n : ℕ) (t : n ≡ 0 + length (compiledTable a e)) where
+  pub table-over : tableLength < n → tableTooLong a e tableLength ≡ true
   unfolding tableTooLong
-  table-over l = lt-ltb room (length (compiledTable a e)) (omega arith)
+  table-over l = lt-ltb tableLength (length (compiledTable a e)) (omega arith)
 
-  pub table-within : n ≤ room → tableTooLong a e room ≡ false
+  pub table-within : n ≤ tableLength → tableTooLong a e tableLength ≡ false
   unfolding tableTooLong
-  table-within l = le-ltb room (length (compiledTable a e)) (omega arith)
+  table-within l = le-ltb tableLength (length (compiledTable a e)) (omega arith)
 
 -- ---- accepted and refused calls
 

@@ -1,6 +1,6 @@
 pub mod StateLaws
 pub mod KnownConstants
-pub mod AcceptedLaws
+pub mod AcceptedRuleLaws
 pub mod EmittedLaws
-pub mod TableLaws
+pub mod TablePartLaws
 pub mod FaultLaws

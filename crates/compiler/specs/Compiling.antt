@@ -24,7 +24,7 @@ pub record Accepted (a e : List ℕ) : Type 0 where
   pub expression : expressionFault a e ≡ 0
 
 -- the same with the alphabet's constants, and an index from which on the rule's own transitions may be written
-pub record Compiles (a cs e : List ℕ) (at : ℕ) : Type 0 where
+pub record Compilable (a cs e : List ℕ) (at : ℕ) : Type 0 where
   pub accepted : Accepted a e
   pub constants : cs ≡ constantsOf a
   pub early : at ≤ 1024

@@ -18,10 +18,10 @@ pub enum Compiled {
     Refused(u32),
 }
 
-// Document 01's number from 1 to 7, the first that applies, or 0; `room` is the length of the table slice. The table's
+// Document 01's number from 1 to 7, the first that applies, or 0, for a table slice of this length. The table's
 // words are counted by writing them into a slice of one word; those past its end are left out.
-fn compile_fault(alphabet: &[u32], expression: &[u32], room: usize) -> u32
-    ensures { λ r. ⌜ r ≡ compileFault (now (alphabet .entry)) (now (expression .entry)) room ⌝ }
+fn compile_fault(alphabet: &[u32], expression: &[u32], table_length: usize) -> u32
+    ensures { λ r. ⌜ r ≡ compileFault (now (alphabet .entry)) (now (expression .entry)) «table_length» ⌝ }
 {
     let wrong_alphabet = alphabet_fault(alphabet);
     if wrong_alphabet != 0 {
@@ -38,7 +38,7 @@ fn compile_fault(alphabet: &[u32], expression: &[u32], room: usize) -> u32
     }
     let mut small = [0u32; 1];
     let size = write_table(alphabet, expression, &mut small);
-    if room < size {
+    if table_length < size {
         return 7;
     }
     0

@@ -4,7 +4,7 @@ ghost use Rattle.automaton.specs.Transition.{transitionsWords};
 ghost use Rattle.automaton.specs.Numbering.{transitionsFrom};
 ghost use Rattle.emitter.specs.Writing.{Wrote};
 ghost use Rattle.operations.specs.Compile.{compiledTable};
-ghost use Rattle.compiler.specs.Compiling.{Accepted, Compiles};
+ghost use Rattle.compiler.specs.Compiling.{Accepted, Compilable};
 use super::states::states_after;
 use super::states::states_of;
 use super::states::word_port;
@@ -25,7 +25,7 @@ fn write_words(
     out: &mut [u32],
     at: usize,
 ) -> usize
-    requires { ⌜ Compiles (now alphabet) (now constants) (now expression) at ⌝ }
+    requires { ⌜ Compilable (now alphabet) (now constants) (now expression) at ⌝ }
     ensures { λ r. ⌜
         Wrote 5440 at
         (transitionsWords (transitionsFrom (now (alphabet .entry)) 0 (now (expression .entry)) []))
@@ -51,7 +51,7 @@ fn write_words(
 
 // The head, with the last word's exit as final state, the moves of the constants into its entries, and the own transitions.
 fn write_parts(alphabet: &[u32], constants: &[u32], expression: &[u32], out: &mut [u32]) -> usize
-    requires { ⌜ Compiles (now alphabet) (now constants) (now expression) 0 ⌝ }
+    requires { ⌜ Compilable (now alphabet) (now constants) (now expression) 0 ⌝ }
     ensures { λ r. ⌜
         Wrote 5457 0 (compiledTable (now (alphabet .entry)) (now (expression .entry)))
         (now (out .entry)) (now (out .exit)) r

@@ -17,7 +17,7 @@ use Rattle.emitter.specs.declared.entries.Targets.{Targets}
 use Rattle.emitter.specs.declared.entries.Targets.the-variants.{Children, Product, Closure}
 use Rattle.ports.specs.declared.port.Entry.{Entry}
 use Rattle.ports.specs.declared.port.Entry.the-variants.{Missing, State}
-use Rattle.ports.specs.Ports.{portIn, portsIn, statesIn, Low, EntryOf}
+use Rattle.ports.specs.Ports.{portIn, portsIn, statesOfEntry, Low, EntryOf}
 use Rattle.emitter.specs.Emission.{Emits, productEntries, closureEntries, targetsIn}
 use Rattle.emitter.proofs.WritingLaws.{wrote-none, wrote-more, wrote-same}
 
@@ -32,11 +32,11 @@ epsilonWords-append from qs rs =
 -- ---- to one entry
 
 module _ (to : Entry) (from at : ℕ) (out : List ℕ) where
-  pub to-missing : to ≡ Missing → Wrote 1 at (epsilonWords from (statesIn to)) out out at
+  pub to-missing : to ≡ Missing → Wrote 1 at (epsilonWords from (statesOfEntry to)) out out at
   to-missing e = rw e (wrote-same 0 1 at at [] [] out out (wrote-none at out) (omega arith) refl)
 
   pub to-state : (s : ℕ) → to ≡ State s → (out′ : List ℕ) (r : ℕ) → Wrote 1 at (transitionWords (epsilon from s)) out out′ r
-      → Wrote 1 at (epsilonWords from (statesIn to)) out out′ r
+      → Wrote 1 at (epsilonWords from (statesOfEntry to)) out out′ r
   to-state s e out′ r w = rw e w
 
 pub low-state : (to : Entry) (s : ℕ) → to ≡ State s → Low to → s < 4096
@@ -44,7 +44,7 @@ low-state to s e h = rw e at h
 
 -- the entry of a port for the constant c
 pub to-entry : (cs : List ℕ) (p b c from at : ℕ) (to : Entry) (out out′ : List ℕ) (r : ℕ) → EntryOf cs p b to → b ≡ c
-    → Wrote 1 at (epsilonWords from (statesIn to)) out out′ r → Wrote 1 at (epsilonWords from (entryFor (portIn cs p) c)) out out′ r
+    → Wrote 1 at (epsilonWords from (statesOfEntry to)) out out′ r → Wrote 1 at (epsilonWords from (entryFor (portIn cs p) c)) out out′ r
 to-entry cs p b c from at to out out′ r h e w =
     wrote-same 1 1 at r _ _ out out′ w (omega arith) (ap (epsilonWords from) (h .states ∙ ap (entryFor (portIn cs p)) e))
 
@@ -76,7 +76,7 @@ children-none cs ps from b at out = record { within = omega arith; long = refl; 
 
 module _ {cs ps : List ℕ} {from b at : ℕ} {out out′ : List ℕ} {next i : ℕ} (w : ToChildren cs ps from b at out out′ next i) where
   pub children-more : (to : Entry) (out″ : List ℕ) (r : ℕ) → i < length ps → EntryOf cs (getD ps i 0) b to → length out″ ≡ length out′
-      → Wrote 1 next (epsilonWords from (statesIn to)) out′ out″ r → ToChildren cs ps from b at out out″ r (i + 1)
+      → Wrote 1 next (epsilonWords from (statesOfEntry to)) out′ out″ r → ToChildren cs ps from b at out out″ r (i + 1)
   children-more to out″ r h e l q =
       record {
         within = omega arith;
@@ -84,7 +84,7 @@ module _ {cs ps : List ℕ} {from b at : ℕ} {out out′ : List ℕ} {next i : 
         wrote = wrote-same (i + 1) (i + 1) at r _ _ out out″ (wrote-more i 1 at next r _ _ out out′ out″ (w .wrote) q) (omega arith)
             (sym
             (rw (add-one i, children-entries cs ps b i h, ← e .states) (epsilonWords-append from (symbolTargets (portsIn cs (take i ps)) b)
-            (statesIn to))));
+            (statesOfEntry to))));
       }
 
   pub children-end : length ps ≤ i → length ps ≤ 4 → Wrote 4 at (epsilonWords from (symbolTargets (portsIn cs ps) b)) out out′ next

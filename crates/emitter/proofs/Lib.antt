@@ -3,5 +3,5 @@ pub mod EntryLaws
 pub mod EntryEpsilonLaws
 pub mod OwnLaws
 pub mod SourceLaws
-pub mod ConstantLaws
+pub mod ConstantTransitionLaws
 pub mod KindLaws

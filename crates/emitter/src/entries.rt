@@ -4,7 +4,7 @@ ghost use lib.ListN.{length, getD};
 ghost use Rattle.automaton.specs.Transition.{transitionsWords};
 ghost use Rattle.automaton.specs.Numbering.{numbered, epsilons, entryEpsilons, symbolTargets};
 ghost use Rattle.emitter.specs.Writing.{Wrote, lastIndex};
-ghost use Rattle.ports.specs.Ports.{Low, statesIn, portsIn};
+ghost use Rattle.ports.specs.Ports.{Low, statesOfEntry, portsIn};
 ghost use Rattle.emitter.specs.Emission.{Emits, productEntries, closureEntries, targetsIn};
 use super::writer::push_epsilon;
 use ports::port::Entry;
@@ -21,7 +21,7 @@ pub enum Targets {
 // "A move that names a missing entry is omitted."
 pub(crate) fn push_to(out: &mut [u32], at: usize, from: u32, to: Entry) -> usize
     requires { ⌜ (at < lastIndex) × ((from < 4096) × Low to) ⌝ }
-    ensures { λ r. ⌜ Wrote 1 at (transitionsWords (epsilons from (statesIn to))) (now (out .entry)) (now (out .exit)) r ⌝ }
+    ensures { λ r. ⌜ Wrote 1 at (transitionsWords (epsilons from (statesOfEntry to))) (now (out .entry)) (now (out .exit)) r ⌝ }
 {
     match to {
         Entry::Missing => at,

@@ -6,8 +6,8 @@ use Prim.Native.Nat.{ℕ, zero, suc, _/_, _%_, _<_, _≤_}
 use native.Mathlib.Omega.{arith}
 use lib.Dec.{ltb}
 use borrow.Author.Tests.{lt-ltb, le-ltb, ltb-false}
-use Rattle.encoding.specs.Writing.{Written}
-use Rattle.encoding.proofs.WritingLaws.{written-more, written-same}
+use Rattle.encoding.specs.ByteWriting.{BytesWritten}
+use Rattle.encoding.proofs.ByteWritingLaws.{bytes-written-more, bytes-written-same}
 use Rattle.encoding.specs.Decimal.{digit, digitsWithin, decimal}
 
 -- more room changes nothing where there is enough
@@ -38,12 +38,12 @@ decimal-several n h = rw (le-ltb n 10 h) (ap (λ (ds : List ℕ). ds ++ (digit (
 -- ---- the writer of a number
 
 module _ (n at : ℕ) (out : List ℕ) where
-  pub number-one : (out′ : List ℕ) (r : ℕ) → n < 10 → Written at (digit (n % 10) ∷ []) out out′ r → Written at (decimal n) out out′ r
+  pub number-one : (out′ : List ℕ) (r : ℕ) → n < 10 → BytesWritten at (digit (n % 10) ∷ []) out out′ r → BytesWritten at (decimal n) out out′ r
   number-one out′ r h w =
       let e : n % 10 ≡ n = omega arith in
-      written-same w (ap (λ (d : ℕ). digit d ∷ []) e ∙ sym (decimal-one n h))
+      bytes-written-same w (ap (λ (d : ℕ). digit d ∷ []) e ∙ sym (decimal-one n h))
 
-  pub number-several : (out′ : List ℕ) (next : ℕ) (out″ : List ℕ) (r : ℕ) → 10 ≤ n → Written at (decimal (n / 10)) out out′ next
-      → Written next (digit (n % 10) ∷ []) out′ out″ r → Written at (decimal n) out out″ r
+  pub number-several : (out′ : List ℕ) (next : ℕ) (out″ : List ℕ) (r : ℕ) → 10 ≤ n → BytesWritten at (decimal (n / 10)) out out′ next
+      → BytesWritten next (digit (n % 10) ∷ []) out′ out″ r → BytesWritten at (decimal n) out out″ r
   number-several out′ next out″ r h w v =
-      written-same (written-more w v) (sym (decimal-several n h))
+      bytes-written-same (bytes-written-more w v) (sym (decimal-several n h))

@@ -1,3 +1,3 @@
-pub mod WritingLaws
+pub mod ByteWritingLaws
 pub mod DecimalLaws
-pub mod WordLaws
+pub mod WordByteLaws

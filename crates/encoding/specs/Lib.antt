@@ -1,3 +1,3 @@
 pub mod Decimal
-pub mod Writing
+pub mod ByteWriting
 pub mod Words

@@ -1,3 +1,3 @@
 // Bytes: texts and decimal numbers are written, words are read, low byte first.
-pub mod word;
-pub mod writer;
+pub mod byte_writer;
+pub mod word_bytes;

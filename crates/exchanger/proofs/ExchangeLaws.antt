@@ -26,22 +26,22 @@ use Rattle.nodes.proofs.LoopLaws as loops
 use Rattle.exchanger.proofs.UpwardLoop.{upwards}
 use Rattle.exchanger.proofs.ExchangeLoops.{movedSets, replacedSets, exchangedSets, exchangedSets-outcomes, length-movedSets, length-replacedSets, words-behind}
 use Rattle.nodes.specs.Nodes.{setFrom, markedFrom}
-use Rattle.nodes.proofs.MarkLaws.{Holding, holding-set, setFrom-rows, markedAt-rows}
+use Rattle.nodes.proofs.MarkLaws.{MarksHolding, holding-set, setFrom-rows, markedAt-rows}
 use Rattle.exchanger.specs.declared.propagate.Progress.{Progress}
 use Rattle.exchanger.specs.Propagation.{propagateStep, propagateFrom, initial}
 use Rattle.exchanger.specs.Exchanging.{exchangedFrom}
-use Rattle.exchanger.proofs.PropagateLaws.{recomputed-is, step-ancestor, propagate-continues, propagate-stops}
+use Rattle.exchanger.proofs.PropagationLaws.{recomputed-is, step-ancestor, propagate-continues, propagate-stops}
 use Rattle.exchanger.proofs.UpwardLaws.{Upward, Same, propagate-upwards}
 use Rattle.exchanger.proofs.TailLaws.{tail-filled}
-use Rattle.exchanger.proofs.CallLaws.{Numbers, numbers, accepted-call, length-used, chapter-fits}
+use Rattle.exchanger.proofs.CallNumberLaws.{CallNumbers, call-numbers, accepted-call, length-used, chapter-fits}
 use Rattle.exchanger.proofs.MovedLaws.{gapSets, behindUse}
 
 -- the marks at exit, and the number worked out
-pub record Left (a table chapter marks : List ℕ) (n e : ℕ) (xs : List ℕ) (marks′ : List ℕ) (count : ℕ) : Type 0 where
-  pub words : marks′ ≡ refit (n * sizeOf table) (flatten (map setIn (outcomes a table chapter marks n e xs))) marks
-  pub count-is : count ≡ recomputedIn (outcomes a table chapter marks n e xs)
+pub record Left (a table chapter marks : List ℕ) (n element : ℕ) (xs : List ℕ) (marks′ : List ℕ) (count : ℕ) : Type 0 where
+  pub words : marks′ ≡ refit (n * sizeOf table) (flatten (map setIn (outcomes a table chapter marks n element xs))) marks
+  pub count-is : count ≡ recomputedIn (outcomes a table chapter marks n element xs)
 
-module _ (a table chapter marks : List ℕ) (n e : ℕ) (xs : List ℕ) (ok : fault a table chapter marks n e xs ≡ 0) where
+module _ (a table chapter marks : List ℕ) (n element : ℕ) (xs : List ℕ) (ok : fault a table chapter marks n element xs ≡ 0) where
   abbrev size : ℕ
   size = sizeOf table
 
@@ -52,31 +52,31 @@ module _ (a table chapter marks : List ℕ) (n e : ℕ) (xs : List ℕ) (ok : fa
   used = take n chapter
 
   abbrev s : ℕ
-  s = startOf a used e
+  s = startOf a used element
 
   abbrev tree : List ℕ
-  tree = splice a used e xs
+  tree = splice a used element xs
 
   abbrev gap : List StateSet
-  gap = gapSets a table chapter marks n e xs ok
+  gap = gapSets a table chapter marks n element xs ok
 
   abbrev total : ℕ
-  total = s + length xs + (n - e - 1)
+  total = s + length xs + (n - element - 1)
 
   abbrev rest : List ℕ
   rest = behindUse (n * size) (total * size) marks
 
   abbrev above : ℕ → Bool
-  above i = isAncestor a used e (i - (s + length xs) + (e + 1))
+  above i = isAncestor a used element (i - (s + length xs) + (element + 1))
 
-  facts : Numbers a table chapter marks n e xs s size
-  facts = numbers a table chapter marks n e xs ok s refl size refl
+  facts : CallNumbers a table chapter marks n element xs s size
+  facts = call-numbers a table chapter marks n element xs ok s refl size refl
 
-  he : e < length used
-  he = rw (length-used a table chapter marks n e xs ok) (accepted-call a table chapter marks n e xs ok .element)
+  he : element < length used
+  he = rw (length-used a table chapter marks n element xs ok) (accepted-call a table chapter marks n element xs ok .element)
 
   abbrev replaced : ℕ → List StateSet
-  replaced = replacedSets a table stored used e xs gap
+  replaced = replacedSets a table stored used element xs gap
 
   -- how many nodes the replacement has below its root
   abbrev m : ℕ
@@ -87,23 +87,23 @@ module _ (a table chapter marks : List ℕ) (n e : ℕ) (xs : List ℕ) (ok : fa
 
   length-gap : length gap ≡ length xs
   length-gap =
-      length-append (listFrom stored s m) (stored e ∷ []) ∙ ap (λ (i : ℕ). i + 1) (length-listFrom stored m s) ∙ add-one m ∙ sym some
+      length-append (listFrom stored s m) (stored element ∷ []) ∙ ap (λ (i : ℕ). i + 1) (length-listFrom stored m s) ∙ add-one m ∙ sym some
 
   length-replaced : (k : ℕ) → length (replaced k) ≡ length tree
   length-replaced k =
-      let g = accepted-call a table chapter marks n e xs ok in
-      length-replacedSets a table stored used e xs gap he (g .replacement .tree) (g .replacement .counted .some) length-gap k
-      ∙ length-movedSets a table stored used e xs gap he (g .replacement .tree) (g .replacement .counted .some) length-gap
-      ∙ sym (length-splice (arity a) used e xs he)
+      let g = accepted-call a table chapter marks n element xs ok in
+      length-replacedSets a table stored used element xs gap he (g .replacement .tree) (g .replacement .counted .some) length-gap k
+      ∙ length-movedSets a table stored used element xs gap he (g .replacement .tree) (g .replacement .counted .some) length-gap
+      ∙ sym (length-splice (arity a) used element xs he)
 
   -- the replacement's nodes, worked out in the marks
-  module _ (moved : List ℕ) (held : Holding (sizeOf table) moved (movedSets a table stored used e xs gap) rest) where
-    replaced-holds : (k : ℕ) → k ≤ length xs → Holding size (markedFrom a table tree s k moved) (replaced k) rest
+  module _ (moved : List ℕ) (held : MarksHolding (sizeOf table) moved (movedSets a table stored used element xs gap) rest) where
+    replaced-holds : (k : ℕ) → k ≤ length xs → MarksHolding size (markedFrom a table tree s k moved) (replaced k) rest
     unfolding markedFrom replacedSets
     replaced-holds zero h = held
     replaced-holds (suc k) h =
         let t = length-replaced k in
-        let l = length-splice (arity a) used e xs he in
+        let l = length-splice (arity a) used element xs he in
         markedAt-rows a table tree (markedFrom a table tree s k moved) (replaced k) rest (s + k) (replaced-holds k (omega arith)) (omega arith) (omega arith)
 
     -- before the root is worked out, and behind it
@@ -116,35 +116,35 @@ module _ (a table chapter marks : List ℕ) (n e : ℕ) (xs : List ℕ) (ok : fa
     abbrev rows : List StateSet
     rows = replaced (suc m)
 
-    before-holds : Holding size before (replaced m) rest
+    before-holds : MarksHolding size before (replaced m) rest
     before-holds = replaced-holds m (omega (arith, some))
 
-    work-holds : Holding size work rows rest
+    work-holds : MarksHolding size work rows rest
     work-holds = replaced-holds (suc m) (omega (arith, some))
 
     -- the old element's set stands at the root's place as long as the root is not worked out
-    root-kept : (k : ℕ) → k ≤ m → setAt (replaced k) (s + m) ≡ stored e
+    root-kept : (k : ℕ) → k ≤ m → setAt (replaced k) (s + m) ≡ stored element
     unfolding replacedSets
     root-kept zero h =
         let front = listFrom stored 0 s in
-        let behind = listFrom stored (e + 1) (length (drop (e + 1) used)) in
+        let behind = listFrom stored (element + 1) (length (drop (element + 1) used)) in
         let at : length (listFrom stored s m) ≡ m = length-listFrom stored m s in
         ap (λ (i : ℕ). setAt (front ++ (gap ++ behind)) (i + m)) (sym (length-listFrom stored s 0))
         ∙ getD-append-add front (gap ++ behind) m []
         ∙ List·getD-append gap behind [] m (rw length-gap (omega (arith, some)))
         ∙ ap (λ (i : ℕ). setAt gap i) (sym (add-zero m) ∙ ap (λ (i : ℕ). i + 0) (sym at))
-        ∙ getD-append-add (listFrom stored s m) (stored e ∷ []) 0 []
+        ∙ getD-append-add (listFrom stored s m) (stored element ∷ []) 0 []
     root-kept (suc k) h =
         getD-set-other (replaced k) (s + k) (s + m) _ [] (omega arith) ∙ root-kept k (omega arith)
 
     abbrev left : ℕ
-    left = length (drop (e + 1) used)
+    left = length (drop (element + 1) used)
 
     length-tree : length tree ≡ s + (length xs + left)
-    length-tree = length-splice (arity a) used e xs he
+    length-tree = length-splice (arity a) used element xs he
 
     abbrev v : StateSet
-    v = loops.setFrom a table tree (s + m) (replaced m)
+    v = loops.setFromSets a table tree (s + m) (replaced m)
 
     abbrev new : StateSet
     new = setFrom a table tree before (s + m)
@@ -158,7 +158,7 @@ module _ (a table chapter marks : List ℕ) (n e : ℕ) (xs : List ℕ) (ok : fa
         setFrom-rows a table tree before (replaced m) rest (s + m) before-holds
         (omega (arith, some, length-replaced m, length-tree)) (omega (arith, some, length-tree))
 
-    old-is : old ≡ stored e
+    old-is : old ≡ stored element
     old-is = holding-set size before (replaced m) rest (s + m) before-holds (omega (arith, some, length-replaced m, length-tree)) ∙ root-kept m (omega arith)
 
     root-is : setAt rows (s + length xs - 1) ≡ v
@@ -167,22 +167,22 @@ module _ (a table chapter marks : List ℕ) (n e : ℕ) (xs : List ℕ) (ok : fa
         let at : s + length xs - 1 ≡ s + m = omega (arith, some) in
         ap (setAt rows) at ∙ getD-set-same (replaced m) (s + m) v [] (omega (arith, some, length-replaced m, length-tree))
 
-    tests : sameWords (setAt rows (s + length xs - 1)) (stored e) ≡ sameWords new old
+    tests : sameWords (setAt rows (s + length xs - 1)) (stored element) ≡ sameWords new old
     tests = ap₂ sameWords (root-is ∙ sym new-is) (sym old-is)
 
     behind : (t : Progress) → t .reach ≡ 1 → t .recomputed ≡ length xs
-        → Same a table tree used e rest above
+        → Same a table tree used element rest above
         (propagateFrom a table tree (suc (s + m)) left work t) (upwards a table tree above (s + length xs) left rows (length xs))
     behind t r c =
-        let g = accepted-call a table chapter marks n e xs ok in
-        let at : Upward a table tree used e rest above (s + length xs) (e + 1) 0 left work rows = record {
+        let g = accepted-call a table chapter marks n element xs ok in
+        let at : Upward a table tree used element rest above (s + length xs) (element + 1) 0 left work rows = record {
           words =
               λ t. sym (getD-drop (s + length xs) tree t 0)
               ∙ ap (λ (l : List ℕ). getD l t 0)
-              (words-behind a table stored used e xs gap he (g .replacement .tree) (g .replacement .counted .some) length-gap)
-              ∙ getD-drop (e + 1) used t 0;
-          ancestors = λ t. ap (isAncestor a used e) (omega arith);
-          holding = holding-first (arity a) used e;
+              (words-behind a table stored used element xs gap he (g .replacement .tree) (g .replacement .counted .some) length-gap)
+              ∙ getD-drop (element + 1) used t 0;
+          ancestors = λ t. ap (isAncestor a used element) (omega arith);
+          holding = holding-first (arity a) used element;
           inside = omega (arith, length-tree);
           rows-inside = omega (arith, length-tree, length-replaced (suc m));
           sets = work-holds;
@@ -190,9 +190,9 @@ module _ (a table chapter marks : List ℕ) (n e : ℕ) (xs : List ℕ) (ok : fa
         let first : suc (s + m) ≡ s + length xs = omega (arith, some) in
         rw first
         (subst
-        (λ (i : ℕ). Same a table tree used e rest above (propagateFrom a table tree (s + length xs) left work t)
+        (λ (i : ℕ). Same a table tree used element rest above (propagateFrom a table tree (s + length xs) left work t)
         (upwards a table tree above (s + length xs) left rows i))
-        c (propagate-upwards a table tree used e rest above left (s + length xs) (e + 1) 0 work rows t r at))
+        c (propagate-upwards a table tree used element rest above left (s + length xs) (element + 1) 0 work rows t r at))
 
     -- ---- both loops
 
@@ -218,37 +218,37 @@ module _ (a table chapter marks : List ℕ) (n e : ℕ) (xs : List ℕ) (ok : fa
     abbrev up : List StateSet × ℕ
     up = upwards a table tree above (s + length xs) left rows (length xs)
 
-    sets-is : exchangedSets a table stored used e xs gap ≡ cond (sameWords new old) (rows, length xs) up
+    sets-is : exchangedSets a table stored used element xs gap ≡ cond (sameWords new old) (rows, length xs) up
     unfolding exchangedSets
     sets-is =
         ap
-        (λ (i : ℕ). cond (sameWords (setAt (replaced i) (s + length xs - 1)) (stored e)) (replaced i, length xs)
+        (λ (i : ℕ). cond (sameWords (setAt (replaced i) (s + length xs - 1)) (stored element)) (replaced i, length xs)
         (upwards a table tree above (s + length xs) left (replaced i) (length xs)))
         some
         ∙ ap (λ (b : Bool). cond b (rows, length xs) up) tests
 
-    exchanged : Same a table tree used e rest above (exchangedFrom a table tree s (s + length xs - 1) moved) (exchangedSets a table stored used e xs gap)
+    exchanged : Same a table tree used element rest above (exchangedFrom a table tree s (s + length xs - 1) moved) (exchangedSets a table stored used element xs gap)
     exchanged = rw (propagateed-is, sets-is) (go (tested (sameWords new old)))
       where
         count : m + 1 ≡ length xs
         count = omega (arith, some)
 
-        go : Tested (sameWords new old) → Same a table tree used e rest above propagated (cond (sameWords new old) (rows, length xs) up)
+        go : Tested (sameWords new old) → Same a table tree used element rest above propagated (cond (sameWords new old) (rows, length xs) up)
         go (holds b) =
             rw (propagate-stops a table tree (s + m) before (initial m) left work _ (step-root true b) refl, b) (record { sets = work-holds; count = count })
         go (fails b) =
             rw (propagate-continues a table tree (s + m) before (initial m) left work _ (step-root false b) refl, b) (behind _ refl count)
 
     pub left-outcomes : (marks′ : List ℕ) (count : ℕ)
-        → (marks′, count) ≡ exchangedFrom a table (splice a (take n chapter) e xs) (startOf a (take n chapter) e) (startOf a (take n chapter) e + length xs - 1) moved
-        → Left a table chapter marks n e xs marks′ count
+        → (marks′, count) ≡ exchangedFrom a table (splice a (take n chapter) element xs) (startOf a (take n chapter) element) (startOf a (take n chapter) element + length xs - 1) moved
+        → Left a table chapter marks n element xs marks′ count
     unfolding outcomes refit
     left-outcomes marks′ count q =
-        let g = accepted-call a table chapter marks n e xs ok in
-        let os = outcomesAfter a table stored used e xs in
-        let same : Same a table tree used e rest above (marks′, count) (map setIn os, recomputedIn os) =
-        rw (q, ← exchangedSets-outcomes a table stored used e xs gap he (g .replacement .tree) (g .replacement .counted .some) length-gap) exchanged in
-        let many : length os ≡ length tree = follows-length a table tree [] os (follows-outcomes a table stored used e xs he (g .replacement .tree)) in
+        let g = accepted-call a table chapter marks n element xs ok in
+        let os = outcomesAfter a table stored used element xs in
+        let same : Same a table tree used element rest above (marks′, count) (map setIn os, recomputedIn os) =
+        rw (q, ← exchangedSets-outcomes a table stored used element xs gap he (g .replacement .tree) (g .replacement .counted .some) length-gap) exchanged in
+        let many : length os ≡ length tree = follows-length a table tree [] os (follows-outcomes a table stored used element xs he (g .replacement .tree)) in
         let long : length (flatten (map setIn os)) ≡ total * size =
         length-flatten size (map setIn os) (same .sets .sized) ∙ ap (λ (i : ℕ). i * size) (length-map os setIn ∙ many ∙ sym (facts .total)) in
         record {
@@ -260,26 +260,26 @@ module _ (a table chapter marks : List ℕ) (n e : ℕ) (xs : List ℕ) (ok : fa
 
 -- ---- the chapter
 
-module _ (a table chapter marks : List ℕ) (n e : ℕ) (xs : List ℕ) (ok : fault a table chapter marks n e xs ≡ 0) where
+module _ (a table chapter marks : List ℕ) (n element : ℕ) (xs : List ℕ) (ok : fault a table chapter marks n element xs ≡ 0) where
   abbrev place : ℕ
-  place = startOf a (take n chapter) e
+  place = startOf a (take n chapter) element
 
   pub chapter-left : (moved filled : List ℕ)
-      → moved ≡ refit n (take (place + length xs) chapter ++ slice (e + 1) n chapter) chapter → filled ≡ paste moved place xs (length xs)
-      → filled ≡ refit n (newTree a table chapter marks n e xs) chapter
+      → moved ≡ refit n (take (place + length xs) chapter ++ slice (element + 1) n chapter) chapter → filled ≡ paste moved place xs (length xs)
+      → filled ≡ refit n (newTree a table chapter marks n element xs) chapter
   unfolding newTree spliceBy
   chapter-left moved filled p q =
-      let g = numbers a table chapter marks n e xs ok place refl (sizeOf table) refl in
+      let g = call-numbers a table chapter marks n element xs ok place refl (sizeOf table) refl in
       let low = g .low in
       let inside = g .inside in
       q ∙ ap (λ (l : List ℕ). paste l place xs (length xs)) p
-      ∙ tail-filled chapter n (e + 1) (place + length xs) (chapter-fits a table chapter marks n e xs ok place refl (sizeOf table) refl) place xs refl
-      ∙ ap (λ (l : List ℕ). refit n (l ++ (xs ++ slice (e + 1) n chapter)) chapter) (sym (take-take place n chapter (omega arith)))
+      ∙ tail-filled chapter n (element + 1) (place + length xs) (chapter-fits a table chapter marks n element xs ok place refl (sizeOf table) refl) place xs refl
+      ∙ ap (λ (l : List ℕ). refit n (l ++ (xs ++ slice (element + 1) n chapter)) chapter) (sym (take-take place n chapter (omega arith)))
 
   -- the new tree's words are those in use
-  pub nodes-left : (filled : List ℕ) → filled ≡ refit n (newTree a table chapter marks n e xs) chapter
-      → take (place + length xs + (n - e - 1)) filled ≡ splice a (take n chapter) e xs
+  pub nodes-left : (filled : List ℕ) → filled ≡ refit n (newTree a table chapter marks n element xs) chapter
+      → take (place + length xs + (n - element - 1)) filled ≡ splice a (take n chapter) element xs
   unfolding newTree
   nodes-left filled p =
-      let g = numbers a table chapter marks n e xs ok place refl (sizeOf table) refl in
-      ap₂ take (g .total) p ∙ take-refit n (splice a (take n chapter) e xs) chapter
+      let g = call-numbers a table chapter marks n element xs ok place refl (sizeOf table) refl in
+      ap₂ take (g .total) p ∙ take-refit n (splice a (take n chapter) element xs) chapter

@@ -1,5 +1,5 @@
 -- What the loops of Exchange do, over the list of state sets: the sets move, those of the replacement are recomputed node by
--- node, its root is compared with the old element's set as it was stored, and the loop behind goes upwards. The sets are then those of
+-- node, its root is compared with the old element's set as it was stored, and the loop behind leads upwards. The sets are then those of
 -- the outcomes, and the count is theirs, whatever the stored sets are.
 use mathlib.Core.Path.{_≡_, refl, ap, ap₂, _∙_, sym, subst}
 use mathlib.Core.Bool.{true, cond}
@@ -23,56 +23,56 @@ use Rattle.operations.specs.Exchange.{Outcome, recomputed, setIn, recomputedIn,
 use Rattle.operations.proofs.PropagateLaws.{sets-kept, count-kept}
 use Rattle.operations.proofs.OutcomeLaws.{sets-recomputed, root-read}
 use Rattle.operations.proofs.OutcomeParts.{recomputed-parts}
-use Rattle.nodes.proofs.LoopLaws.{setAt, setFrom, Recomputing, recomputing-none, recomputing-more}
+use Rattle.nodes.proofs.LoopLaws.{setAt, setFromSets, Recomputing, recomputing-none, recomputing-more}
 use Rattle.exchanger.proofs.UpwardLoop.{upwards, upwards-is}
 
-module _ (a table : List ℕ) (stored : ℕ → StateSet) (ch : List ℕ) (e : ℕ) (x : List ℕ) (gap : List StateSet) where
+module _ (a table : List ℕ) (stored : ℕ → StateSet) (ch : List ℕ) (element : ℕ) (x : List ℕ) (gap : List StateSet) where
   abbrev s : ℕ
-  s = startOf a ch e
+  s = startOf a ch element
 
   abbrev behind : List ℕ
-  behind = drop (e + 1) ch
+  behind = drop (element + 1) ch
 
   abbrev tree : List ℕ
-  tree = splice a ch e x
+  tree = splice a ch element x
 
   -- the sets behind the moves: the replacement's are whatever stood there
   abbrev pub movedSets : List StateSet
-  movedSets = listFrom stored 0 s ++ (gap ++ listFrom stored (e + 1) (length behind))
+  movedSets = listFrom stored 0 s ++ (gap ++ listFrom stored (element + 1) (length behind))
 
   -- the replacement's nodes, one after the other
   unfoldable pub replacedSets : ℕ → List StateSet
   replacedSets zero = movedSets
-  replacedSets (suc k) = set (replacedSets k) (s + k) (setFrom a table tree (s + k) (replacedSets k))
+  replacedSets (suc k) = set (replacedSets k) (s + k) (setFromSets a table tree (s + k) (replacedSets k))
 
   -- all sets, and how many are recomputed; the old element's set is the one stored before the moves
   unfoldable pub exchangedSets : List StateSet × ℕ
   exchangedSets =
-      cond (sameWords (setAt (replacedSets (length x)) (s + length x - 1)) (stored e))
+      cond (sameWords (setAt (replacedSets (length x)) (s + length x - 1)) (stored element))
       (replacedSets (length x), length x)
-      (upwards a table tree (λ i. isAncestor a ch e (i - (s + length x) + (e + 1))) (s + length x) (length behind) (replacedSets (length x)) (length x))
+      (upwards a table tree (λ i. isAncestor a ch element (i - (s + length x) + (element + 1))) (s + length x) (length behind) (replacedSets (length x)) (length x))
 
-  module _ (he : e < length ch) (hx : oneTree a x ≡ true) (some : 0 < length x) (hg : length gap ≡ length x) where
+  module _ (he : element < length ch) (hx : oneTree a x ≡ true) (some : 0 < length x) (hg : length gap ≡ length x) where
     abbrev step : ℕ → List StateSet → StateSet
     step = nodeSet table
 
     σ : List StateSet
     σ = stackGiven a stored 0 (take s ch) []
 
-    low : s ≤ e
-    low = start-le (arity a) ch e
+    low : s ≤ element
+    low = start-le (arity a) ch element
 
     length-front : length (take s ch) ≡ s
     length-front = length-take-le s ch (let l = low in omega arith)
 
     length-tree : length tree ≡ s + (length x + length behind)
-    length-tree = length-splice (arity a) ch e x he
+    length-tree = length-splice (arity a) ch element x he
 
     pub length-movedSets : length movedSets ≡ s + (length x + length behind)
     length-movedSets =
-        length-append (listFrom stored 0 s) (gap ++ listFrom stored (e + 1) (length behind))
+        length-append (listFrom stored 0 s) (gap ++ listFrom stored (element + 1) (length behind))
         ∙ ap₂ (λ (i j : ℕ). i + j) (length-listFrom stored s 0)
-        (length-append gap (listFrom stored (e + 1) (length behind)) ∙ ap₂ (λ (i j : ℕ). i + j) hg (length-listFrom stored (length behind) (e + 1)))
+        (length-append gap (listFrom stored (element + 1) (length behind)) ∙ ap₂ (λ (i j : ℕ). i + j) hg (length-listFrom stored (length behind) (element + 1)))
 
     pub length-replacedSets : (k : ℕ) → length (replacedSets k) ≡ length movedSets
     unfolding replacedSets
@@ -128,16 +128,16 @@ module _ (a table : List ℕ) (stored : ℕ → StateSet) (ch : List ℕ) (e : �
     unfolding new
     root = root-read a table x hx
 
-    replacedSets-are : replacedSets (length x) ≡ listFrom stored 0 s ++ values a step x [] ++ listFrom stored (e + 1) (length behind)
+    replacedSets-are : replacedSets (length x) ≡ listFrom stored 0 s ++ values a step x [] ++ listFrom stored (element + 1) (length behind)
     replacedSets-are =
         let m : s + length x ≡ length (listFrom stored 0 s) + length x = ap (λ (i : ℕ). i + length x) (sym (length-listFrom stored s 0)) in
-        let back : drop (s + length x) movedSets ≡ listFrom stored (e + 1) (length behind) =
-        ap (λ (i : ℕ). drop i movedSets) m ∙ drop-append-add (listFrom stored 0 s) (gap ++ listFrom stored (e + 1) (length behind)) (length x)
-        ∙ drop-at gap (listFrom stored (e + 1) (length behind)) (length x) hg in
+        let back : drop (s + length x) movedSets ≡ listFrom stored (element + 1) (length behind) =
+        ap (λ (i : ℕ). drop i movedSets) m ∙ drop-append-add (listFrom stored 0 s) (gap ++ listFrom stored (element + 1) (length behind)) (length x)
+        ∙ drop-at gap (listFrom stored (element + 1) (length behind)) (length x) hg in
         let fore : take s movedSets ≡ listFrom stored 0 s = take-at (listFrom stored 0 s) _ s (length-listFrom stored s 0) in
         allRecomputed .sets-are
         ∙ ap₂ (λ (l k : List StateSet). l ++ values a step (slice s (s + length x) tree) σ ++ k) fore back
-        ∙ ap (λ (l : List StateSet). listFrom stored 0 s ++ l ++ listFrom stored (e + 1) (length behind)) (ap (λ (l : List ℕ). values a step l σ) replacement ∙ new .values-on σ)
+        ∙ ap (λ (l : List StateSet). listFrom stored 0 s ++ l ++ listFrom stored (element + 1) (length behind)) (ap (λ (l : List ℕ). values a step l σ) replacement ∙ new .values-on σ)
 
     stack-replaced : map (setAt (replacedSets (length x))) (numbers (arity a) tree (s + length x)) ≡ rootSet a table x ∷ σ
     stack-replaced = allRecomputed .stack-is ∙ ap (λ (l : List ℕ). stackAfter a step l σ) replacement ∙ new .stack-on σ ∙ ap (λ (r : StateSet). r ∷ σ) (sym root)
@@ -157,40 +157,40 @@ module _ (a table : List ℕ) (stored : ℕ → StateSet) (ch : List ℕ) (e : �
     length-head = length-append (listFrom stored 0 s) (values a step x []) ∙ ap₂ (λ (i j : ℕ). i + j) (length-listFrom stored s 0) (length-values (arity a) step x [])
 
     -- the sets of the outcomes in their three parts
-    outcomes-parts : head ++ map setIn (outcomesBehind a table stored ch e x) ≡ map setIn (outcomesAfter a table stored ch e x)
+    outcomes-parts : head ++ map setIn (outcomesBehind a table stored ch element x) ≡ map setIn (outcomesAfter a table stored ch element x)
     unfolding outcomesAfter head nodeSets
     outcomes-parts =
         sym
-        (map-append setIn (keptFrom stored 0 s) (map recomputed (values a step x []) ++ outcomesBehind a table stored ch e x)
+        (map-append setIn (keptFrom stored 0 s) (map recomputed (values a step x []) ++ outcomesBehind a table stored ch element x)
         ∙ ap₂ (λ (l k : List StateSet). l ++ k) (sets-kept stored s 0)
-        (map-append setIn (map recomputed (values a step x [])) (outcomesBehind a table stored ch e x)
-        ∙ ap (λ (l : List StateSet). l ++ map setIn (outcomesBehind a table stored ch e x)) (sets-recomputed (values a step x [])))
-        ∙ sym (append-assoc (listFrom stored 0 s) (values a step x []) (map setIn (outcomesBehind a table stored ch e x))))
+        (map-append setIn (map recomputed (values a step x [])) (outcomesBehind a table stored ch element x)
+        ∙ ap (λ (l : List StateSet). l ++ map setIn (outcomesBehind a table stored ch element x)) (sets-recomputed (values a step x [])))
+        ∙ sym (append-assoc (listFrom stored 0 s) (values a step x []) (map setIn (outcomesBehind a table stored ch element x))))
 
     pub exchangedSets-outcomes : exchangedSets
-        ≡ (map setIn (outcomesAfter a table stored ch e x), recomputedIn (outcomesAfter a table stored ch e x))
+        ≡ (map setIn (outcomesAfter a table stored ch element x), recomputedIn (outcomesAfter a table stored ch element x))
     unfolding exchangedSets outcomesBehind head σ
     exchangedSets-outcomes =
-        go (tested (sameWords (rootSet a table x) (stored e)))
-        ∙ ap₂ (λ (l : List StateSet) (i : ℕ). (l, i)) outcomes-parts (sym (recomputed-parts a table stored ch e x))
+        go (tested (sameWords (rootSet a table x) (stored element)))
+        ∙ ap₂ (λ (l : List StateSet) (i : ℕ). (l, i)) outcomes-parts (sym (recomputed-parts a table stored ch element x))
       where
-        go : Tested (sameWords (rootSet a table x) (stored e)) → exchangedSets
-            ≡ (head ++ map setIn (outcomesBehind a table stored ch e x), length x + recomputedIn (outcomesBehind a table stored ch e x))
+        go : Tested (sameWords (rootSet a table x) (stored element)) → exchangedSets
+            ≡ (head ++ map setIn (outcomesBehind a table stored ch element x), length x + recomputedIn (outcomesBehind a table stored ch element x))
         go (holds b) =
             rw (root-replaced, b)
             (ap₂ (λ (l : List StateSet) (i : ℕ). (l, i))
-            (replacedSets-are ∙ ap (λ (l : List StateSet). head ++ l) (sym (sets-kept stored (length behind) (e + 1))))
-            (sym (add-zero (length x)) ∙ ap (λ (i : ℕ). length x + i) (sym (count-kept stored (length behind) (e + 1)))))
+            (replacedSets-are ∙ ap (λ (l : List StateSet). head ++ l) (sym (sets-kept stored (length behind) (element + 1))))
+            (sym (add-zero (length x)) ∙ ap (λ (i : ℕ). length x + i) (sym (count-kept stored (length behind) (element + 1)))))
         go (fails b) =
             rw (root-replaced, b)
-            (upwards-is a table tree stored (λ i. isAncestor a ch e (i - (s + length x) + (e + 1))) (isAncestor a ch e) behind (s + length x) (e + 1)
+            (upwards-is a table tree stored (λ i. isAncestor a ch element (i - (s + length x) + (element + 1))) (isAncestor a ch element) behind (s + length x) (element + 1)
             (replacedSets (length x)) (length x) (rootSet a table x ∷ σ) words-behind
-            (λ t. ap (isAncestor a ch e) (omega arith))
+            (λ t. ap (isAncestor a ch element) (omega arith))
             (omega (arith, length-replacedSets (length x), length-movedSets))
-            (ap (drop (s + length x)) replacedSets-are ∙ drop-at head (listFrom stored (e + 1) (length behind)) (s + length x) length-head)
+            (ap (drop (s + length x)) replacedSets-are ∙ drop-at head (listFrom stored (element + 1) (length behind)) (s + length x) length-head)
             stack-replaced
             ∙ ap (λ (l : List StateSet). (l ++ map setIn up, length x + recomputedIn up))
-            (ap (take (s + length x)) replacedSets-are ∙ take-at head (listFrom stored (e + 1) (length behind)) (s + length x) length-head))
+            (ap (take (s + length x)) replacedSets-are ∙ take-at head (listFrom stored (element + 1) (length behind)) (s + length x) length-head))
           where
             up : List Outcome
-            up = propagate a table stored (isAncestor a ch e) (e + 1) behind (rootSet a table x ∷ σ)
+            up = propagate a table stored (isAncestor a ch element) (element + 1) behind (rootSet a table x ∷ σ)

@@ -1,12 +1,12 @@
 pub mod UpwardLoop
 pub mod ExchangeLoops
 pub mod TailLaws
-pub mod PropagateLaws
+pub mod PropagationLaws
 pub mod ProgressLaws
 pub mod UpwardLaws
-pub mod CallLaws
+pub mod CallNumberLaws
 pub mod MovedLaws
 pub mod ExchangeLaws
-pub mod NodesLaws
+pub mod RecomputedNodesLaws
 pub mod ReplaceLaws
-pub mod AnswerLaws
+pub mod ExchangeAnswerLaws

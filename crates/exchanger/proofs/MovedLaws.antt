@@ -14,28 +14,24 @@ use Rattle.words.proofs.ListLaws.{listFrom-add}
 use Rattle.automaton.specs.StateSet.{StateSet}
 use Rattle.operations.specs.Marks.{sizeOf, storedSet, refit}
 use Rattle.operations.specs.Exchange.{fault}
-use Rattle.operations.proofs.MarksLaws.{Sized}
+use Rattle.operations.proofs.MarksLaws.{Sized, sized-append}
 use Rattle.exchanger.proofs.ExchangeLoops.{movedSets}
 use Rattle.slices.proofs.RefitLaws.{take-drop}
 use Rattle.sets.proofs.RowLaws.{sized-stored, flatten-stored}
-use Rattle.nodes.proofs.MarkLaws.{Holding}
+use Rattle.nodes.proofs.MarkLaws.{MarksHolding}
 use Rattle.exchanger.proofs.TailLaws.{length-kept}
-use Rattle.exchanger.proofs.CallLaws.{Numbers, numbers, marks-fits, length-used}
+use Rattle.exchanger.proofs.CallNumberLaws.{CallNumbers, call-numbers, marks-fits, length-used}
 
 pub flatten-append : (l k : List StateSet) → flatten (l ++ k) ≡ flatten l ++ flatten k
 unfolding flatten
 flatten-append [] k = refl
 flatten-append (r ∷ l) k = ap (λ (t : List ℕ). r ++ t) (flatten-append l k) ∙ sym (append-assoc r (flatten l) (flatten k))
 
-pub sized-append : (size : ℕ) (l k : List StateSet) → Sized size l → Sized size k → Sized size (l ++ k)
-sized-append size [] k h g = g
-sized-append size (r ∷ l) k h g = (h .0, sized-append size l k (h .1) g)
-
 -- what stands behind the words in use
 abbrev pub behindUse : ℕ → ℕ → List ℕ → List ℕ
 behindUse old new slice = replicate (old - new) 0 ++ drop (max old new) slice
 
-module _ (a table chapter marks : List ℕ) (n e : ℕ) (xs : List ℕ) (ok : fault a table chapter marks n e xs ≡ 0) where
+module _ (a table chapter marks : List ℕ) (n element : ℕ) (xs : List ℕ) (ok : fault a table chapter marks n element xs ≡ 0) where
   abbrev size : ℕ
   size = sizeOf table
 
@@ -46,10 +42,10 @@ module _ (a table chapter marks : List ℕ) (n e : ℕ) (xs : List ℕ) (ok : fa
   used = take n chapter
 
   abbrev s : ℕ
-  s = startOf a used e
+  s = startOf a used element
 
   abbrev k : ℕ
-  k = n - e - 1
+  k = n - element - 1
 
   -- where the replacement's root comes
   abbrev root : ℕ
@@ -57,71 +53,71 @@ module _ (a table chapter marks : List ℕ) (n e : ℕ) (xs : List ℕ) (ok : fa
 
   -- whatever stood where the replacement's sets come, and the old element's set in the place of the root's
   abbrev pub gapSets : List StateSet
-  gapSets = listFrom stored s (length xs - 1) ++ (stored e ∷ [])
+  gapSets = listFrom stored s (length xs - 1) ++ (stored element ∷ [])
 
-  facts : Numbers a table chapter marks n e xs s size
-  facts = numbers a table chapter marks n e xs ok s refl size refl
+  facts : CallNumbers a table chapter marks n element xs s size
+  facts = call-numbers a table chapter marks n element xs ok s refl size refl
 
   root-is : root ≡ s + (length xs - 1)
   root-is = let some = facts .some in omega arith
 
-  behind-count : length (drop (e + 1) used) ≡ k
-  behind-count = length-drop (e + 1) used ∙ ap (λ (i : ℕ). i - (e + 1)) (length-used a table chapter marks n e xs ok) ∙ omega arith
+  behind-count : length (drop (element + 1) used) ≡ k
+  behind-count = length-drop (element + 1) used ∙ ap (λ (i : ℕ). i - (element + 1)) (length-used a table chapter marks n element xs ok) ∙ omega arith
 
   front-words : flatten (listFrom stored 0 root) ≡ take (root * size) marks
   front-words = flatten-stored size marks root 0 ∙ ap (λ (i : ℕ). take (root * size) (drop i marks)) (zero-mul size)
 
-  tail-words : flatten (listFrom stored e (suc k)) ≡ slice (e * size) (n * size) marks
+  tail-words : flatten (listFrom stored element (suc k)) ≡ slice (element * size) (n * size) marks
   tail-words =
       let old = facts .old-words in
-      let c : suc k * size ≡ n * size - e * size = suc-mul k size ∙ omega arith in
-      flatten-stored size marks (suc k) e
-      ∙ ap (λ (i : ℕ). take i (drop (e * size) marks)) c
-      ∙ take-drop (e * size) (n * size) marks (omega arith)
+      let c : suc k * size ≡ n * size - element * size = suc-mul k size ∙ omega arith in
+      flatten-stored size marks (suc k) element
+      ∙ ap (λ (i : ℕ). take i (drop (element * size) marks)) c
+      ∙ take-drop (element * size) (n * size) marks (omega arith)
 
-  sets-are : movedSets a table stored used e xs gapSets ≡ listFrom stored 0 root ++ listFrom stored e (suc k)
+  sets-are : movedSets a table stored used element xs gapSets ≡ listFrom stored 0 root ++ listFrom stored element (suc k)
   sets-are =
-      let tail = listFrom stored (e + 1) k in
+      let tail = listFrom stored (element + 1) k in
       let front = listFrom stored 0 s in
       let gap = listFrom stored s (length xs - 1) in
-      ap (λ (i : ℕ). front ++ (gapSets ++ listFrom stored (e + 1) i)) behind-count
-      ∙ regroup front gap (stored e ∷ []) tail
-      ∙ ap₂ (λ (l : List StateSet) (j : ℕ). l ++ (stored e ∷ listFrom stored j k))
+      ap (λ (i : ℕ). front ++ (gapSets ++ listFrom stored (element + 1) i)) behind-count
+      ∙ regroup front gap (stored element ∷ []) tail
+      ∙ ap₂ (λ (l : List StateSet) (j : ℕ). l ++ (stored element ∷ listFrom stored j k))
       (ap (λ (i : ℕ). front ++ listFrom stored i (length xs - 1)) (sym (zero-add s))
       ∙ sym (listFrom-add stored s (length xs - 1) 0) ∙ ap (listFrom stored 0) (sym root-is))
-      (add-one e)
+      (add-one element)
     where
       regroup : (u v w z : List StateSet) → u ++ ((v ++ w) ++ z) ≡ (u ++ v) ++ (w ++ z)
       regroup u v w z = simp append-assoc
 
-  sets-words : flatten (movedSets a table stored used e xs gapSets) ≡ take (root * size) marks ++ slice (e * size) (n * size) marks
+  sets-words : flatten (movedSets a table stored used element xs gapSets) ≡ take (root * size) marks ++ slice (element * size) (n * size) marks
   sets-words =
-      ap flatten sets-are ∙ flatten-append (listFrom stored 0 root) (listFrom stored e (suc k))
+      ap flatten sets-are ∙ flatten-append (listFrom stored 0 root) (listFrom stored element (suc k))
       ∙ ap₂ (λ (l r : List ℕ). l ++ r) front-words tail-words
 
-  sets-sized : Sized size (movedSets a table stored used e xs gapSets)
+  sets-sized : Sized size (movedSets a table stored used element xs gapSets)
   sets-sized =
-      let old = facts .old-room in
-      let new = facts .new-room in
+      let old = facts .old-fits in
+      let new = facts .new-fits in
       let w = facts .new-words in
-      let all : e + suc k ≡ n = let i = facts .inside in omega arith in
+      let all : element + suc k ≡ n = let i = facts .inside in omega arith in
       rw sets-are
-      (sized-append size (listFrom stored 0 root) (listFrom stored e (suc k))
+      (sized-append size (listFrom stored 0 root) (listFrom stored element (suc k))
       (sized-stored size marks root 0 (rw (zero-add root) (omega arith)))
-      (sized-stored size marks (suc k) e (rw all old)))
+      (sized-stored size marks (suc k) element (rw all old)))
 
   -- the marks behind the move
   pub moved-holds : (moved : List ℕ)
-      → moved ≡ refit (n * size) (take ((s + length xs - 1) * size) marks ++ slice (e * size) (n * size) marks) marks
-      → Holding (sizeOf table) moved (movedSets a table stored used e xs gapSets)
+      → moved ≡ refit (n * size) (take ((s + length xs - 1) * size) marks ++ slice (element * size) (n * size) marks) marks
+      → MarksHolding (sizeOf table) moved (movedSets a table stored used element xs gapSets)
       (behindUse (n * size) ((s + length xs + k) * size) marks)
   unfolding refit
   moved-holds moved q =
-      let words = take (root * size) marks ++ slice (e * size) (n * size) marks in
+      let words = take (root * size) marks ++ slice (element * size) (n * size) marks in
       let old = facts .old-words in
       let new = facts .new-words in
       let l : length words ≡ (s + length xs + k) * size =
-      length-kept marks (n * size) (e * size) (root * size) (marks-fits a table chapter marks n e xs ok s refl size refl) ∙ omega arith in
+      length-kept marks (n * size) (element * size) (root * size) (marks-fits a table chapter marks n element xs ok s refl size refl) ∙ omega arith in
       record {
         words = q ∙ ap₂ (λ (t : List ℕ) (i : ℕ). t ++ behindUse (n * size) i marks) (sym sets-words) l;
         sized = sets-sized;

@@ -7,17 +7,17 @@ use Prim.Native.Nat.{ℕ, suc, _+_, _-_, _<_, _≤_}
 use native.Mathlib.Omega.{arith}
 use native.Mathlib.Numerals.{add-one}
 use lib.ListN.{length}
-use Rattle.nodes.specs.Marking.{Prepared}
+use Rattle.nodes.specs.Marking.{Maintained}
 use Rattle.nodes.proofs.WorkableLaws.{workable-long}
 use Rattle.exchanger.specs.declared.propagate.Progress.{Progress}
 use Rattle.exchanger.specs.Propagation.{propagateStep, propagateFrom, initial, Propagable, PropagationStart}
-use Rattle.exchanger.proofs.PropagateLaws.{step-small, propagate-continues, propagate-stops}
+use Rattle.exchanger.proofs.PropagationLaws.{step-small, propagate-continues, propagate-stops}
 
 pub record Propagating (a table ch : List ℕ) (root count : ℕ) (marks₀ marks array : List ℕ) (t : Progress) (top : ℕ) (keys known places owners rows pending : List ℕ) (i : ℕ) : Type 0 where
   pub low : root ≤ i
   pub high : i ≤ length ch
   pub marks-long : length marks ≡ length marks₀
-  pub prepared : Prepared a table ch i marks array top keys known places owners rows pending
+  pub prepared : Maintained a table ch i marks array top keys known places owners rows pending
   pub few-reached : t .reach ≤ i
   pub few-recomputed : t .recomputed ≤ count + i
   pub same : propagateFrom a table ch root (length ch - root) marks₀ (initial count) ≡ propagateFrom a table ch i (length ch - i) marks t
@@ -61,7 +61,7 @@ module _ {a table index ch : List ℕ} {root count : ℕ} {marks₀ array₀ : L
             ∙ propagate-stops a table ch i marks t (length ch - suc i) m next e h)
 
         pub propagating-more : next .active ≡ true → length m ≡ length marks → {array′ : List ℕ} {top′ : ℕ} {keys′ known′ places′ owners′ rows′ pending′ : List ℕ}
-            → Prepared a table ch (i + 1) m array′ top′ keys′ known′ places′ owners′ rows′ pending′
+            → Maintained a table ch (i + 1) m array′ top′ keys′ known′ places′ owners′ rows′ pending′
             → Propagating a table ch root count marks₀ m array′ next top′ keys′ known′ places′ owners′ rows′ pending′ (i + 1)
         propagating-more h p d =
             let low = g .low in

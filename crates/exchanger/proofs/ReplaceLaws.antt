@@ -10,55 +10,55 @@ use Rattle.words.specs.Postfix.{startOf, splice}
 use Rattle.operations.specs.Marks.{sizeOf, refit}
 use Rattle.operations.specs.Exchange.{fault, newTree}
 use Rattle.exchanger.specs.Exchanging.{exchangedFrom, Exchangeable}
-use Rattle.exchanger.proofs.CallLaws.{Numbers, numbers, result-workable}
+use Rattle.exchanger.proofs.CallNumberLaws.{CallNumbers, call-numbers, result-workable}
 use Rattle.exchanger.proofs.MovedLaws.{moved-holds}
 use Rattle.exchanger.proofs.ExchangeLaws.{Left, left-outcomes, chapter-left, nodes-left}
 
-module _ (a table chapter marks : List ℕ) (n e : ℕ) (xs : List ℕ) (ok : fault a table chapter marks n e xs ≡ 0)
-    (s : ℕ) (qs : s ≡ startOf a (take n chapter) e) (size : ℕ) (qz : size ≡ sizeOf table) where
+module _ (a table chapter marks : List ℕ) (n element : ℕ) (xs : List ℕ) (ok : fault a table chapter marks n element xs ≡ 0)
+    (s : ℕ) (qs : s ≡ startOf a (take n chapter) element) (size : ℕ) (qz : size ≡ sizeOf table) where
   abbrev total : ℕ
-  total = s + length xs + (n - e - 1)
+  total = s + length xs + (n - element - 1)
 
-  facts : Numbers a table chapter marks n e xs s size
-  facts = numbers a table chapter marks n e xs ok s qs size qz
+  facts : CallNumbers a table chapter marks n element xs s size
+  facts = call-numbers a table chapter marks n element xs ok s qs size qz
 
   -- ---- the chapter
 
-  module _ (moved filled : List ℕ) (p : moved ≡ refit n (take (s + length xs) chapter ++ slice (e + 1) n chapter) chapter)
+  module _ (moved filled : List ℕ) (p : moved ≡ refit n (take (s + length xs) chapter ++ slice (element + 1) n chapter) chapter)
       (q : filled ≡ paste moved s xs (length xs)) where
-    pub chapter-exit : filled ≡ refit n (newTree a table chapter marks n e xs) chapter
+    pub chapter-exit : filled ≡ refit n (newTree a table chapter marks n element xs) chapter
     chapter-exit =
-        chapter-left a table chapter marks n e xs ok moved filled
-        (p ∙ ap (λ (i : ℕ). refit n (take (i + length xs) chapter ++ slice (e + 1) n chapter) chapter) qs)
+        chapter-left a table chapter marks n element xs ok moved filled
+        (p ∙ ap (λ (i : ℕ). refit n (take (i + length xs) chapter ++ slice (element + 1) n chapter) chapter) qs)
         (q ∙ ap (λ (i : ℕ). paste moved i xs (length xs)) qs)
 
-    pub chapter-nodes : take (s + length xs + (n - e - 1)) filled ≡ splice a (take n chapter) e xs
+    pub chapter-nodes : take (s + length xs + (n - element - 1)) filled ≡ splice a (take n chapter) element xs
     chapter-nodes =
-        ap (λ (i : ℕ). take (i + length xs + (n - e - 1)) filled) qs
-        ∙ nodes-left a table chapter marks n e xs ok filled chapter-exit
+        ap (λ (i : ℕ). take (i + length xs + (n - element - 1)) filled) qs
+        ∙ nodes-left a table chapter marks n element xs ok filled chapter-exit
 
-    pub chapter-count : s + length xs + (n - e - 1) ≡ length (take (s + length xs + (n - e - 1)) filled)
+    pub chapter-count : s + length xs + (n - element - 1) ≡ length (take (s + length xs + (n - element - 1)) filled)
     chapter-count = facts .total ∙ sym (ap length chapter-nodes)
 
     -- ---- the marks
 
     module _ (work : List ℕ)
-        (m : work ≡ refit (n * size) (take ((s + length xs - 1) * size) marks ++ slice (e * size) (n * size) marks) marks)
+        (m : work ≡ refit (n * size) (take ((s + length xs - 1) * size) marks ++ slice (element * size) (n * size) marks) marks)
         (long : length work ≡ length marks) where
-      pub call-exchangeable : Exchangeable a table (take (s + length xs + (n - e - 1)) filled) s (s + length xs - 1) work
+      pub call-exchangeable : Exchangeable a table (take (s + length xs + (n - element - 1)) filled) s (s + length xs - 1) work
       call-exchangeable =
           let some = facts .some in
           let t = facts .total in
           rw chapter-nodes
-          (record { workable = result-workable a table chapter marks n e xs ok work long; order = omega arith; inside = omega arith })
+          (record { workable = result-workable a table chapter marks n element xs ok work long; order = omega arith; inside = omega arith })
 
       pub marks-exit : (marks′ : List ℕ) (count : ℕ)
-          → (marks′, count) ≡ exchangedFrom a table (take (s + length xs + (n - e - 1)) filled) s (s + length xs - 1) work
-          → Left a table chapter marks n e xs marks′ count
+          → (marks′, count) ≡ exchangedFrom a table (take (s + length xs + (n - element - 1)) filled) s (s + length xs - 1) work
+          → Left a table chapter marks n element xs marks′ count
       marks-exit marks′ count r =
           let held =
-          moved-holds a table chapter marks n e xs ok work
+          moved-holds a table chapter marks n element xs ok work
           (m
-          ∙ ap₂ (λ (i z : ℕ). refit (n * z) (take ((i + length xs - 1) * z) marks ++ slice (e * z) (n * z) marks) marks) qs qz) in
-          left-outcomes a table chapter marks n e xs ok work held marks′ count
+          ∙ ap₂ (λ (i z : ℕ). refit (n * z) (take ((i + length xs - 1) * z) marks ++ slice (element * z) (n * z) marks) marks) qs qz) in
+          left-outcomes a table chapter marks n element xs ok work held marks′ count
           (r ∙ ap₂ (λ (l : List ℕ) (i : ℕ). exchangedFrom a table l i (i + length xs - 1) work) chapter-nodes qs)

@@ -14,7 +14,7 @@ module _ (l : List ℕ) (used end at : ℕ) (g : TailFits l used end at) where
   kept = take at l ++ slice end used l
 
   pub length-kept : length (take at l ++ slice end used l) ≡ at + (used - end)
-  length-kept = length-moved l at end used (g .some) (g .inside) (g .room)
+  length-kept = length-moved l at end used (g .some) (g .inside) (g .fits)
 
   -- the words move, and those that fall out of use become zero
   pub tail-moved : (moved zeroed : List ℕ) → moved ≡ paste l at (drop end l) (used - end)
@@ -23,7 +23,7 @@ module _ (l : List ℕ) (used end at : ℕ) (g : TailFits l used end at) where
   tail-moved moved zeroed p q =
       q
       ∙ ap₂ (λ (m : List ℕ) (i : ℕ). paste m i (replicate (used - i) 0) (used - i))
-      (p ∙ moved-tail l at end used (g .some) (g .inside) (g .room)) (sym length-kept)
+      (p ∙ moved-tail l at end used (g .some) (g .inside) (g .fits)) (sym length-kept)
       ∙ cleared l kept used
 
   -- the gap before the moved words is filled
@@ -33,7 +33,7 @@ module _ (l : List ℕ) (used end at : ℕ) (g : TailFits l used end at) where
   tail-filled s xs e =
       let tail = slice end used l in
       let new = take s l ++ (xs ++ tail) in
-      let room = g .room in
+      let fits = g .fits in
       let front : length (take at l) ≡ at = length-take-le at l (omega arith) in
       let n : length kept ≡ length new =
       length-append (take at l) tail ∙ ap (λ (i : ℕ). i + length tail) (front ∙ e)

@@ -17,10 +17,10 @@ use Rattle.nodes.proofs.LoopLaws.{setAt}
 use Rattle.nodes.proofs.LoopLaws as loops
 use Rattle.exchanger.proofs.UpwardLoop.{upwards, upwards-beside, upwards-last, upwards-onward}
 use Rattle.nodes.specs.Nodes.{setFrom, markedAt}
-use Rattle.nodes.proofs.MarkLaws.{Holding, holding-set, setFrom-rows, markedAt-rows}
+use Rattle.nodes.proofs.MarkLaws.{MarksHolding, holding-set, setFrom-rows, markedAt-rows}
 use Rattle.exchanger.specs.declared.propagate.Progress.{Progress}
 use Rattle.exchanger.specs.Propagation.{propagateFrom}
-use Rattle.exchanger.proofs.PropagateLaws.{recomputed-is, recomputed-same, step-beside, step-ancestor, propagate-continues, propagate-stops}
+use Rattle.exchanger.proofs.PropagationLaws.{recomputed-is, recomputed-same, step-beside, step-ancestor, propagate-continues, propagate-stops}
 
 -- two functions that agree from i and from j on
 module _ {A : Type 0} (f g : ℕ → A) (i j : ℕ) (h : (t : ℕ) → f (i + t) ≡ g (j + t)) where
@@ -30,22 +30,22 @@ module _ {A : Type 0} (f g : ℕ → A) (i j : ℕ) (h : (t : ℕ) → f (i + t)
   later : (t : ℕ) → f (suc i + t) ≡ g (suc j + t)
   later t = ap f (suc-add i t ∙ sym (add-suc i t)) ∙ h (suc t) ∙ ap g (add-suc j t ∙ sym (suc-add j t))
 
-module _ (a table ch used : List ℕ) (e : ℕ) (rest : List ℕ) (above : ℕ → Bool) where
+module _ (a table ch used : List ℕ) (element : ℕ) (rest : List ℕ) (above : ℕ → Bool) where
   abbrev size : ℕ
   size = sizeOf table
 
   -- the loop is at node i of the new tree, which was node j of the old one; n nodes are left
   pub record Upward (i j d n : ℕ) (marks : List ℕ) (rows : List StateSet) : Type 0 where
     pub words : (t : ℕ) → getD ch (i + t) 0 ≡ getD used (j + t) 0
-    pub ancestors : (t : ℕ) → above (i + t) ≡ isAncestor a used e (j + t)
-    pub holding : HoldingTree (arity a) used e j d
+    pub ancestors : (t : ℕ) → above (i + t) ≡ isAncestor a used element (j + t)
+    pub holding : HoldingTree (arity a) used element j d
     pub inside : i + n ≤ length ch
     pub rows-inside : i + n ≤ length rows
-    pub sets : Holding (sizeOf table) marks rows rest
+    pub sets : MarksHolding (sizeOf table) marks rows rest
 
   -- the marks hold the state sets, and the counts are the same
   pub record Same (c : List ℕ × ℕ) (u : List StateSet × ℕ) : Type 0 where
-    pub sets : Holding (sizeOf table) (c .0) (u .0) rest
+    pub sets : MarksHolding (sizeOf table) (c .0) (u .0) rest
     pub count : c .1 ≡ u .1
 
   abbrev propagates : ℕ → ℕ → List ℕ → Progress → List ℕ × ℕ
@@ -67,18 +67,18 @@ module _ (a table ch used : List ℕ) (e : ℕ) (rest : List ℕ) (above : ℕ �
     word : arity a (getD used j 0) ≡ r
     word = ap (arity a) (sym (here (λ k. getD ch k 0) (λ k. getD used k 0) i j (g .words)))
 
-    above-here : above i ≡ isAncestor a used e j
-    above-here = here above (isAncestor a used e) i j (g .ancestors)
+    above-here : above i ≡ isAncestor a used element j
+    above-here = here above (isAncestor a used element) i j (g .ancestors)
 
     -- the loop at the next node
-    next : (d′ : ℕ) (marks′ : List ℕ) (rows′ : List StateSet) → HoldingTree (arity a) used e (suc j) d′ → length rows′ ≡ length rows
-        → Holding size marks′ rows′ rest → Upward (suc i) (suc j) d′ n marks′ rows′
+    next : (d′ : ℕ) (marks′ : List ℕ) (rows′ : List StateSet) → HoldingTree (arity a) used element (suc j) d′ → length rows′ ≡ length rows
+        → MarksHolding size marks′ rows′ rest → Upward (suc i) (suc j) d′ n marks′ rows′
     next d′ marks′ rows′ y l s =
         let inside = g .inside in
         let rows-inside = g .rows-inside in
         record {
           words = later (λ k. getD ch k 0) (λ k. getD used k 0) i j (g .words);
-          ancestors = later above (isAncestor a used e) i j (g .ancestors);
+          ancestors = later above (isAncestor a used element) i j (g .ancestors);
           holding = y;
           inside = omega arith;
           rows-inside = omega arith;
@@ -88,13 +88,13 @@ module _ (a table ch used : List ℕ) (e : ℕ) (rest : List ℕ) (above : ℕ �
     beside : r ≤ d → Same (propagates i (suc n) marks t) (ups i (suc n) rows (t .recomputed))
     beside l =
         let l′ : arity a (getD used j 0) ≤ d = rw word l in
-        let y : HoldingTree (arity a) used e (suc j) (d - r + 1) =
-        subst (λ (k : ℕ). HoldingTree (arity a) used e (suc j) (d - k + 1)) word (holding-others (arity a) used e j d (g .holding) l′) in
+        let y : HoldingTree (arity a) used element (suc j) (d - r + 1) =
+        subst (λ (k : ℕ). HoldingTree (arity a) used element (suc j) (d - k + 1)) word (holding-others (arity a) used element j d (g .holding) l′) in
         let t′ : Progress = record { reach = t .reach - r + 1; recomputed = t .recomputed; active = true } in
         let p : propagates i (suc n) marks t ≡ propagates (suc i) n marks t′ =
         propagate-continues a table ch i marks t n marks t′ (step-beside a table ch i marks t r refl (omega arith)) refl in
         let q : ups i (suc n) rows (t .recomputed) ≡ ups (suc i) n rows (t .recomputed) =
-        upwards-beside a table ch above i n rows (t .recomputed) (above-here ∙ takes-others (arity a) used e j d (g .holding) l′) in
+        upwards-beside a table ch above i n rows (t .recomputed) (above-here ∙ takes-others (arity a) used element j d (g .holding) l′) in
         rw (p, q) (ih (suc i) (suc j) (d - r + 1) marks rows t′ (omega arith) (next (d - r + 1) marks rows y refl (g .sets)))
 
     ancestor : d < r → Same (propagates i (suc n) marks t) (ups i (suc n) rows (t .recomputed))
@@ -110,7 +110,7 @@ module _ (a table ch used : List ℕ) (e : ℕ) (rest : List ℕ) (above : ℕ �
         l′ = rw word l
 
         up : above i ≡ true
-        up = above-here ∙ takes-holding (arity a) used e j d (g .holding) l′
+        up = above-here ∙ takes-holding (arity a) used element j d (g .holding) l′
 
         inside : i ≤ length ch
         inside = let h = g .inside in omega arith
@@ -118,7 +118,7 @@ module _ (a table ch used : List ℕ) (e : ℕ) (rest : List ℕ) (above : ℕ �
         inside-rows : i < length rows
         inside-rows = let h = g .rows-inside in omega arith
 
-        tests : sameWords (loops.setFrom a table ch i rows) (setAt rows i) ≡ sameWords new old
+        tests : sameWords (loops.setFromSets a table ch i rows) (setAt rows i) ≡ sameWords new old
         tests =
             ap₂ sameWords
             (sym (setFrom-rows a table ch marks rows rest i (g .sets) (omega (arith, inside-rows)) inside))
@@ -136,7 +136,7 @@ module _ (a table ch used : List ℕ) (e : ℕ) (rest : List ℕ) (above : ℕ �
         go (fails b) =
             let t′ : Progress = record { reach = 1; recomputed = t .recomputed + 1; active = true } in
             let marks′ = markedAt a table ch i marks in
-            let rows′ = set rows i (loops.setFrom a table ch i rows) in
+            let rows′ = set rows i (loops.setFromSets a table ch i rows) in
             let p : propagates i (suc n) marks t ≡ propagates (suc i) n marks′ t′ =
             propagate-continues a table ch i marks t n marks′ t′
             (step-ancestor a table ch i marks t r refl (omega arith) (marks′, true) (recomputed-is a table ch i marks false b)) refl in
@@ -144,7 +144,7 @@ module _ (a table ch used : List ℕ) (e : ℕ) (rest : List ℕ) (above : ℕ �
             upwards-onward a table ch above i n rows (t .recomputed) up (tests ∙ b) in
             rw (p, q)
             (ih (suc i) (suc j) 0 marks′ rows′ t′ refl
-            (next 0 marks′ rows′ (holding-ancestor (arity a) used e j d (g .holding) l′) (length-set rows i _)
+            (next 0 marks′ rows′ (holding-ancestor (arity a) used element j d (g .holding) l′) (length-set rows i _)
             (markedAt-rows a table ch marks rows rest i (g .sets) inside-rows inside)))
 
   pub propagate-upwards : (n : ℕ) → Goal n

@@ -18,7 +18,7 @@ use Rattle.operations.specs.Marks.{nodeSet, sameWords}
 use Rattle.operations.specs.Exchange.{Outcome, kept, recomputed, setIn, recomputedIn, propagate}
 use Rattle.operations.proofs.MarksLaws.{same-words}
 use Rattle.operations.proofs.PropagateLaws.{propagate-beside, propagate-last, propagate-onward, sets-kept, count-kept}
-use Rattle.nodes.proofs.LoopLaws.{setAt, setFrom, set-of, stack-push, stack-pass}
+use Rattle.nodes.proofs.LoopLaws.{setAt, setFromSets, set-of, stack-push, stack-pass}
 
 module _ (a table ch : List ℕ) where
   -- ---- the nodes behind: n nodes from i on, where `count` nodes are recomputed so far
@@ -27,8 +27,8 @@ module _ (a table ch : List ℕ) where
   upwards above i zero sets count = (sets, count)
   upwards above i (suc n) sets count =
       let beside = upwards above (suc i) n sets count in
-      let onward = upwards above (suc i) n (set sets i (setFrom a table ch i sets)) (count + 1) in
-      let ancestor = cond (sameWords (setFrom a table ch i sets) (setAt sets i)) (sets, count + 1) onward in
+      let onward = upwards above (suc i) n (set sets i (setFromSets a table ch i sets)) (count + 1) in
+      let ancestor = cond (sameWords (setFromSets a table ch i sets) (setAt sets i)) (sets, count + 1) onward in
       cond (above i) ancestor beside
 
   module _ (above : ℕ → Bool) (i n : ℕ) (sets : List StateSet) (count : ℕ) where
@@ -36,12 +36,12 @@ module _ (a table ch : List ℕ) where
     unfolding upwards
     upwards-beside b = rw b
 
-    pub upwards-last : above i ≡ true → sameWords (setFrom a table ch i sets) (setAt sets i) ≡ true → upwards above i (suc n) sets count ≡ (sets, count + 1)
+    pub upwards-last : above i ≡ true → sameWords (setFromSets a table ch i sets) (setAt sets i) ≡ true → upwards above i (suc n) sets count ≡ (sets, count + 1)
     unfolding upwards
     upwards-last b c = rw (b, c)
 
-    pub upwards-onward : above i ≡ true → sameWords (setFrom a table ch i sets) (setAt sets i) ≡ false
-        → upwards above i (suc n) sets count ≡ upwards above (suc i) n (set sets i (setFrom a table ch i sets)) (count + 1)
+    pub upwards-onward : above i ≡ true → sameWords (setFromSets a table ch i sets) (setAt sets i) ≡ false
+        → upwards above i (suc n) sets count ≡ upwards above (suc i) n (set sets i (setFromSets a table ch i sets)) (count + 1)
     unfolding upwards
     upwards-onward b c = rw (b, c)
 
@@ -87,7 +87,7 @@ module _ (a table ch : List ℕ) where
       later : drop (suc i) sets ≡ listFrom stored (suc j) (length ws)
       later = ap (λ (k : ℕ). drop k sets) (sym (add-one i)) ∙ sym (drop-drop 1 i sets) ∙ ap (drop 1) r
 
-      recomputes : setFrom a table ch i sets ≡ new
+      recomputes : setFromSets a table ch i sets ≡ new
       recomputes = set-of a table ch i sets stack e ∙ ap (λ (x : ℕ). valueOn a (nodeSet table) x stack) word
 
       above-here : above i ≡ above′ j

@@ -18,7 +18,7 @@ recomputeAt a table ch i marks =
 
 -- Of the trees that the nodes before i make, the last `reach` are the one that holds the replacement and those above it. A
 -- node that takes fewer is no ancestor, and nothing is done. Any other is an ancestor, or the replacement's root, before which
--- `reach` is 0: it is recomputed, and work goes on if its words have changed.
+-- `reach` is 0: it is recomputed, and work continues if its words have changed.
 unfoldable pub propagateStep : List ℕ → List ℕ → List ℕ → ℕ → List ℕ → Progress → List ℕ × Progress
 propagateStep a table ch i marks t =
     let r = arity a (getD ch i 0) in

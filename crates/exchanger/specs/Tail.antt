@@ -7,4 +7,4 @@ use lib.ListN.{length}
 pub record TailFits (words : List ℕ) (used end at : ℕ) : Type 0 where
   pub some : end ≤ used
   pub inside : used ≤ length words
-  pub room : at + (used - end) ≤ length words
+  pub fits : at + (used - end) ≤ length words

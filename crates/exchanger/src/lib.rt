@@ -1,10 +1,54 @@
 // Exchange: one subtree of a marked chapter gives way to a replacement.
-pub mod exchange;
+ghost use mathlib.Core.Path.{_≡_};
+ghost use Rattle.operations.specs.Exchange.{exchangeAnswer, exchangeChapter, exchangeMarks};
+ghost use Rattle.exchanger.specs.Answers.{answerIn};
+use refusals::exchange::exchange_fault;
+use subtree::replace_subtree;
+
 mod propagate;
 mod replace;
+mod subtree;
 
 // The answer: the new element count and the number of nodes worked out, or document 01's number of a refusal.
 pub enum Exchanged {
     Replaced(usize, usize),
     Refused(u32),
+}
+
+// Document 01's Exchange: the new element count and the number worked out, or a refusal.
+pub fn exchange(
+    alphabet: &[u32],
+    table: &[u32],
+    chapter: &mut [u32],
+    count: usize,
+    marks: &mut [u32],
+    element: usize,
+    replacement: &[u32],
+) -> Exchanged
+    ensures answer { λ r. ⌜
+        answerIn r
+        ≡ exchangeAnswer (now (alphabet .entry)) (now (table .entry)) (now (chapter .entry)) (now (marks .entry)) count element (now (replacement .entry))
+        ⌝ }
+    ensures chapter { λ _. ⌜
+        now (chapter .exit)
+        ≡ exchangeChapter (now (alphabet .entry)) (now (table .entry)) (now (chapter .entry)) (now (marks .entry)) count element (now (replacement .entry))
+        ⌝ }
+    ensures marks { λ _. ⌜
+        now (marks .exit)
+        ≡ exchangeMarks (now (alphabet .entry)) (now (table .entry)) (now (chapter .entry)) (now (marks .entry)) count element (now (replacement .entry))
+        ⌝ }
+{
+    let fault = exchange_fault(
+        alphabet,
+        table,
+        chapter,
+        count,
+        marks.len(),
+        element,
+        replacement,
+    );
+    if fault != 0 {
+        return Exchanged::Refused(fault);
+    }
+    replace_subtree(alphabet, table, chapter, count, marks, element, replacement)
 }

@@ -2,7 +2,7 @@
 ghost use mathlib.Core.Path.{_≡_};
 ghost use Prim.Native.Nat.{_+_, _-_};
 ghost use lib.ListN.{length};
-ghost use Rattle.nodes.specs.Marking.{Prepared, AtNode};
+ghost use Rattle.nodes.specs.Marking.{Maintained, AtNode};
 ghost use Rattle.exchanger.specs.Propagation.{recomputeAt, propagateStep, propagateFrom, initial, Propagable, PropagationStart};
 use nodes::marking::mark_node;
 use nodes::stack::push_node;
@@ -13,7 +13,7 @@ use words::alphabet::rank;
 use words::word::LOW_BYTE;
 
 // How far the loop is: how many roots on the stack, counted from the top, reach down to the one whose tree holds the
-// replacement (0 before the replacement's root is put there), how many nodes were recomputed, and whether work goes on.
+// replacement (0 before the replacement's root is put there), how many nodes were recomputed, and whether work continues.
 pub struct Progress {
     pub reach: usize,
     pub recomputed: usize,
@@ -58,7 +58,7 @@ fn recompute(
         ≡ recomputeAt (now (alphabet .entry)) (now (table .entry)) (now (nodes .entry)) i (now (marks .entry))
         ⌝ }
     ensures kept { λ r. ⌜
-        Prepared (now (alphabet .entry)) (now (table .entry)) (now (nodes .entry)) (i + 1) (now (marks .exit)) (now (stack .exit)) (r .height) (now (keys .exit)) (now (known .exit)) (now (places .exit)) (now (owners .exit)) (now (rows .exit)) (now (pending .exit))
+        Maintained (now (alphabet .entry)) (now (table .entry)) (now (nodes .entry)) (i + 1) (now (marks .exit)) (now (stack .exit)) (r .height) (now (keys .exit)) (now (known .exit)) (now (places .exit)) (now (owners .exit)) (now (rows .exit)) (now (pending .exit))
         ⌝ }
 {
     let size = set_size(table);
@@ -88,7 +88,7 @@ fn recompute(
     }
 }
 
-// Goes past node i. A node that takes only roots above the one whose tree holds the replacement is no ancestor of it: its
+// Passes node i. A node that takes only roots above the one whose tree holds the replacement is no ancestor of it: its
 // words stay. The replacement's root and its ancestors are recomputed.
 fn propagate_node(
     alphabet: &[u32],
@@ -115,7 +115,7 @@ fn propagate_node(
         ≡ propagateStep (now (alphabet .entry)) (now (table .entry)) (now (nodes .entry)) i (now (marks .entry)) progress
         ⌝ }
     ensures kept { λ r. ⌜
-        Prepared (now (alphabet .entry)) (now (table .entry)) (now (nodes .entry)) (i + 1) (now (marks .exit)) (now (stack .exit)) (r .height) (now (keys .exit)) (now (known .exit)) (now (places .exit)) (now (owners .exit)) (now (rows .exit)) (now (pending .exit))
+        Maintained (now (alphabet .entry)) (now (table .entry)) (now (nodes .entry)) (i + 1) (now (marks .exit)) (now (stack .exit)) (r .height) (now (keys .exit)) (now (known .exit)) (now (places .exit)) (now (owners .exit)) (now (rows .exit)) (now (pending .exit))
         ⌝ }
 {
     let children = rank(alphabet, (nodes[i] % LOW_BYTE) as usize);
@@ -158,7 +158,7 @@ fn propagate_node(
     }
 }
 
-// Goes past the nodes from `root` on, the replacement's root, until one that is recomputed keeps its words or the nodes end.
+// Passes the nodes from `root` on, the replacement's root, until one that is recomputed keeps its words or the nodes end.
 // Answers how many nodes were recomputed; `count` of them before.
 pub(crate) fn propagate(
     alphabet: &[u32],

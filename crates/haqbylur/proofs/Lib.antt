@@ -1,2 +1,2 @@
 pub mod StatusLaws
-pub mod ValueLaws
+pub mod AnswerValueLaws

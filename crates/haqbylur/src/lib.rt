@@ -10,11 +10,10 @@ ghost use Rattle.haqbylur.specs.Status.{statusOf, valueOr};
 use compiler::Compiled;
 use compiler::compile;
 use exchanger::Exchanged;
-use exchanger::exchange::exchange;
+use exchanger::exchange;
 use matcher::Listed;
 use matcher::Ran;
-use matcher::listing;
-use matcher::run::run;
+use matcher::run;
 
 // Compile: `words` is the table's word count.
 #[no_mangle]
@@ -101,7 +100,7 @@ pub extern "C" fn haqbylur_list(
         ≡ valueOr (listAnswer (now (alphabet .entry)) (now (table .entry)) count (now (marks .entry)) (now (list .entry))) 0 (now (hits .entry))
         ⌝ }
 {
-    match listing::list(alphabet, table, count, marks, list) {
+    match matcher::list(alphabet, table, count, marks, list) {
         Listed::Matches(found) => {
             *hits = found as u32;
             0

@@ -1,7 +1,7 @@
 pub mod Examples
 pub mod SubstitutionLaws
 pub mod SubjectLaws
-pub mod SubtreeLaws
+pub mod SubjectSubtreeLaws
 pub mod ParseLaws
 pub mod ExpressionLaws
-pub mod AcceptedLaws
+pub mod AcceptedWordLaws

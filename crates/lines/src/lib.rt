@@ -1,17 +1,17 @@
 // Writers of the lines that `marklist` prints.
 ghost use Rattle.lines.specs.Line.{refusedLine, headLine, hitLine, hitLines};
-ghost use Rattle.encoding.specs.Writing.{Written};
+ghost use Rattle.encoding.specs.ByteWriting.{BytesWritten};
 ghost use mathlib.Core.Path.{_≡_};
 ghost use mathlib.Core.List.{_++_};
 ghost use lib.ListN.{length, getD};
 ghost use Rattle.words.specs.Chapter.{symbolOf};
-use encoding::writer::write_field;
-use encoding::writer::write_text;
+use encoding::byte_writer::write_field;
+use encoding::byte_writer::write_text;
 use words::postfix::subtree_start;
 
 // The line `refused N`.
 pub fn write_refused(out: &mut [u8], number: u32) -> usize
-    ensures { λ r. ⌜ Written 0 (refusedLine number) (now (out .entry)) (now (out .exit)) r ⌝ }
+    ensures { λ r. ⌜ BytesWritten 0 (refusedLine number) (now (out .entry)) (now (out .exit)) r ⌝ }
 {
     let next = write_text(out, 0, b"refused ");
     write_field(out, next, number as usize, b'\n')
@@ -19,7 +19,7 @@ pub fn write_refused(out: &mut [u8], number: u32) -> usize
 
 // The head line: element, state and hit counts.
 fn write_head(out: &mut [u8], nodes: usize, states: usize, hits: usize) -> usize
-    ensures { λ r. ⌜ Written 0 (headLine nodes states hits) (now (out .entry)) (now (out .exit)) r ⌝ }
+    ensures { λ r. ⌜ BytesWritten 0 (headLine nodes states hits) (now (out .entry)) (now (out .exit)) r ⌝ }
 {
     let mut next = write_text(out, 0, b"nodes ");
     next = write_field(out, next, nodes, b' ');
@@ -41,7 +41,7 @@ fn symbol_of(chapter: &[u32], node: usize) -> usize
 
 // The line of one hit: the element, its symbol and its subtree's element count.
 fn write_hit(out: &mut [u8], at: usize, alphabet: &[u32], chapter: &[u32], hit: u32) -> usize
-    ensures { λ r. ⌜ Written at (hitLine (now (alphabet .entry)) (now (chapter .entry)) hit) (now (out .entry)) (now (out .exit)) r ⌝ }
+    ensures { λ r. ⌜ BytesWritten at (hitLine (now (alphabet .entry)) (now (chapter .entry)) hit) (now (out .entry)) (now (out .exit)) r ⌝ }
 {
     let node = hit as usize;
     let size = node + 1 - subtree_start(alphabet, chapter, node);
@@ -59,7 +59,7 @@ pub fn write_lines(
     hits: &[u32],
 ) -> usize
     ensures { λ r. ⌜
-        Written 0
+        BytesWritten 0
         (headLine (length (now (chapter .entry))) states (length (now (hits .entry)))
         ++ hitLines (now (alphabet .entry)) (now (chapter .entry)) (now (hits .entry)))
         (now (out .entry)) (now (out .exit)) r

@@ -4,7 +4,7 @@ use mathlib.Core.Bool.{Bool, true, false}
 use mathlib.Core.List.{List, [], _∷_, _++_, append-nil}
 use Prim.Native.Nat.{ℕ, _≤_, min}
 use native.Mathlib.Omega.{arith}
-use lib.ListN.{length, getD, take, drop, replicate, length-replicate}
+use lib.ListN.{length, getD, take, drop}
 use lib.Seq.{length-sets, take-all, length-take-le}
 use Rattle.lines.specs.Line.{refusedLine}
 use Rattle.report.specs.Output.{outputOf}
@@ -12,11 +12,12 @@ use lib.Dec.{ltb}
 use Rattle.words.proofs.TestLaws.{all-append}
 use Rattle.encoding.specs.Words.{areBytes, wordsIn}
 use Rattle.report.specs.Input.{complete, alphabetIn, ruleIn, chapterIn, programOutput}
-use Rattle.encoding.proofs.WordLaws.{length-wordsIn, wordsIn-append, kept-words}
+use Rattle.encoding.proofs.WordByteLaws.{length-wordsIn, wordsIn-append, kept-words}
 use Rattle.report.proofs.OutputLength.{output-short}
 use Rattle.report.proofs.KeptLaws.{early-output}
+use Rattle.report.proofs.ReportLaws.{zeros, many}
 use Rattle.report.proofs.ProgramLaws.{program-early, program-complete}
-use Rattle.marklist.specs.Reading.{Stored, ReadAll, Printed}
+use Rattle.marklist.specs.InputReading.{Stored, ReadAll, Printed}
 
 -- ---- words that are stored
 
@@ -30,10 +31,10 @@ module _ {count : ℕ} {before after : List ℕ} (s : Stored count before after)
       ap₂ (λ (n : ℕ) (l : List ℕ). take (min n (length before)) l) (sym count-words) (s .same) ∙ kept-words before (wordsIn (s .bytes))
 
 -- as many words of a slice of m words as are kept
-pub kept-fit : {n m room : ℕ} (count : ℕ) → n ≡ min count room → m ≡ room → n ≤ m
+pub kept-fit : {n m sliceLength : ℕ} (count : ℕ) → n ≡ min count sliceLength → m ≡ sliceLength → n ≤ m
 kept-fit count e long = omega arith
 
-pub kept-long : {n room : ℕ} (count : ℕ) (words : List ℕ) → n ≡ min count room → length words ≡ room → n ≡ length (take n words)
+pub kept-long : {n sliceLength : ℕ} (count : ℕ) (words : List ℕ) → n ≡ min count sliceLength → length words ≡ sliceLength → n ≡ length (take n words)
 kept-long {n} count words e long = sym (length-take-le n words (kept-fit count e long))
 
 three : (l : List ℕ) → length l ≡ 3 → l ≡ getD l 0 0 ∷ getD l 1 0 ∷ getD l 2 0 ∷ []
@@ -85,8 +86,8 @@ module _ (counts₀ counts alphabet₀ alphabet rule₀ rule chapter₀ chapter 
       all-words (count-words s) (count-words t) (count-words u)
       ∙ sym (rw (lent s symbols, lent t words, lent u nodes))
     where
-      lent : {count room : ℕ} {before after : List ℕ} (s : Stored count before after) → length before ≡ room
-          → take (min count room) after ≡ take room (wordsIn (s .bytes))
+      lent : {count sliceLength : ℕ} {before after : List ℕ} (s : Stored count before after) → length before ≡ sliceLength
+          → take (min count sliceLength) after ≡ take sliceLength (wordsIn (s .bytes))
       lent {count} {before = before} {after = after} s e =
           ap (λ (n : ℕ). take (min count n) after) (sym e) ∙ lent-words s ∙ ap (λ (n : ℕ). take n (wordsIn (s .bytes))) e
 
@@ -106,12 +107,6 @@ printed false a e ch before after r whole long same =
     record { input = []; small = refl; long = long ∙ ap length q; same = same ∙ ap (λ (l : List ℕ). l ++ drop r before) q }
 
 -- ---- the whole function: four calls that read, and the report
-
-abbrev zeros : ℕ → List ℕ
-zeros n = replicate n 0
-
-many : (n : ℕ) → length (zeros n) ≡ n
-many n = length-replicate {A = ℕ} n 0
 
 module _ {counts alphabet rule chapter : List ℕ} {b₁ b₂ b₃ b₄ : Bool}
     (first : ReadAll true 3 (zeros 3) counts b₁) (second : ReadAll b₁ (getD counts 0 0) (zeros 65) alphabet b₂)

@@ -2,9 +2,9 @@
 // (document 01, "The source's own example"). What the bytes mean and what is printed stands in the crate `report`.
 ghost use Prim.Native.Nat.{_≤_};
 ghost use lib.ListN.{length};
-ghost use Rattle.marklist.specs.Reading.{ReadAll, Printed};
-use encoding::word::WORD_BYTES;
-use encoding::word::keep_words;
+ghost use Rattle.marklist.specs.InputReading.{ReadAll, Printed};
+use encoding::word_bytes::WORD_BYTES;
+use encoding::word_bytes::keep_words;
 use libc::STDIN_FILENO;
 use libc::STDOUT_FILENO;
 use report::input::kept;

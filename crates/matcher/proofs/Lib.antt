@@ -1,3 +1,3 @@
 pub mod ListingLaws
-pub mod CallLaws
-pub mod RunLaws
+pub mod AcceptedCallLaws
+pub mod RunCallLaws

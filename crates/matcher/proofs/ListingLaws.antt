@@ -47,7 +47,7 @@ part-set size table marks i e =
     ap (λ (n : ℕ). take n (drop (i * size) marks)) q ∙ ap (λ (n : ℕ). take n (drop (i * n) marks)) e
 
 -- the matches among the first i nodes stand at the front of the list
-pub record Found (table marks list₀ list : List ℕ) (found i : ℕ) : Type 0 where
+pub record FoundMatches (table marks list₀ list : List ℕ) (found i : ℕ) : Type 0 where
   pub long : length list ≡ length list₀
   pub count : found ≡ length (matchesOf table i marks)
   pub words : list ≡ matchesOf table i marks ++ drop (length (matchesOf table i marks)) list₀
@@ -65,15 +65,15 @@ module _ (table marks : List ℕ) where
       ∙ ap₂ (λ (j k : ℕ). matchesIn (finalOf table) 0 (listFrom stored 0 i) ++ matchesIn (finalOf table) j (stored k ∷ [])) n (zero-add i)
 
   module _ (list₀ : List ℕ) where
-    pub found-none : Found table marks list₀ list₀ 0 0
+    pub found-none : FoundMatches table marks list₀ list₀ 0 0
     unfolding matchesOf matchesIn
     found-none = record { long = refl; count = refl; words = refl }
 
-    pub found-more : (list : List ℕ) (found i : ℕ) (list′ : List ℕ) (found′ : ℕ) (set : StateSet) (last : ℕ) → Found table marks list₀ list found i
+    pub found-more : (list : List ℕ) (found i : ℕ) (list′ : List ℕ) (found′ : ℕ) (set : StateSet) (last : ℕ) → FoundMatches table marks list₀ list found i
         → set ≡ storedSet (sizeOf table) marks i → last ≡ finalOf table → i < length list₀
         → found′ ≡ found + length (matchesIn last i (set ∷ [])) → list′ ≡ sets list found (matchesIn last i (set ∷ []))
-        → length list′ ≡ length list → Found table marks list₀ list′ found′ (i + 1)
-    found-more list found i list′ found′ set last g es el room ef eq n =
+        → length list′ ≡ length list → FoundMatches table marks list₀ list′ found′ (i + 1)
+    found-more list found i list′ found′ set last g es el fits ef eq n =
         let ms = matchesOf table i marks in
         let one = matchesIn last i (set ∷ []) in
         let few = matchesOf-few table marks i in
@@ -97,7 +97,7 @@ module _ (table marks : List ℕ) where
               ∙ ap (λ (l : List ℕ). l ++ drop (length l) list₀) (sym more);
         }
 
-    pub found-end : (list : List ℕ) (found i n : ℕ) → Found table marks list₀ list found i → i ≤ n → n ≤ i → Found table marks list₀ list found n
+    pub found-end : (list : List ℕ) (found i n : ℕ) → FoundMatches table marks list₀ list found i → i ≤ n → n ≤ i → FoundMatches table marks list₀ list found n
     found-end list found i n g h l =
         let q : i ≡ n = omega arith in
         rw (← q) g

@@ -1,6 +1,15 @@
 // Run and List (document 01): state sets for the nodes of a tree, and the matches.
-pub mod listing;
-pub mod run;
+ghost use mathlib.Core.Path.{_≡_};
+ghost use Rattle.operations.specs.Run.{runAnswer, runExit};
+ghost use Rattle.operations.specs.Listing.{listAnswer, listExit};
+ghost use Rattle.matcher.specs.Answers.{answerInRan, answerInListed};
+use matches::list_accepted;
+use refusals::list::list_fault;
+use refusals::run::run_fault;
+use tree::run_accepted;
+
+mod matches;
+mod tree;
 
 // What Run answers: the element count and the cells, or the number of the refusal.
 pub enum Ran {
@@ -12,4 +21,44 @@ pub enum Ran {
 pub enum Listed {
     Matches(usize),
     Refused(u32),
+}
+
+// Document 01's Run: marks the chapter, or refuses.
+pub fn run(alphabet: &[u32], table: &[u32], chapter: &[u32], marks: &mut [u32]) -> Ran
+    ensures answer { λ r. ⌜
+        answerInRan r ≡ runAnswer (now (alphabet .entry)) (now (table .entry)) (now (chapter .entry)) (now (marks .entry))
+        ⌝ }
+    ensures marks { λ _. ⌜
+        now (marks .exit) ≡ runExit (now (alphabet .entry)) (now (table .entry)) (now (chapter .entry)) (now (marks .entry))
+        ⌝ }
+{
+    let fault = run_fault(alphabet, table, chapter, marks.len());
+    if fault != 0 {
+        return Ran::Refused(fault);
+    }
+    let cells = run_accepted(alphabet, table, chapter, marks);
+    Ran::Marked(chapter.len(), cells)
+}
+
+// Document 01's List: writes the numbers of the matches, or refuses.
+pub fn list(
+    alphabet: &[u32],
+    table: &[u32],
+    count: usize,
+    marks: &[u32],
+    list: &mut [u32],
+) -> Listed
+    ensures answer { λ r. ⌜
+        answerInListed r
+        ≡ listAnswer (now (alphabet .entry)) (now (table .entry)) count (now (marks .entry)) (now (list .entry))
+        ⌝ }
+    ensures list { λ _. ⌜
+        now (list .exit) ≡ listExit (now (alphabet .entry)) (now (table .entry)) count (now (marks .entry)) (now (list .entry))
+        ⌝ }
+{
+    let fault = list_fault(alphabet, table, count, marks.len(), list.len());
+    if fault != 0 {
+        return Listed::Refused(fault);
+    }
+    Listed::Matches(list_accepted(alphabet, table, count, marks, list))
 }

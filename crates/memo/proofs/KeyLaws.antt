@@ -6,7 +6,7 @@ use native.Mathlib.Omega.{arith}
 use lib.ListN.{length, getD, drop, length-drop}
 use Rattle.words.proofs.ListLaws.{below-drop}
 use Rattle.automaton.specs.Table.{AllBelow}
-use Rattle.memo.specs.Key.{packed, keyOf, Packable, Keyable}
+use Rattle.memo.specs.Key.{packed, stepKey, Packable, Keyable}
 
 -- four digits of 13 bits
 pub packed-few : (cs : List ℕ) → length cs ≤ 4 → AllBelow 4096 cs → packed cs < 4503599627370496
@@ -42,17 +42,17 @@ packed-same n m (c ∷ cs) (d ∷ ds) h g e =
     let tail : packed cs ≡ packed ds = omega arith in
     ap₂ (λ (x : ℕ) (xs : List ℕ). x ∷ xs) head (packed-same n m cs ds (h .1) (g .1) tail)
 
-module _ (f g : ℕ) (cs ds : List ℕ) (hf : f < 256) (hg : g < 256) (e : keyOf f cs ≡ keyOf g ds) where
-  pub key-symbol : f ≡ g
-  unfolding keyOf
-  key-symbol = omega arith
+module _ (f g : ℕ) (cs ds : List ℕ) (hf : f < 256) (hg : g < 256) (e : stepKey f cs ≡ stepKey g ds) where
+  pub stepKey-symbol : f ≡ g
+  unfolding stepKey
+  stepKey-symbol = omega arith
 
   pub key-nodes : packed cs ≡ packed ds
-  unfolding keyOf
+  unfolding stepKey
   key-nodes = omega arith
 
-pub key-some : (f : ℕ) (cs : List ℕ) → keyOf f cs ≡ 0 → ⊥
-unfolding keyOf
+pub key-some : (f : ℕ) (cs : List ℕ) → stepKey f cs ≡ 0 → ⊥
+unfolding stepKey
 key-some f cs e = omega arith
 
 -- ---- the last of four nodes
@@ -106,6 +106,6 @@ key-few {f} {four} {rank} g =
     let n = packed-few (drop (4 - rank) four) (rw (length-drop (4 - rank) four) (omega arith)) (below-drop 4096 (4 - rank) four (g .nodes .below)) in
     omega arith
 
-pub key-is : (f : ℕ) (cs : List ℕ) (number : ℕ) → number ≡ packed cs → number * 512 + f + 1 ≡ keyOf f cs
-unfolding keyOf
+pub key-is : (f : ℕ) (cs : List ℕ) (number : ℕ) → number ≡ packed cs → number * 512 + f + 1 ≡ stepKey f cs
+unfolding stepKey
 key-is f cs number e = ap (λ (n : ℕ). n * 512 + f + 1) e

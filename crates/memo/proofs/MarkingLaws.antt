@@ -14,7 +14,7 @@ use Rattle.operations.specs.Marks.{sizeOf, storedSet}
 use Rattle.step.specs.Ready.{childSets}
 use Rattle.sets.specs.Copyable.{Copyable}
 use Rattle.sets.proofs.StoredLaws.{words-few, stored-written, stored-before}
-use Rattle.memo.specs.Memo.{setOver, Placeable, Represents, itself, earlier, AtNew, New}
+use Rattle.memo.specs.Memo.{setOver, Placeable, Represents, itself, earlier, AtNew, MarkedNew}
 
 pub length-setOver : (table : List ℕ) (f : ℕ) (marks cs : List ℕ) → length (setOver table f marks cs) ≡ sizeOf table
 unfolding setOver sizeOf
@@ -49,8 +49,8 @@ module _ {table index : List ℕ} {f : ℕ} {marks cs : List ℕ} {i : ℕ} {pla
   pub set-few : i * size ≤ 131072
   set-few = let few = g .few in words-few i size (omega arith) (omega (arith, size-few g))
 
-  pub set-room : i * size + length (take size set) ≤ length marks
-  set-room = rw (← set-length, s) (g .row)
+  pub set-fits : i * size + length (take size set) ≤ length marks
+  set-fits = rw (← set-length, s) (g .row)
 
   pub set-placeable : Placeable marks (take size set) i places
   set-placeable =
@@ -63,7 +63,7 @@ module _ {table index : List ℕ} {f : ℕ} {marks cs : List ℕ} {i : ℕ} {pla
       }
 
   pub set-new : (r : ℕ) → Represents marks (take size set) i r → (marks′ : List ℕ)
-      → marks′ ≡ paste marks (i * size) (take size set) (length (take size set)) → New table f marks cs i marks′ r
+      → marks′ ≡ paste marks (i * size) (take size set) (length (take size set)) → MarkedNew table f marks cs i marks′ r
   set-new r p marks′ q = go p
     where
       written : marks′ ≡ paste marks (i * sizeOf table) (setOver table f marks cs) (sizeOf table)
@@ -71,7 +71,7 @@ module _ {table index : List ℕ} {f : ℕ} {marks cs : List ℕ} {i : ℕ} {pla
           q ∙ ap₂ (λ (l : List ℕ) (n : ℕ). paste marks (i * size) l n) set-front (sym set-length)
           ∙ ap (λ (n : ℕ). paste marks (i * n) v n) s
 
-      go : Represents marks (take size set) i r → New table f marks cs i marks′ r
+      go : Represents marks (take size set) i r → MarkedNew table f marks cs i marks′ r
       go (itself h) = record {
         words = written;
         low = omega arith;

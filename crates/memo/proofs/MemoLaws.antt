@@ -15,9 +15,9 @@ use Rattle.operations.specs.Marks.{sizeOf, storedSet}
 use Rattle.step.specs.Closure.{Closures}
 use Rattle.sets.specs.Copyable.{Copyable}
 use Rattle.sets.proofs.StoredLaws.{row-inside, stored-before}
-use Rattle.memo.specs.Key.{packed, keyOf}
-use Rattle.memo.specs.Memo.{setOver, Slot, empty, known, Remembered, AtNew, AtNext, New, Next}
-use Rattle.memo.proofs.KeyLaws.{packed-same, key-symbol, key-nodes, key-some}
+use Rattle.memo.specs.Key.{packed, stepKey}
+use Rattle.memo.specs.Memo.{setOver, Slot, empty, known, Remembered, AtNew, AtNext, MarkedNew, MarkedNext}
+use Rattle.memo.proofs.KeyLaws.{packed-same, stepKey-symbol, key-nodes, key-some}
 use Rattle.memo.proofs.MarkingLaws.{length-setOver, size-few}
 
 -- an array of zeros of every kind: nothing is remembered
@@ -98,33 +98,33 @@ module _ {table index : List ℕ} {f : ℕ} {marks four : List ℕ} {rank i : �
   pub next-new : AtNew table index f marks (take (4 - (4 - rank)) (drop (4 - rank) four)) i places owners rows pending
   next-new = rw part-is (g .new)
 
-  module _ (key : ℕ) (k : key ≡ keyOf f (drop (4 - rank) four)) (s : ℕ) (l : s < 1024) where
+  module _ (key : ℕ) (k : key ≡ stepKey f (drop (4 - rank) four)) (s : ℕ) (l : s < 1024) where
     -- a slot with the key holds a node that has the state set
     module _ (h : getD keys s 0 ≡ key) where
       abbrev node : ℕ
       node = getD nodes s 0
 
-      pub found : (getD nodes s 0 < i) × (storedSet (sizeOf table) marks (getD nodes s 0) ≡ setOver table f marks (drop (4 - rank) four))
-      found = go (g .remembered .memo .slots s l)
+      pub slot-found : (getD nodes s 0 < i) × (storedSet (sizeOf table) marks (getD nodes s 0) ≡ setOver table f marks (drop (4 - rank) four))
+      slot-found = go (g .remembered .memo .slots s l)
         where
           go : Slot table marks i (getD keys s 0) (getD nodes s 0)
               → (getD nodes s 0 < i) × (storedSet (sizeOf table) marks (getD nodes s 0) ≡ setOver table f marks cs)
           go (empty z) = absurd (key-some f cs (sym k ∙ sym h ∙ z))
           go (known f′ cs′ hf b k′ m q) =
-              let e : keyOf f′ cs′ ≡ keyOf f cs = sym k′ ∙ h ∙ k in
+              let e : stepKey f′ cs′ ≡ stepKey f cs = sym k′ ∙ h ∙ k in
               let hg = g .keyable .symbol in
               let few = g .new .few in (
                 m,
-                q ∙ ap₂ (λ (x : ℕ) (xs : List ℕ). setOver table x marks xs) (key-symbol f′ f cs′ cs hf hg e)
+                q ∙ ap₂ (λ (x : ℕ) (xs : List ℕ). setOver table x marks xs) (stepKey-symbol f′ f cs′ cs hf hg e)
                     (packed-same i (omega arith) cs′ cs b (g .below) (key-nodes f′ f cs′ cs hf hg e)),
               )
 
       stored : take (sizeOf table) (drop (getD nodes s 0 * sizeOf table) marks) ≡ setOver table f marks cs
       unfolding storedSet
-      stored = found .1
+      stored = slot-found .1
 
       pub found-few : getD nodes s 0 < 4096
-      found-few = let few = g .new .few in omega (arith, found .0)
+      found-few = let few = g .new .few in omega (arith, slot-found .0)
 
       module _ (n : ℕ) (sn : n ≡ sizeOf table) where
         pub found-copyable : Copyable marks (getD nodes s 0 * n) (i * n) n
@@ -132,22 +132,22 @@ module _ {table index : List ℕ} {f : ℕ} {marks four : List ℕ} {rank i : �
             let row = g .new .row in
             record {
               small = size-few (g .new);
-              source = row-inside (getD nodes s 0) i (sizeOf table) (length marks) (found .0) (omega arith);
+              source = row-inside (getD nodes s 0) i (sizeOf table) (length marks) (slot-found .0) (omega arith);
               target = row;
             })
 
         pub found-next : (marks′ : List ℕ) → marks′ ≡ paste marks (i * n) (take n (drop (getD nodes s 0 * n) marks)) n
-            → Next table f marks (drop (4 - rank) four) i marks′ (getD nodes s 0) keys nodes places owners rows pending
+            → MarkedNext table f marks (drop (4 - rank) four) i marks′ (getD nodes s 0) keys nodes places owners rows pending
         found-next marks′ q =
             let w : marks′ ≡ paste marks (i * size) v size = q ∙ ap (λ (x : ℕ). paste marks (i * x) (take x (drop (node * x) marks)) x) sn ∙ ap (λ (x : List ℕ). paste marks (i * size) x size) stored in
             let row = g .new .row in
-            let m = found .0 in
+            let m = slot-found .0 in
             let len = length-setOver table f marks cs in
             record {
               new = record {
                 words = w;
                 low = omega arith;
-                same = stored-kept table marks i v len row marks′ w node m ∙ found .1;
+                same = stored-kept table marks i v len row marks′ w node m ∙ slot-found .1;
               };
               remembered = record {
                 memo = record {
@@ -162,9 +162,9 @@ module _ {table index : List ℕ} {f : ℕ} {marks four : List ℕ} {rank i : �
             }
 
     -- node i was worked out, and the step is remembered in this slot
-    pub stored-next : (r : ℕ) (marks′ : List ℕ) → New table f marks (take (4 - (4 - rank)) (drop (4 - rank) four)) i marks′ r
+    pub stored-next : (r : ℕ) (marks′ : List ℕ) → MarkedNew table f marks (take (4 - (4 - rank)) (drop (4 - rank) four)) i marks′ r
         → {places′ owners′ rows′ pending′ : List ℕ} → length places′ ≡ length places → Closures table owners′ rows′ → length pending′ ≡ length pending
-        → Next table f marks (drop (4 - rank) four) i marks′ r (set keys s key) (set nodes s r) places′ owners′ rows′ pending′
+        → MarkedNext table f marks (drop (4 - rank) four) i marks′ r (set keys s key) (set nodes s r) places′ owners′ rows′ pending′
     stored-next r marks′ n₀ p c q = record {
       new = n;
       remembered = record {
@@ -179,7 +179,7 @@ module _ {table index : List ℕ} {f : ℕ} {marks four : List ℕ} {rank i : �
       };
     }
       where
-        n : New table f marks cs i marks′ r
+        n : MarkedNew table f marks cs i marks′ r
         n = rw part-is at n₀
 
         len : length (setOver table f marks cs) ≡ sizeOf table

@@ -11,8 +11,8 @@ packed [] = 0
 packed (c ∷ cs) = packed cs * 8192 + c + 1
 
 -- the key of a step: the symbol's number and 1 is below 512
-unfoldable pub keyOf : ℕ → List ℕ → ℕ
-keyOf f cs = packed cs * 512 + f + 1
+unfoldable pub stepKey : ℕ → List ℕ → ℕ
+stepKey f cs = packed cs * 512 + f + 1
 
 -- four nodes, each below 4,096, of which the last `rank` are asked for
 pub record Packable (four : List ℕ) (rank : ℕ) : Type 0 where

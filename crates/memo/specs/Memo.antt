@@ -11,7 +11,7 @@ use Rattle.operations.specs.Marks.{sizeOf, storedSet}
 use Rattle.step.specs.Ready.{childSets}
 use Rattle.step.specs.Closure.{Closures}
 use Rattle.step.specs.Node.{Steppable}
-use Rattle.memo.specs.Key.{keyOf, Keyable}
+use Rattle.memo.specs.Key.{stepKey, Keyable}
 
 -- the state set of a node with symbol f over children with the stored sets of these nodes
 unfoldable pub setOver : List ℕ → ℕ → List ℕ → List ℕ → StateSet
@@ -36,7 +36,7 @@ pub data Represents (marks : List ℕ) (set : StateSet) (i r : ℕ) : Type 0 whe
 -- A slot is empty, or it holds the key of a symbol and nodes before i, and such a node that has the state set over these.
 pub data Slot (table marks : List ℕ) (i key node : ℕ) : Type 0 where
   empty : key ≡ 0 → Slot table marks i key node
-  known : (f : ℕ) (cs : List ℕ) → f < 256 → AllBelow i cs → key ≡ keyOf f cs → node < i
+  known : (f : ℕ) (cs : List ℕ) → f < 256 → AllBelow i cs → key ≡ stepKey f cs → node < i
       → storedSet (sizeOf table) marks node ≡ setOver table f marks cs → Slot table marks i key node
 
 -- the memo before node i is marked
@@ -63,7 +63,7 @@ pub record AtNew (table index : List ℕ) (f : ℕ) (marks cs : List ℕ) (i : �
   pub places-are : length places ≡ 1021
 
 -- the marks with node i's words, and a node up to i that has the same
-pub record New (table : List ℕ) (f : ℕ) (marks cs : List ℕ) (i : ℕ) (marks′ : List ℕ) (r : ℕ) : Type 0 where
+pub record MarkedNew (table : List ℕ) (f : ℕ) (marks cs : List ℕ) (i : ℕ) (marks′ : List ℕ) (r : ℕ) : Type 0 where
   pub words : marks′ ≡ paste marks (i * sizeOf table) (setOver table f marks cs) (sizeOf table)
   pub low : r < i + 1
   pub same : storedSet (sizeOf table) marks′ r ≡ setOver table f marks cs
@@ -76,6 +76,6 @@ pub record AtNext (table index : List ℕ) (f : ℕ) (marks four : List ℕ) (ra
   pub remembered : Remembered table marks i keys nodes places owners rows pending
 
 -- what it leaves
-pub record Next (table : List ℕ) (f : ℕ) (marks cs : List ℕ) (i : ℕ) (marks′ : List ℕ) (r : ℕ) (keys nodes places owners rows pending : List ℕ) : Type 0 where
-  pub new : New table f marks cs i marks′ r
+pub record MarkedNext (table : List ℕ) (f : ℕ) (marks cs : List ℕ) (i : ℕ) (marks′ : List ℕ) (r : ℕ) (keys nodes places owners rows pending : List ℕ) : Type 0 where
+  pub new : MarkedNew table f marks cs i marks′ r
   pub remembered : Remembered table marks′ (i + 1) keys nodes places owners rows pending

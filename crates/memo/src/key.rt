@@ -2,7 +2,7 @@
 ghost use mathlib.Core.Path.{_≡_};
 ghost use Prim.Native.Nat.{_-_, _<_};
 ghost use lib.ListN.{drop};
-ghost use Rattle.memo.specs.Key.{packed, keyOf, Packable, Keyable};
+ghost use Rattle.memo.specs.Key.{packed, stepKey, Packable, Keyable};
 
 // A digit is a child's number and 1, so that each list has a number of its own, whatever its length.
 const DIGITS: u64 = 8192;
@@ -40,9 +40,9 @@ fn pack(four: &[u32], rank: usize) -> u64
 }
 
 // The key; it is not 0.
-pub(crate) fn key_of(symbol: u32, four: &[u32], rank: usize) -> u64
+pub(crate) fn step_key(symbol: u32, four: &[u32], rank: usize) -> u64
     requires { ⌜ Keyable symbol (now four) rank ⌝ }
-    ensures { λ r. ⌜ r ≡ keyOf symbol (drop (4 - rank) (now (four .entry))) ⌝ }
+    ensures { λ r. ⌜ r ≡ stepKey symbol (drop (4 - rank) (now (four .entry))) ⌝ }
 {
     pack(four, rank) * SYMBOLS + symbol as u64 + 1
 }

@@ -2,5 +2,5 @@
 // with one state set an earlier one stands for the others, so that a node's symbol and the representatives of its children
 // are a key under which its own representative is found.
 mod key;
-pub mod marking;
+pub mod lookup;
 mod representative;

@@ -3,6 +3,6 @@ pub mod RootLaws
 pub mod WorkedLaws
 pub mod MarkLaws
 pub mod WorkableLaws
-pub mod StackLaws
+pub mod RootStackLaws
 pub mod NodeLaws
 pub mod NodesLaws

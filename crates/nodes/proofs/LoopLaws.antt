@@ -21,15 +21,15 @@ setAt sets k = getD sets k []
 
 module _ (a table ch : List ℕ) where
   -- one node, from the sets as they now stand
-  unfoldable pub setFrom : ℕ → List StateSet → StateSet
-  setFrom i sets = nodeSet table (getD ch i 0) (map (setAt sets) (childrenOf a ch i))
+  unfoldable pub setFromSets : ℕ → List StateSet → StateSet
+  setFromSets i sets = nodeSet table (getD ch i 0) (map (setAt sets) (childrenOf a ch i))
 
   abbrev step : ℕ → List StateSet → StateSet
   step = nodeSet table
 
   -- the sets that the stack names are the stack of sets
-  pub set-of : (i : ℕ) (sets stack : List StateSet) → map (setAt sets) (numbers (arity a) ch i) ≡ stack → setFrom i sets ≡ valueOn a step (getD ch i 0) stack
-  unfolding setFrom
+  pub set-of : (i : ℕ) (sets stack : List StateSet) → map (setAt sets) (numbers (arity a) ch i) ≡ stack → setFromSets i sets ≡ valueOn a step (getD ch i 0) stack
+  unfolding setFromSets
   set-of i sets stack e = children-value (arity a) ch step (setAt sets) i stack e
 
   -- one node more on the stack, its set just written
@@ -67,13 +67,13 @@ module _ (a table ch : List ℕ) where
         }
 
     pub recomputing-more : (k : ℕ) (sets : List StateSet) → i + k < length ch → i + k < length old → length sets ≡ length old → Recomputing old i σ k sets
-        → Recomputing old i σ (suc k) (set sets (i + k) (setFrom (i + k) sets))
+        → Recomputing old i σ (suc k) (set sets (i + k) (setFromSets (i + k) sets))
     unfolding valuesBy stackAfterBy
     recomputing-more k sets h l n g =
         let w = getD ch (i + k) 0 in
         let run = slice i (i + k) ch in
         let st = stackAfter a step run σ in
-        let v = setFrom (i + k) sets in
+        let v = setFromSets (i + k) sets in
         let e : v ≡ valueOn a step w st = set-of (i + k) sets st (g .stack-is) in
         let one : slice i (i + suc k) ch ≡ run ++ w ∷ [] =
         ap (λ (j : ℕ). slice i j ch) (add-suc i k) ∙ ap (drop i) (take-suc ch (i + k) 0 h)

@@ -21,25 +21,25 @@ use Rattle.nodes.proofs.RootLaws.{children-below}
 use Rattle.nodes.proofs.WorkedLaws.{workedFrom, length-worked, worked-is}
 
 -- the marks begin with these state sets
-pub record Holding (size : ℕ) (marks : List ℕ) (rows : List StateSet) (rest : List ℕ) : Type 0 where
+pub record MarksHolding (size : ℕ) (marks : List ℕ) (rows : List StateSet) (rest : List ℕ) : Type 0 where
   pub words : marks ≡ flatten rows ++ rest
   pub sized : Sized size rows
 
 -- the first n sets of a slice that is long enough
 pub holding-stored : (size : ℕ) (marks : List ℕ) (n : ℕ) → n * size ≤ length marks
-    → Holding size marks (listFrom (storedSet size marks) 0 n) (drop (n * size) marks)
+    → MarksHolding size marks (listFrom (storedSet size marks) 0 n) (drop (n * size) marks)
 holding-stored size marks n h = record {
   words = stored-split size marks n;
   sized = sized-stored size marks n 0 (rw (zero-add n) h);
 }
 
-pub holding-set : (size : ℕ) (marks : List ℕ) (rows : List StateSet) (rest : List ℕ) (k : ℕ) → Holding size marks rows rest → k < length rows
+pub holding-set : (size : ℕ) (marks : List ℕ) (rows : List StateSet) (rest : List ℕ) (k : ℕ) → MarksHolding size marks rows rest → k < length rows
     → storedSet size marks k ≡ setAt rows k
 holding-set size marks rows rest k g l =
     ap (λ (m : List ℕ). storedSet size m k) (g .words) ∙ storedSet-flatten size rows rest k (g .sized) l
 
-pub holding-write : (size : ℕ) (marks : List ℕ) (rows : List StateSet) (rest : List ℕ) (i : ℕ) (v : StateSet) → Holding size marks rows rest
-    → length v ≡ size → i < length rows → Holding size (paste marks (i * size) v size) (set rows i v) rest
+pub holding-write : (size : ℕ) (marks : List ℕ) (rows : List StateSet) (rest : List ℕ) (i : ℕ) (v : StateSet) → MarksHolding size marks rows rest
+    → length v ≡ size → i < length rows → MarksHolding size (paste marks (i * size) v size) (set rows i v) rest
 holding-write size marks rows rest i v g e l = record {
   words =
       ap₂ (λ (m : List ℕ) (n : ℕ). paste m (i * size) v n) (g .words) (sym e)
@@ -56,25 +56,25 @@ module _ (a table ch : List ℕ) where
   length-setFrom marks i = length-nodeSet table (getD ch i 0) _
 
   -- node i's state set from the marks is the one from the list of state sets
-  pub setFrom-rows : (marks : List ℕ) (rows : List StateSet) (rest : List ℕ) (i : ℕ) → Holding (sizeOf table) marks rows rest → i ≤ length rows
-      → i ≤ length ch → setFrom a table ch marks i ≡ loops.setFrom a table ch i rows
-  unfolding setFrom loops.setFrom
+  pub setFrom-rows : (marks : List ℕ) (rows : List StateSet) (rest : List ℕ) (i : ℕ) → MarksHolding (sizeOf table) marks rows rest → i ≤ length rows
+      → i ≤ length ch → setFrom a table ch marks i ≡ loops.setFromSets a table ch i rows
+  unfolding setFrom loops.setFromSets
   setFrom-rows marks rows rest i g l h =
       ap (nodeSet table (getD ch i 0))
       (map-below (storedSet size marks) (setAt rows) i (childrenOf a ch i) (children-below a ch i h)
       (λ k m. holding-set size marks rows rest k g (omega arith)))
 
   -- node i, worked out and written
-  pub markedAt-rows : (marks : List ℕ) (rows : List StateSet) (rest : List ℕ) (i : ℕ) → Holding (sizeOf table) marks rows rest → i < length rows
-      → i ≤ length ch → Holding (sizeOf table) (markedAt a table ch i marks) (set rows i (loops.setFrom a table ch i rows)) rest
+  pub markedAt-rows : (marks : List ℕ) (rows : List StateSet) (rest : List ℕ) (i : ℕ) → MarksHolding (sizeOf table) marks rows rest → i < length rows
+      → i ≤ length ch → MarksHolding (sizeOf table) (markedAt a table ch i marks) (set rows i (loops.setFromSets a table ch i rows)) rest
   unfolding markedAt
   markedAt-rows marks rows rest i g l h =
       rw (← setFrom-rows marks rows rest i g (omega arith) h)
       (holding-write size marks rows rest i (setFrom a table ch marks i) g (length-setFrom marks i) l)
 
-  pub markedFrom-rows : (marks : List ℕ) (rows : List StateSet) (rest : List ℕ) (i n : ℕ) → Holding (sizeOf table) marks rows rest
+  pub markedFrom-rows : (marks : List ℕ) (rows : List StateSet) (rest : List ℕ) (i n : ℕ) → MarksHolding (sizeOf table) marks rows rest
       → i + n ≤ length rows → i + n ≤ length ch
-      → Holding (sizeOf table) (markedFrom a table ch i n marks) (workedFrom a table ch i n rows) rest
+      → MarksHolding (sizeOf table) (markedFrom a table ch i n marks) (workedFrom a table ch i n rows) rest
   unfolding markedFrom workedFrom
   markedFrom-rows marks rows rest i zero g l h = g
   markedFrom-rows marks rows rest i (suc n) g l h =

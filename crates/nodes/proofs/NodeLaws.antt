@@ -20,14 +20,14 @@ use Rattle.step.proofs.FollowLaws.{states-most}
 use Rattle.step.proofs.SymbolLaws.{prepared-checked}
 use Rattle.slices.proofs.RefitLaws.{take-drop}
 use Rattle.sets.proofs.StoredLaws.{row-inside, stored-written}
-use Rattle.memo.specs.Memo.{setOver, AtNext, Next}
+use Rattle.memo.specs.Memo.{setOver, AtNext, MarkedNext}
 use Rattle.memo.proofs.MarkingLaws.{length-setOver}
 use Rattle.memo.proofs.MemoLaws.{stored-kept}
-use Rattle.nodes.specs.Nodes.{rootsOf, setFrom, markedAt, TreeOver}
-use Rattle.nodes.specs.Marking.{Represented, AtNode, Prepared as Kept}
+use Rattle.nodes.specs.Nodes.{rootsOf, setFrom, markedAt, BoundedTree}
+use Rattle.nodes.specs.Marking.{Represented, AtNode, Maintained}
 use Rattle.nodes.proofs.RootLaws.{drop-reverse, below-getD, roots-few}
 use Rattle.nodes.proofs.WorkableLaws.{node-arity}
-use Rattle.nodes.proofs.StackLaws.{nodes-fit, stack-fits, stack-room, represented-more}
+use Rattle.nodes.proofs.RootStackLaws.{nodes-fit, stack-fits, stack-height, represented-more}
 
 below-up : (m n : ℕ) → m ≤ n → (l : List ℕ) → AllBelow m l → AllBelow n l
 below-up m n h [] b = tt
@@ -47,7 +47,7 @@ module _ {a table index ch : List ℕ} {i : ℕ} {marks array : List ℕ} {heigh
   stacked : Represented a table ch i marks array height
   stacked = g .prepared .represented
 
-  tree : TreeOver a ch
+  tree : BoundedTree a ch
   tree = g .workable .tree
 
   abbrev nodes : List ℕ
@@ -65,11 +65,11 @@ module _ {a table index ch : List ℕ} {i : ℕ} {marks array : List ℕ} {heigh
   pub node-fits : r ≤ height
   node-fits = stack-fits (g .prepared .represented) (g .workable .tree) (g .inside) r e
 
-  pub node-room : height < length array
-  node-room = stack-room (g .prepared .represented) (g .workable .tree) (g .inside) r e
+  pub node-height : height < length array
+  node-height = stack-height (g .prepared .represented) (g .workable .tree) (g .inside) r e
 
   pub node-few : height ≤ 4100
-  node-few = let m = node-room in omega (arith, g .prepared .represented .long)
+  node-few = let m = node-height in omega (arith, g .prepared .represented .long)
 
   -- the four words on top of the stack
   abbrev four : List ℕ
@@ -81,7 +81,7 @@ module _ {a table index ch : List ℕ} {i : ℕ} {marks array : List ℕ} {heigh
   four-length : length four ≡ 4
   four-length =
       let l = node-low in
-      let m = node-room in
+      let m = node-height in
       ap length four-is ∙ length-drop (height - 4) (take height array)
       ∙ ap (λ (n : ℕ). n - (height - 4)) (length-take-le height array (omega arith)) ∙ omega arith
 
@@ -129,10 +129,10 @@ module _ {a table index ch : List ℕ} {i : ℕ} {marks array : List ℕ} {heigh
   rows-inside k l =
       let h = g .inside in
       row-inside (getD (drop (4 - r) four) k 0) (length ch) (sizeOf table) (length marks)
-      (omega (arith, below-getD i (drop (4 - r) four) k part-below l)) (g .workable .marks-room)
+      (omega (arith, below-getD i (drop (4 - r) four) k part-below l)) (g .workable .marks-fit)
 
   row : i * sizeOf table + sizeOf table ≤ length marks
-  row = row-inside i (length ch) (sizeOf table) (length marks) (g .inside) (g .workable .marks-room)
+  row = row-inside i (length ch) (sizeOf table) (length marks) (g .inside) (g .workable .marks-fit)
 
   ready : Prepared table index (symbolOf (getD ch i 0)) marks (drop (4 - r) four)
   ready =
@@ -156,7 +156,7 @@ module _ {a table index ch : List ℕ} {i : ℕ} {marks array : List ℕ} {heigh
           steppable = record {
             prepared = ready;
             closures = k .closures;
-            room = omega (arith, states-most (prepared-checked ready), k .pending-are);
+            fits = omega (arith, states-most (prepared-checked ready), k .pending-are);
           };
           few = few;
           row = row;
@@ -176,7 +176,7 @@ module _ {a table index ch : List ℕ} {i : ℕ} {marks array : List ℕ} {heigh
 
   -- node i is marked, and its representative is on the stack
   module _ {node : ℕ} {marks′ keys′ known′ places′ owners′ rows′ pending′ : List ℕ}
-      (n : Next table (symbolOf (getD ch i 0)) marks (drop (4 - r) four) i marks′ node keys′ known′ places′ owners′ rows′ pending′) where
+      (n : MarkedNext table (symbolOf (getD ch i 0)) marks (drop (4 - r) four) i marks′ node keys′ known′ places′ owners′ rows′ pending′) where
     abbrev v : StateSet
     v = setOver table (symbolOf (getD ch i 0)) marks (drop (4 - r) four)
 
@@ -184,7 +184,7 @@ module _ {a table index ch : List ℕ} {i : ℕ} {marks array : List ℕ} {heigh
     unfolding markedAt
     node-words = n .new .words ∙ ap (λ (l : List ℕ). paste marks (i * size) l size) set-is
 
-    pub node-kept : Kept a table ch (i + 1) marks′ (set array (height - r) node) (height - r + 1) keys′ known′ places′ owners′ rows′ pending′
+    pub node-kept : Maintained a table ch (i + 1) marks′ (set array (height - r) node) (height - r + 1) keys′ known′ places′ owners′ rows′ pending′
     node-kept =
         let long = length-setOver table (symbolOf w) marks (drop (4 - r) four) in
         record {

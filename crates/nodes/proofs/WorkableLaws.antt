@@ -14,15 +14,15 @@ use Rattle.words.proofs.TestLaws.{and-true, all-right}
 use Rattle.words.proofs.WordLaws.{isNode-facts}
 use Rattle.automaton.proofs.TableLaws.{isTable-tables, isTable-sizes}
 use Rattle.operations.specs.Marks.{sizeOf}
-use Rattle.nodes.specs.Nodes.{TreeOver, Workable}
+use Rattle.nodes.specs.Nodes.{BoundedTree, Workable}
 
 -- a state set has at most 32 words
-pub size-few : {a table ch : List ℕ} {room : ℕ} → Workable a table ch room → sizeOf table ≤ 32
+pub workable-size : {a table ch : List ℕ} {marksLength : ℕ} → Workable a table ch marksLength → sizeOf table ≤ 32
 unfolding sizeOf
-size-few {a} {table} g = isTable-sizes a table (g .checked) .size-most
+workable-size {a} {table} g = isTable-sizes a table (g .checked) .size-most
 
 -- a table has at most 2,048 words
-pub table-few : {a table ch : List ℕ} {room : ℕ} → Workable a table ch room → length table ≤ 2048
+pub table-few : {a table ch : List ℕ} {marksLength : ℕ} → Workable a table ch marksLength → length table ≤ 2048
 table-few {a} {table} g = isTable-tables a (omega (arith, g .alphabet)) table .0 (g .checked) .fits
 
 node-word : (a ch : List ℕ) (i : ℕ) → all (isNode a) ch ≡ true → i < length ch → isNode a (getD ch i 0) ≡ true
@@ -32,7 +32,7 @@ node-word a ch i h l =
     and-true (isNode a w) (all (isNode a) (drop (suc i) ch)) (all-right (isNode a) (take i ch) (w ∷ drop (suc i) ch) t) .0
 
 -- a node takes as many children as its symbol's rank
-pub node-arity : {a ch : List ℕ} → TreeOver a ch → (i : ℕ) → i < length ch → arity a (getD ch i 0) ≡ rankOf a (symbolOf (getD ch i 0))
+pub node-arity : {a ch : List ℕ} → BoundedTree a ch → (i : ℕ) → i < length ch → arity a (getD ch i 0) ≡ rankOf a (symbolOf (getD ch i 0))
 node-arity {a} {ch} g i l = isNode-facts a (getD ch i 0) (node-word a ch i (g .nodes) l) .arity-rank
 
 -- marks of the same length serve as well

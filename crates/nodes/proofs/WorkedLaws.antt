@@ -5,14 +5,14 @@ use Prim.Native.Nat.{ℕ, zero, suc, _+_, _≤_}
 use native.Mathlib.Omega.{arith}
 use lib.ListN.{length, set, length-set}
 use Rattle.automaton.specs.StateSet.{StateSet}
-use Rattle.nodes.proofs.LoopLaws.{setAt, setFrom, Recomputing, recomputing-none, recomputing-more}
+use Rattle.nodes.proofs.LoopLaws.{setAt, setFromSets, Recomputing, recomputing-none, recomputing-more}
 use Rattle.nodes.specs.Nodes.{rootsOf}
 
 module _ (a table ch : List ℕ) where
   -- the state sets behind n nodes from node i on
   unfoldable pub workedFrom : ℕ → ℕ → List StateSet → List StateSet
   workedFrom i zero rows = rows
-  workedFrom i (suc n) rows = let before = workedFrom i n rows in set before (i + n) (setFrom a table ch (i + n) before)
+  workedFrom i (suc n) rows = let before = workedFrom i n rows in set before (i + n) (setFromSets a table ch (i + n) before)
 
   pub length-worked : (i n : ℕ) (rows : List StateSet) → length (workedFrom i n rows) ≡ length rows
   unfolding workedFrom

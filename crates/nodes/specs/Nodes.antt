@@ -45,18 +45,18 @@ pub record Pushable (a ch : List ℕ) (i : ℕ) (array : List ℕ) (height : ℕ
   pub inside : i < length ch
   pub few : i < 4096
   pub fits : rankOf a (symbolOf (getD ch i 0)) ≤ height
-  pub room : height < length array
+  pub height-inside : height < length array
   pub small : length array ≤ 4100
 
 -- a tree over the alphabet, of no more than 4,096 nodes
-pub record TreeOver (a ch : List ℕ) : Type 0 where
+pub record BoundedTree (a ch : List ℕ) : Type 0 where
   pub nodes : all (isNode a) ch ≡ true
   pub tree : oneTree a ch ≡ true
   pub few : length ch ≤ 4096
 
 -- what filling the stack with the roots of the first `count` nodes asks
 pub record Stackable (a ch : List ℕ) (count : ℕ) (array : List ℕ) : Type 0 where
-  pub tree : TreeOver a ch
+  pub tree : BoundedTree a ch
   pub within : count ≤ length ch
   pub long : length array ≡ 4100
   pub zeros : take 4 array ≡ replicate 4 0
@@ -64,9 +64,9 @@ pub record Stackable (a ch : List ℕ) (count : ℕ) (array : List ℕ) : Type 0
 -- ---- what working out nodes asks
 
 -- a tree over the alphabet and a table for it; the marks slice has room for its state sets; no symbol has a rank above 4
-pub record Workable (a table ch : List ℕ) (room : ℕ) : Type 0 where
+pub record Workable (a table ch : List ℕ) (marksLength : ℕ) : Type 0 where
   pub alphabet : length a ≤ 64
   pub ranks : (f : ℕ) → rankOf a f ≤ 4
   pub checked : isTable a table ≡ true
-  pub tree : TreeOver a ch
-  pub marks-room : length ch * sizeOf table ≤ room
+  pub tree : BoundedTree a ch
+  pub marks-fit : length ch * sizeOf table ≤ marksLength

@@ -3,9 +3,9 @@
 ghost use mathlib.Core.Path.{_≡_};
 ghost use Prim.Native.Nat.{_+_, _-_};
 ghost use Rattle.nodes.specs.Nodes.{markedAt, markedFrom};
-ghost use Rattle.nodes.specs.Marking.{Prepared, AtNode, AtNodes};
+ghost use Rattle.nodes.specs.Marking.{Maintained, AtNode, AtNodes};
 use super::stack::STACK_BASE;
-use memo::marking::mark_next;
+use memo::lookup::mark_next;
 use words::alphabet::rank;
 use words::word::LOW_BYTE;
 
@@ -33,7 +33,7 @@ pub fn mark_node(
         now (marks .exit) ≡ markedAt (now (alphabet .entry)) (now (table .entry)) (now (nodes .entry)) i (now (marks .entry))
         ⌝ }
     ensures kept { λ r. ⌜
-        Prepared (now (alphabet .entry)) (now (table .entry)) (now (nodes .entry)) (i + 1) (now (marks .exit)) (now (stack .exit)) r (now (keys .exit)) (now (known .exit)) (now (places .exit)) (now (owners .exit)) (now (rows .exit)) (now (pending .exit))
+        Maintained (now (alphabet .entry)) (now (table .entry)) (now (nodes .entry)) (i + 1) (now (marks .exit)) (now (stack .exit)) r (now (keys .exit)) (now (known .exit)) (now (places .exit)) (now (owners .exit)) (now (rows .exit)) (now (pending .exit))
         ⌝ }
 {
     let symbol = nodes[i] % LOW_BYTE;
@@ -84,7 +84,7 @@ pub fn mark_nodes(
         ≡ markedFrom (now (alphabet .entry)) (now (table .entry)) (now (nodes .entry)) from (to - from) (now (marks .entry))
         ⌝ }
     ensures kept { λ r. ⌜
-        Prepared (now (alphabet .entry)) (now (table .entry)) (now (nodes .entry)) to (now (marks .exit)) (now (stack .exit)) r (now (keys .exit)) (now (known .exit)) (now (places .exit)) (now (owners .exit)) (now (rows .exit)) (now (pending .exit))
+        Maintained (now (alphabet .entry)) (now (table .entry)) (now (nodes .entry)) to (now (marks .exit)) (now (stack .exit)) r (now (keys .exit)) (now (known .exit)) (now (places .exit)) (now (owners .exit)) (now (rows .exit)) (now (pending .exit))
         ⌝ }
 {
     let mut top = height;

@@ -41,31 +41,31 @@ unfolding noTable
 table-right a table h = not-false (isTable a table) h
 
 -- 9
-pub record Counted (n : ℕ) : Type 0 where
+pub record ElementCount (n : ℕ) : Type 0 where
   pub some : 0 < n
   pub few : n ≤ 4096
 
-pub count-right : (n : ℕ) → wrongCount n ≡ false → Counted n
+pub count-right : (n : ℕ) → wrongCount n ≡ false → ElementCount n
 unfolding wrongCount
 count-right n h =
     let p = or-false (eqb n 0) (ltb 4096 n) h in
     let z = eqb-false n 0 (p .0) in
     record { some = omega arith; few = ltb-false 4096 n (p .1) }
 
-pub right-count : (n : ℕ) → Counted n → wrongCount n ≡ false
+pub right-count : (n : ℕ) → ElementCount n → wrongCount n ≡ false
 unfolding wrongCount
 right-count n c = let s = c .some in false-or (eqb n 0) (ltb 4096 n) (ne-eqb n 0 (omega arith)) (le-ltb 4096 n (c .few))
 
 -- 9 of Exchange
-pub record Used (n treeRoom : ℕ) : Type 0 where
-  pub counted : Counted n
-  pub within : n ≤ treeRoom
+pub record Used (n chapterLength : ℕ) : Type 0 where
+  pub counted : ElementCount n
+  pub within : n ≤ chapterLength
 
-pub use-right : (n treeRoom : ℕ) → wrongUsedCount n treeRoom ≡ false → Used n treeRoom
+pub used-count-right : (n chapterLength : ℕ) → wrongUsedCount n chapterLength ≡ false → Used n chapterLength
 unfolding wrongUsedCount
-use-right n treeRoom h =
-    let p = or-false (wrongCount n) (ltb treeRoom n) h in
-    record { counted = count-right n (p .0); within = ltb-false treeRoom n (p .1) }
+used-count-right n chapterLength h =
+    let p = or-false (wrongCount n) (ltb chapterLength n) h in
+    record { counted = count-right n (p .0); within = ltb-false chapterLength n (p .1) }
 
 -- 10 and 11
 pub nodes-right : (a ch : List ℕ) → notNodes a ch ≡ false → all (isNode a) ch ≡ true
@@ -85,17 +85,17 @@ unfolding notOneTree
 right-tree a ch h = rw h
 
 -- 12
-pub marks-fit : (table : List ℕ) (n room : ℕ) → marksTooShort table n room ≡ false → n * sizeOf table ≤ room
+pub marks-fit : (table : List ℕ) (n marksLength : ℕ) → marksTooShort table n marksLength ≡ false → n * sizeOf table ≤ marksLength
 unfolding marksTooShort
-marks-fit table n room h = ltb-false room (n * sizeOf table) h
+marks-fit table n marksLength h = ltb-false marksLength (n * sizeOf table) h
 
-pub fit-marks : (table : List ℕ) (n room : ℕ) → n * sizeOf table ≤ room → marksTooShort table n room ≡ false
+pub fit-marks : (table : List ℕ) (n marksLength : ℕ) → n * sizeOf table ≤ marksLength → marksTooShort table n marksLength ≡ false
 unfolding marksTooShort
-fit-marks table n room h = le-ltb room (n * sizeOf table) h
+fit-marks table n marksLength h = le-ltb marksLength (n * sizeOf table) h
 
 -- 15
 pub record Replacement (a xs : List ℕ) : Type 0 where
-  pub counted : Counted (length xs)
+  pub counted : ElementCount (length xs)
   pub nodes : all (isNode a) xs ≡ true
   pub tree : oneTree a xs ≡ true
 
@@ -107,21 +107,21 @@ replacement-right a xs h =
     record { counted = count-right (length xs) (p .0); nodes = r .0; tree = r .1 }
 
 -- 16
-pub record ResultFits (table : List ℕ) (n treeRoom marksRoom : ℕ) : Type 0 where
+pub record ResultFits (table : List ℕ) (n chapterLength marksLength : ℕ) : Type 0 where
   pub few : n ≤ 4096
-  pub elements : n ≤ treeRoom
-  pub marks : n * sizeOf table ≤ marksRoom
+  pub elements : n ≤ chapterLength
+  pub marks : n * sizeOf table ≤ marksLength
 
-pub result-right : (table : List ℕ) (n treeRoom marksRoom : ℕ) → resultTooLong table n treeRoom marksRoom ≡ false
-    → ResultFits table n treeRoom marksRoom
+pub result-right : (table : List ℕ) (n chapterLength marksLength : ℕ) → resultTooLong table n chapterLength marksLength ≡ false
+    → ResultFits table n chapterLength marksLength
 unfolding resultTooLong
-result-right table n treeRoom marksRoom h =
-    let p = or-false (ltb 4096 n || ltb treeRoom n) (marksTooShort table n marksRoom) h in
-    let q = or-false (ltb 4096 n) (ltb treeRoom n) (p .0) in
+result-right table n chapterLength marksLength h =
+    let p = or-false (ltb 4096 n || ltb chapterLength n) (marksTooShort table n marksLength) h in
+    let q = or-false (ltb 4096 n) (ltb chapterLength n) (p .0) in
     record {
       few = ltb-false 4096 n (q .0);
-      elements = ltb-false treeRoom n (q .1);
-      marks = marks-fit table n marksRoom (p .1);
+      elements = ltb-false chapterLength n (q .1);
+      marks = marks-fit table n marksLength (p .1);
     }
 
 -- ---- Compile
@@ -162,25 +162,25 @@ module _ {a e : List ℕ} (g : RuleAccepted a e) where
   pub rule-expression : expressionFault a e ≡ 0
   rule-expression = none-refusal (expressionRefusals a e) (g .few, (g .words, (g .tree, tt)))
 
--- `room` is the length of the table slice
-pub record CompilePassed (a e : List ℕ) (room : ℕ) : Type 0 where
+-- `tableLength` is the length of the table slice
+pub record CompilePassed (a e : List ℕ) (tableLength : ℕ) : Type 0 where
   -- 1 to 6
   pub rule : RuleAccepted a e
   -- 7
-  pub fits : length (compiledTable a e) ≤ room
+  pub fits : length (compiledTable a e) ≤ tableLength
 
-pub compile-passed : (a e : List ℕ) (room : ℕ) → compileFault a e room ≡ 0 → CompilePassed a e room
+pub compile-passed : (a e : List ℕ) (tableLength : ℕ) → compileFault a e tableLength ≡ 0 → CompilePassed a e tableLength
 unfolding tableTooLong
-compile-passed a e room h =
-    let p = parts-pass (ruleRefusals a e) ((7, tableTooLong a e room) ∷ []) refl h in
+compile-passed a e tableLength h =
+    let p = parts-pass (ruleRefusals a e) ((7, tableTooLong a e tableLength) ∷ []) refl h in
     record {
       rule = rule-accepted a e (p .0);
-      fits = ltb-false room (length (compiledTable a e)) (none-applies ((7, tableTooLong a e room) ∷ []) refl (p .1) 7);
+      fits = ltb-false tableLength (length (compiledTable a e)) (none-applies ((7, tableTooLong a e tableLength) ∷ []) refl (p .1) 7);
     }
 
 -- ---- Run
 
-pub record RunAccepted (a table p : List ℕ) (room : ℕ) : Type 0 where
+pub record RunAccepted (a table p : List ℕ) (marksLength : ℕ) : Type 0 where
   -- 1
   pub alphabet : noAlphabet a ≡ false
   -- 2
@@ -188,18 +188,18 @@ pub record RunAccepted (a table p : List ℕ) (room : ℕ) : Type 0 where
   -- 8
   pub automaton : noTable a table ≡ false
   -- 9
-  pub counted : Counted (length p)
+  pub counted : ElementCount (length p)
   -- 10
   pub nodes : all (isNode a) p ≡ true
   -- 11
   pub tree : oneTree a p ≡ true
   -- 12
-  pub marks : length p * sizeOf table ≤ room
+  pub marks : length p * sizeOf table ≤ marksLength
 
-module _ (a table p : List ℕ) (room : ℕ) where
-  pub run-accepted : runFault a table p room ≡ 0 → RunAccepted a table p room
+module _ (a table p : List ℕ) (marksLength : ℕ) where
+  pub run-accepted : runFault a table p marksLength ≡ 0 → RunAccepted a table p marksLength
   run-accepted h =
-      let rs = runRefusals a table p room in
+      let rs = runRefusals a table p marksLength in
       let not-so : (n : ℕ) → conditionOf n rs ≡ false = none-applies rs refl h in
       record {
         alphabet = not-so 1;
@@ -208,10 +208,10 @@ module _ (a table p : List ℕ) (room : ℕ) where
         counted = count-right (length p) (not-so 9);
         nodes = nodes-right a p (not-so 10);
         tree = tree-right a p (not-so 11);
-        marks = marks-fit table (length p) room (not-so 12);
+        marks = marks-fit table (length p) marksLength (not-so 12);
       }
 
-  pub accepted-run : RunAccepted a table p room → runFault a table p room ≡ 0
+  pub accepted-run : RunAccepted a table p marksLength → runFault a table p marksLength ≡ 0
   accepted-run g =
       rw (
         g .alphabet,
@@ -220,12 +220,12 @@ module _ (a table p : List ℕ) (room : ℕ) where
         right-count (length p) (g .counted),
         right-nodes a p (g .nodes),
         right-tree a p (g .tree),
-        fit-marks table (length p) room (g .marks),
+        fit-marks table (length p) marksLength (g .marks),
       )
 
 -- ---- List
 
-pub record ListAccepted (a table : List ℕ) (n room listRoom : ℕ) : Type 0 where
+pub record ListAccepted (a table : List ℕ) (n marksLength listLength : ℕ) : Type 0 where
   -- 1
   pub alphabet : noAlphabet a ≡ false
   -- 2
@@ -233,28 +233,28 @@ pub record ListAccepted (a table : List ℕ) (n room listRoom : ℕ) : Type 0 wh
   -- 8
   pub automaton : noTable a table ≡ false
   -- 9
-  pub counted : Counted n
+  pub counted : ElementCount n
   -- 12
-  pub marks : n * sizeOf table ≤ room
+  pub marks : n * sizeOf table ≤ marksLength
   -- 13
-  pub list : n ≤ listRoom
+  pub list : n ≤ listLength
 
-module _ (a table : List ℕ) (n room listRoom : ℕ) where
-  pub list-accepted : listFault a table n room listRoom ≡ 0 → ListAccepted a table n room listRoom
+module _ (a table : List ℕ) (n marksLength listLength : ℕ) where
+  pub list-accepted : listFault a table n marksLength listLength ≡ 0 → ListAccepted a table n marksLength listLength
   unfolding listTooShort
   list-accepted h =
-      let rs = listRefusals a table n room listRoom in
+      let rs = listRefusals a table n marksLength listLength in
       let not-so : (k : ℕ) → conditionOf k rs ≡ false = none-applies rs refl h in
       record {
         alphabet = not-so 1;
         constants = not-so 2;
         automaton = not-so 8;
         counted = count-right n (not-so 9);
-        marks = marks-fit table n room (not-so 12);
-        list = ltb-false listRoom n (not-so 13);
+        marks = marks-fit table n marksLength (not-so 12);
+        list = ltb-false listLength n (not-so 13);
       }
 
-  pub accepted-list : ListAccepted a table n room listRoom → listFault a table n room listRoom ≡ 0
+  pub accepted-list : ListAccepted a table n marksLength listLength → listFault a table n marksLength listLength ≡ 0
   unfolding listTooShort
   accepted-list g =
       rw (
@@ -262,13 +262,13 @@ module _ (a table : List ℕ) (n room listRoom : ℕ) where
         g .constants,
         g .automaton,
         right-count n (g .counted),
-        fit-marks table n room (g .marks),
-        le-ltb listRoom n (g .list),
+        fit-marks table n marksLength (g .marks),
+        le-ltb listLength n (g .list),
       )
 
 -- ---- Exchange
 
-pub record ExchangeAccepted (a table : List ℕ) (n : ℕ) (used : List ℕ) (treeRoom marksRoom e : ℕ) (xs : List ℕ) : Type 0 where
+pub record ExchangeAccepted (a table : List ℕ) (n : ℕ) (used : List ℕ) (chapterLength marksLength i : ℕ) (xs : List ℕ) : Type 0 where
   -- 1
   pub alphabet : noAlphabet a ≡ false
   -- 2
@@ -276,28 +276,28 @@ pub record ExchangeAccepted (a table : List ℕ) (n : ℕ) (used : List ℕ) (tr
   -- 8
   pub automaton : noTable a table ≡ false
   -- 9
-  pub counted : Counted n
-  pub within : n ≤ treeRoom
+  pub counted : ElementCount n
+  pub within : n ≤ chapterLength
   -- 10
   pub nodes : all (isNode a) used ≡ true
   -- 11
   pub tree : oneTree a used ≡ true
   -- 12
-  pub marks : n * sizeOf table ≤ marksRoom
+  pub marks : n * sizeOf table ≤ marksLength
   -- 14
-  pub element : e < n
+  pub element : i < n
   -- 15
   pub replacement : Replacement a xs
   -- 16
-  pub fits : ResultFits table (length (splice a used e xs)) treeRoom marksRoom
+  pub fits : ResultFits table (length (splice a used i xs)) chapterLength marksLength
 
-module _ (a table : List ℕ) (n : ℕ) (used : List ℕ) (treeRoom marksRoom e : ℕ) (xs : List ℕ) where
-  pub exchange-accepted : exchangeFault a table n used treeRoom marksRoom e xs ≡ 0 → ExchangeAccepted a table n used treeRoom marksRoom e xs
+module _ (a table : List ℕ) (n : ℕ) (used : List ℕ) (chapterLength marksLength i : ℕ) (xs : List ℕ) where
+  pub exchange-accepted : exchangeFault a table n used chapterLength marksLength i xs ≡ 0 → ExchangeAccepted a table n used chapterLength marksLength i xs
   unfolding noElement
   exchange-accepted h =
-      let rs = exchangeRefusals a table n used treeRoom marksRoom e xs in
+      let rs = exchangeRefusals a table n used chapterLength marksLength i xs in
       let not-so : (k : ℕ) → conditionOf k rs ≡ false = none-applies rs refl h in
-      let count = use-right n treeRoom (not-so 9) in
+      let count = used-count-right n chapterLength (not-so 9) in
       record {
         alphabet = not-so 1;
         constants = not-so 2;
@@ -306,8 +306,8 @@ module _ (a table : List ℕ) (n : ℕ) (used : List ℕ) (treeRoom marksRoom e 
         within = count .within;
         nodes = nodes-right a used (not-so 10);
         tree = tree-right a used (not-so 11);
-        marks = marks-fit table n marksRoom (not-so 12);
-        element = ltb-true e n (not-false (ltb e n) (not-so 14));
+        marks = marks-fit table n marksLength (not-so 12);
+        element = ltb-true i n (not-false (ltb i n) (not-so 14));
         replacement = replacement-right a xs (not-so 15);
-        fits = result-right table (length (splice a used e xs)) treeRoom marksRoom (not-so 16);
+        fits = result-right table (length (splice a used i xs)) chapterLength marksLength (not-so 16);
       }

@@ -17,7 +17,7 @@ use Rattle.words.specs.ExactlyOne.{ExactlyOne}
 use Rattle.words.proofs.ChildLaws.{values-children}
 use Rattle.words.proofs.StackLaws.{Right}
 use Rattle.language.specs.Expression.{SubjectOf}
-use Rattle.language.proofs.SubtreeLaws.{exactly-one-subtree}
+use Rattle.language.proofs.SubjectSubtreeLaws.{exactly-one-subtree}
 use Rattle.automaton.specs.Transition.{automatonOf}
 use Rattle.automaton.specs.StateSet.{StateSet, contains}
 use Rattle.automaton.specs.Reached.{Reaches}

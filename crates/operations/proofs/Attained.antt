@@ -26,13 +26,13 @@ pub data Called : Type 0 where
   compile : (a e slice : List ℕ) → Called
   run : (a table ch marks : List ℕ) → Called
   list : (a table : List ℕ) (n : ℕ) (marks slice : List ℕ) → Called
-  exchange : (a table chapter marks : List ℕ) (n e : ℕ) (xs : List ℕ) → Called
+  exchange : (a table chapter marks : List ℕ) (n i : ℕ) (xs : List ℕ) → Called
 
 abbrev pub answerTo : Called → Answer
 answerTo (compile a e slice) = compileAnswer a e slice
 answerTo (run a table ch marks) = runAnswer a table ch marks
 answerTo (list a table n marks slice) = listAnswer a table n marks slice
-answerTo (exchange a table chapter marks n e xs) = exchangeAnswer a table chapter marks n e xs
+answerTo (exchange a table chapter marks n i xs) = exchangeAnswer a table chapter marks n i xs
 
 abbrev pub Refuse : List (ℕ × Called) → Type 0
 Refuse [] = Unit {0}

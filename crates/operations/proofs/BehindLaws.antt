@@ -1,5 +1,5 @@
 -- Which nodes behind a replaced subtree are recomputed, whatever the stored state sets are: the ancestors, nearest first,
--- as long as work goes on; all others keep their stored sets.
+-- as long as work continues; all others keep their stored sets.
 use mathlib.Core.Path.{_≡_, refl, ap, ap₂, _∙_, sym, subst}
 use mathlib.Core.Bool.{Bool, true, false, not, cond, _&&_}
 use mathlib.Core.List.{List, [], _∷_}
@@ -22,11 +22,11 @@ module _ (stored : ℕ → StateSet) (above : ℕ → Bool) where
   abbrev pub endsAt : ℕ → Outcome → Bool
   endsAt j o = above j && sameWords (setIn o) (stored j)
 
-  -- a node is recomputed where work goes on and it is an ancestor; otherwise its stored set is kept
+  -- a node is recomputed where work continues and it is an ancestor; otherwise its stored set is kept
   abbrev pub chosen : ℕ → Bool → Outcome → Outcome
   chosen j on o = cond (on && above j) (recomputed (setIn o)) (kept (stored j))
 
-  -- the outcomes of the nodes from j on; `on` tells whether work goes on
+  -- the outcomes of the nodes from j on; `on` tells whether work continues
   abbrev pub Chosen : ℕ → Bool → List Outcome → Type 0
   Chosen j on [] = Unit {0}
   Chosen j on (o ∷ os) = (o ≡ chosen j on o) × Chosen (suc j) (on && not (endsAt j o)) os
@@ -55,7 +55,7 @@ module _ (stored : ℕ → StateSet) (above : ℕ → Bool) where
       go (holds x) (fails y) l m =
           subst (Chosen j true) (sym (propagate-onward a table stored above j w ws stack x y)) (rw x, rw (x, y) m)
 
-  -- the same by number: work goes on up to the node k places behind j if it goes on at j and ends at none between
+  -- the same by number: work continues up to the node k places behind j if it continues at j and ends at none between
   abbrev pub goesOnFrom : ℕ → Bool → List Outcome → ℕ → Bool
   goesOnFrom j on os k = on && all (λ i. not (endsAt (j + i) (outcomeAt os i))) (listFrom (λ i. i) 0 k)
 
@@ -108,17 +108,17 @@ is-chosen o false r s e = ap isRecomputed e
 
 -- ---- the nodes behind the replaced subtree
 
-module _ (a table : List ℕ) (stored : ℕ → StateSet) (used : List ℕ) (e : ℕ) (xs : List ℕ) where
+module _ (a table : List ℕ) (stored : ℕ → StateSet) (used : List ℕ) (element : ℕ) (xs : List ℕ) where
   abbrev behind : List ℕ
-  behind = drop (e + 1) used
+  behind = drop (element + 1) used
 
   abbrev changed : Bool
-  changed = not (sameWords (rootSet a table xs) (stored e))
+  changed = not (sameWords (rootSet a table xs) (stored element))
 
-  pub chosen-behind : Chosen stored (isAncestor a used e) (e + 1) changed (outcomesBehind a table stored used e xs)
+  pub chosen-behind : Chosen stored (isAncestor a used element) (element + 1) changed (outcomesBehind a table stored used element xs)
   unfolding outcomesBehind
-  chosen-behind = go (tested (sameWords (rootSet a table xs) (stored e)))
+  chosen-behind = go (tested (sameWords (rootSet a table xs) (stored element)))
     where
-      go : Tested (sameWords (rootSet a table xs) (stored e)) → Chosen stored (isAncestor a used e) (e + 1) changed (outcomesBehind a table stored used e xs)
-      go (holds b) = rw b (chosen-kept stored (isAncestor a used e) (length behind) (e + 1))
-      go (fails b) = rw b (chosen-propagate stored (isAncestor a used e) a table behind (e + 1) _)
+      go : Tested (sameWords (rootSet a table xs) (stored element)) → Chosen stored (isAncestor a used element) (element + 1) changed (outcomesBehind a table stored used element xs)
+      go (holds b) = rw b (chosen-kept stored (isAncestor a used element) (length behind) (element + 1))
+      go (fails b) = rw b (chosen-propagate stored (isAncestor a used element) a table behind (element + 1) _)

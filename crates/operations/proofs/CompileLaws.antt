@@ -11,7 +11,7 @@ use Rattle.words.specs.Alphabet.{noAlphabet}
 use Rattle.words.proofs.AlphabetLaws.{alphabet-most}
 use Rattle.words.specs.ExactlyOne.{ExactlyOne}
 use Rattle.language.specs.Expression.{ExpressionOf}
-use Rattle.language.proofs.AcceptedLaws.{expression-accepted}
+use Rattle.language.proofs.AcceptedWordLaws.{expression-accepted}
 use Rattle.automaton.specs.Transition.{automatonOf}
 use Rattle.automaton.specs.Numbering.{compiled}
 use Rattle.automaton.specs.Table.{noTable, AutomatonOver}

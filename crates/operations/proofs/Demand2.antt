@@ -15,7 +15,7 @@ use Rattle.words.specs.ExactlyOne.{ExactlyOne}
 use Rattle.language.specs.Expression.{Expression, ExpressionOf, SubjectOf}
 use Rattle.language.specs.Membership.{Member}
 use Rattle.language.proofs.ExpressionLaws.{expression-of}
-use Rattle.language.proofs.SubtreeLaws.{exactly-one-subtree}
+use Rattle.language.proofs.SubjectSubtreeLaws.{exactly-one-subtree}
 use Rattle.automaton.specs.Transition.{automatonOf}
 use Rattle.automaton.specs.Numbering.{compiled}
 use Rattle.automaton.specs.StateSet.{contains}

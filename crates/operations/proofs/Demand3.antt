@@ -30,57 +30,57 @@ use Rattle.operations.proofs.AcceptedLaws.{accepted-values, run-accepte
 use Rattle.operations.proofs.OutcomeLaws.{outcomes-right}
 
 -- the memory s and the plain chapter p, over slices of these lengths
-pub record Related (a table : List ℕ) (treeRoom marksRoom : ℕ) (p : List ℕ) (s : Memory) : Type 0 where
+pub record Related (a table : List ℕ) (chapterLength marksLength : ℕ) (p : List ℕ) (s : Memory) : Type 0 where
   pub count : s .count ≡ length p
   pub elements : take (s .count) (s .chapter) ≡ p
-  pub chapterLength : length (s .chapter) ≡ treeRoom
-  pub marksLength : length (s .marks) ≡ marksRoom
+  pub chapter-long : length (s .chapter) ≡ chapterLength
+  pub marks-long : length (s .marks) ≡ marksLength
   -- Run accepts p, and the used marks are its state sets
-  pub run : runFault a table p marksRoom ≡ 0
+  pub run : runFault a table p marksLength ≡ 0
   pub marks : take (length p * sizeOf table) (s .marks) ≡ flatten (nodeSets a table p)
 
-module _ (a table : List ℕ) (treeRoom marksRoom : ℕ) where
+module _ (a table : List ℕ) (chapterLength marksLength : ℕ) where
   -- an accepted call with the plain chapter as the used elements
   abbrev Accepted : List ℕ → Call → Type 0
-  Accepted p c = ExchangeAccepted a table (length p) p treeRoom marksRoom (c .element) (c .replacement)
+  Accepted p c = ExchangeAccepted a table (length p) p chapterLength marksLength (c .element) (c .replacement)
 
   -- the new tree passes Run's checks
-  run-spliced : (p : List ℕ) (c : Call) → Accepted p c → runFault a table (splice a p (c .element) (c .replacement)) marksRoom ≡ 0
+  run-spliced : (p : List ℕ) (c : Call) → Accepted p c → runFault a table (splice a p (c .element) (c .replacement)) marksLength ≡ 0
   unfolding spliceBy
   run-spliced p c k =
-      accepted-run a table (splice a p e xs) marksRoom
+      accepted-run a table (splice a p element xs) marksLength
       (record {
         alphabet = k .alphabet;
         constants = k .constants;
         automaton = k .automaton;
         counted = record { some = some; few = k .fits .few };
         nodes = nodes;
-        tree = splice-tree (arity a) p e (k .tree) (k .element) xs (k .replacement .tree);
+        tree = splice-tree (arity a) p element (k .tree) (k .element) xs (k .replacement .tree);
         marks = k .fits .marks;
       })
     where
-      e : ℕ
-      e = c .element
+      element : ℕ
+      element = c .element
 
       xs : List ℕ
       xs = c .replacement
 
-      nodes : all (isNode a) (splice a p e xs) ≡ true
+      nodes : all (isNode a) (splice a p element xs) ≡ true
       nodes =
-          let s = startOf a p e in
-          all-append (isNode a) (take s p) (xs ++ drop (e + 1) p)
+          let s = startOf a p element in
+          all-append (isNode a) (take s p) (xs ++ drop (element + 1) p)
           (all-left (isNode a) (take s p) (drop s p) (rw (take-append-drop s p) (k .nodes)))
-          (all-append (isNode a) xs (drop (e + 1) p) (k .replacement .nodes)
-          (all-right (isNode a) (take (e + 1) p) (drop (e + 1) p) (rw (take-append-drop (e + 1) p) (k .nodes))))
+          (all-append (isNode a) xs (drop (element + 1) p) (k .replacement .nodes)
+          (all-right (isNode a) (take (element + 1) p) (drop (element + 1) p) (rw (take-append-drop (element + 1) p) (k .nodes))))
 
-      some : 0 < length (splice a p e xs)
+      some : 0 < length (splice a p element xs)
       some =
           let l = k .replacement .counted .some in
           simp length-append (omega arith)
 
   -- ---- one call
 
-  module _ (p : List ℕ) (s : Memory) (c : Call) (g : Related a table treeRoom marksRoom p s) where
+  module _ (p : List ℕ) (s : Memory) (c : Call) (g : Related a table chapterLength marksLength p s) where
     abbrev tree : List ℕ
     tree = newTreeOf (callOn a table s c)
 
@@ -98,16 +98,16 @@ module _ (a table : List ℕ) (treeRoom marksRoom : ℕ) where
     abbrev p′ : List ℕ
     p′ = splice a p (c .element) (c .replacement)
 
-    abbrev refused-by : ℕ
-    refused-by = exchangeFault a table (length p) p treeRoom marksRoom (c .element) (c .replacement)
+    abbrev callFault : ℕ
+    callFault = exchangeFault a table (length p) p chapterLength marksLength (c .element) (c .replacement)
 
     -- the plain chapter is refused as the memory is
-    same-fault : fault a table (s .chapter) (s .marks) (s .count) (c .element) (c .replacement) ≡ refused-by
+    same-fault : fault a table (s .chapter) (s .marks) (s .count) (c .element) (c .replacement) ≡ callFault
     unfolding fault
     same-fault =
         ap (λ (u : List ℕ). exchangeFault a table (s .count) u (length (s .chapter)) (length (s .marks)) (c .element) (c .replacement)) (g .elements)
         ∙ ap (λ (n : ℕ). exchangeFault a table n p (length (s .chapter)) (length (s .marks)) (c .element) (c .replacement)) (g .count)
-        ∙ ap₂ (λ (n m : ℕ). exchangeFault a table (length p) p n m (c .element) (c .replacement)) (g .chapterLength) (g .marksLength)
+        ∙ ap₂ (λ (n m : ℕ). exchangeFault a table (length p) p n m (c .element) (c .replacement)) (g .chapter-long) (g .marks-long)
 
     same-tree : tree ≡ p′
     unfolding newTree
@@ -120,51 +120,51 @@ module _ (a table : List ℕ) (treeRoom marksRoom : ℕ) where
         ∙ outcomes-right a table (storedSet (sizeOf table) (s .marks)) p (c .element) (c .replacement) (k .tree) (k .element) (k .replacement .tree)
         (stored-right a table p (s .marks) (g .marks))
 
-    related-exchanged : Accepted p c → Related a table treeRoom marksRoom p′ exchanged
+    related-exchanged : Accepted p c → Related a table chapterLength marksLength p′ exchanged
     related-exchanged k = record {
       count = ap length same-tree;
       elements = take-refit (s .count) tree (s .chapter) ∙ same-tree;
-      chapterLength =
-          length-refit (s .count) tree (s .chapter) (omega (arith, k .within, g .count, g .chapterLength))
-          (rw same-tree (omega (arith, fits .elements, g .chapterLength)))
-          ∙ g .chapterLength;
-      marksLength =
-          length-refit (s .count * sizeOf table) (flatten sets) (s .marks) (rw (g .count) (omega (arith, k .marks, g .marksLength)))
-          (omega (arith, many, fits .marks, g .marksLength))
-          ∙ g .marksLength;
+      chapter-long =
+          length-refit (s .count) tree (s .chapter) (omega (arith, k .within, g .count, g .chapter-long))
+          (rw same-tree (omega (arith, fits .elements, g .chapter-long)))
+          ∙ g .chapter-long;
+      marks-long =
+          length-refit (s .count * sizeOf table) (flatten sets) (s .marks) (rw (g .count) (omega (arith, k .marks, g .marks-long)))
+          (omega (arith, many, fits .marks, g .marks-long))
+          ∙ g .marks-long;
       run = run-spliced p c k;
       marks =
           ap (λ (n : ℕ). take n (refit (s .count * sizeOf table) (flatten sets) (s .marks))) (sym many)
           ∙ take-refit (s .count * sizeOf table) (flatten sets) (s .marks) ∙ ap flatten (same-sets k);
     }
       where
-        fits : ResultFits table (length p′) treeRoom marksRoom
+        fits : ResultFits table (length p′) chapterLength marksLength
         fits = k .fits
 
         many : length (flatten sets) ≡ length p′ * sizeOf table
         many = ap (λ (l : List StateSet). length (flatten l)) (same-sets k) ∙ length-words a table p′
 
-    related-call : Related a table treeRoom marksRoom (plain a table treeRoom marksRoom p c) (exchange a table s c)
+    related-call : Related a table chapterLength marksLength (plain a table chapterLength marksLength p c) (exchange a table s c)
     unfolding plain exchange exchangeChapter exchangeMarks exchangeAnswer
-    related-call = go (tested (eqb refused-by 0))
+    related-call = go (tested (eqb callFault 0))
       where
-        go : Tested (eqb refused-by 0) → Related a table treeRoom marksRoom (plain a table treeRoom marksRoom p c) (exchange a table s c)
+        go : Tested (eqb callFault 0) → Related a table chapterLength marksLength (plain a table chapterLength marksLength p c) (exchange a table s c)
         go (holds b) =
             rw (same-fault, b)
-            (related-exchanged (exchange-accepted a table (length p) p treeRoom marksRoom (c .element) (c .replacement) (eqb-true refused-by 0 b)))
+            (related-exchanged (exchange-accepted a table (length p) p chapterLength marksLength (c .element) (c .replacement) (eqb-true callFault 0 b)))
         go (fails b) = rw (same-fault, b) g
 
   -- ---- all calls
 
-  related-calls : (cs : List Call) (p : List ℕ) (s : Memory) → Related a table treeRoom marksRoom p s
-      → Related a table treeRoom marksRoom (plains a table treeRoom marksRoom cs p) (exchanges a table cs s)
+  related-calls : (cs : List Call) (p : List ℕ) (s : Memory) → Related a table chapterLength marksLength p s
+      → Related a table chapterLength marksLength (plains a table chapterLength marksLength cs p) (exchanges a table cs s)
   unfolding plains exchanges
   related-calls [] p s g = g
-  related-calls (c ∷ cs) p s g = related-calls cs (plain a table treeRoom marksRoom p c) (exchange a table s c) (related-call p s c g)
+  related-calls (c ∷ cs) p s g = related-calls cs (plain a table chapterLength marksLength p c) (exchange a table s c) (related-call p s c g)
 
   -- ---- what follows
 
-  related-faithful : (p : List ℕ) (s : Memory) → Related a table treeRoom marksRoom p s → Faithful a table p s
+  related-faithful : (p : List ℕ) (s : Memory) → Related a table chapterLength marksLength p s → Faithful a table p s
   unfolding listAnswer listExit runAnswer
   related-faithful p s g = record { count = g .count; elements = g .elements; fresh = fresh }
     where
@@ -179,11 +179,11 @@ module _ (a table : List ℕ) (treeRoom marksRoom : ℕ) where
         lists = λ l. ap₂ (λ (i : ℕ) (ms : List ℕ). exitOf (listFault a table (s .count) i (length l)) (ms ++ drop (length ms) l) l) lengths matches;
       }
         where
-          room : length slice ≡ marksRoom
-          room = n ∙ g .marksLength
+          long : length slice ≡ marksLength
+          long = n ∙ g .marks-long
 
           run : runFault a table p (length slice) ≡ 0
-          run = ap (runFault a table p) room ∙ g .run
+          run = ap (runFault a table p) long ∙ g .run
 
           written : take (length p * sizeOf table) (runExit a table p slice) ≡ flatten (nodeSets a table p)
           written = ap (take (length p * sizeOf table)) (run-exit a table p slice run) ∙ run-writes a table p slice
@@ -205,8 +205,8 @@ unfolding runAnswer
 related-start a table ch s h = record {
   count = count;
   elements = ap (λ (i : ℕ). take i (s .chapter)) count ∙ h .begins;
-  chapterLength = refl;
-  marksLength = refl;
+  chapter-long = refl;
+  marks-long = refl;
   run = ap (runFault a table ch) same ∙ run;
   marks = ap (take (length ch * sizeOf table)) left ∙ run-writes a table ch (h .before);
 }
@@ -245,4 +245,4 @@ pub record SameLengths (s t : Memory) : Type 0 where
 pub exchanges-lengths : (a table ch : List ℕ) (s : Memory) (calls : List Call) → Start a table ch s → SameLengths s (exchanges a table calls s)
 exchanges-lengths a table ch s calls h =
     let g = related-end a table ch s calls h in
-    record { chapter = g .chapterLength; marks = g .marksLength }
+    record { chapter = g .chapter-long; marks = g .marks-long }

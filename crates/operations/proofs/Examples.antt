@@ -16,7 +16,7 @@ use Rattle.words.specs.Chapter.{symbolOf, isNode, notNodes}
 use Rattle.words.specs.Tree.{Tree}
 use Rattle.language.specs.Expression.{Expression, empty, union, product, closure}
 use Rattle.language.specs.Membership.{constant, Member}
-use Rattle.language.proofs.Examples.{con, fᵉ, f as fᵗ, closure-empty, by-empty, by-empty-none, separately, put-once, not-twice, joined}
+use Rattle.language.proofs.Examples.{con, fᵉ, f as fᵗ, closure-empty, by-empty, by-empty-none, separately, put-once, not-twice, closure-joined}
 use Rattle.automaton.proofs.CompiledExample.{alphabet, rule}
 use Rattle.automaton.specs.Transition.{transitionsAt, automatonOf, headWord}
 use Rattle.automaton.specs.Numbering.{hasEntries, statesOf, portOf, ownTransitions, portsFrom, statesAfter, transitionsFrom, compiled}
@@ -54,7 +54,7 @@ abbrev h : ℕ
 h = 0x7000_0006
 
 -- "Chapter a b f d g h f."
-abbrev chapter : List ℕ
+abbrev pub chapter : List ℕ
 chapter = a ∷ b ∷ f ∷ d ∷ g ∷ h ∷ f ∷ []
 
 -- the marks of its seven nodes with the rule's table, one word each, before three words that are not in use
@@ -62,7 +62,7 @@ abbrev marks : List ℕ
 marks = 34636297 ∷ 69272594 ∷ 25966788 ∷ 293877952 ∷ 25983424 ∷ 0 ∷ 0 ∷ 7 ∷ 7 ∷ 7 ∷ []
 
 -- what Compile, Run and List make of an alphabet, a rule and a chapter
-pub record Listed (al e ch : List ℕ) (states words head : ℕ) (lines : List (ℕ × ℕ × ℕ)) : Type 0 where
+pub record ListingRow (al e ch : List ℕ) (states words head : ℕ) (lines : List (ℕ × ℕ × ℕ)) : Type 0 where
   pub compiles : compileFault al e words ≡ 0
   pub stateCount : compiled al e .states ≡ states
   pub wordCount : length (compiledTable al e) ≡ words
@@ -75,10 +75,10 @@ pub record Listed (al e ch : List ℕ) (states words head : ℕ) (lines : List (
       ≡ lines
 
 -- what an Exchange answers and leaves with the table of a rule, where these marks are stored; and what List then names
-pub record Exchanged (rl slice stored : List ℕ) (n e : ℕ) (xs : List ℕ) (answer : Answer) (left : List ℕ) (leftMarks : List ℕ) (hits : List ℕ) : Type 0 where
-  pub answers : exchangeAnswer alphabet (compiledTable alphabet rl) slice stored n e xs ≡ answer
-  pub chapterLeft : exchangeChapter alphabet (compiledTable alphabet rl) slice stored n e xs ≡ left
-  pub marksLeft : exchangeMarks alphabet (compiledTable alphabet rl) slice stored n e xs ≡ leftMarks
+pub record ExchangeRow (rl slice stored : List ℕ) (n i : ℕ) (xs : List ℕ) (answer : Answer) (left : List ℕ) (leftMarks : List ℕ) (hits : List ℕ) : Type 0 where
+  pub answers : exchangeAnswer alphabet (compiledTable alphabet rl) slice stored n i xs ≡ answer
+  pub chapterLeft : exchangeChapter alphabet (compiledTable alphabet rl) slice stored n i xs ≡ left
+  pub marksLeft : exchangeMarks alphabet (compiledTable alphabet rl) slice stored n i xs ≡ leftMarks
   pub lists : matchesOf (compiledTable alphabet rl) (firstValue answer n) leftMarks ≡ hits
 
 -- every call of Compile, Run and List with the alphabet and this rule, whatever the chapter: List names exactly the nodes
@@ -98,7 +98,7 @@ pub data Row : Type 0 where
   running : (al e ch : List ℕ) (answer : Answer) → Row
   listing : (al e ch : List ℕ) (states words head : ℕ) (lines : List (ℕ × ℕ × ℕ)) → Row
   marking : (al e ch slice left : List ℕ) → Row
-  exchanging : (rl slice stored : List ℕ) (n e : ℕ) (xs : List ℕ) (answer : Answer) (left leftMarks hits : List ℕ) → Row
+  exchanging : (rl slice stored : List ℕ) (n i : ℕ) (xs : List ℕ) (answer : Answer) (left leftMarks hits : List ℕ) → Row
 
 abbrev pub Holds : Row → Type 0
 Holds (member E t) = Member E t
@@ -106,10 +106,10 @@ Holds (noMember E t) = Member E t → ⊥
 Holds (noMembers E) = (t : Tree) → Member E t → ⊥
 Holds (noHits e) = Names e (λ t. ⊥)
 Holds (hitsAt e c) = Names e (λ t. t ≡ constant c)
-Holds (listing al e ch states words head lines) = Listed al e ch states words head lines
+Holds (listing al e ch states words head lines) = ListingRow al e ch states words head lines
 Holds (running al e ch answer) = runAnswer al (compiledTable al e) ch (replicate (length ch) 0) ≡ answer
 Holds (marking al e ch slice left) = runExit al (compiledTable al e) ch slice ≡ left
-Holds (exchanging rl slice stored n e xs answer left leftMarks hits) = Exchanged rl slice stored n e xs answer left leftMarks hits
+Holds (exchanging rl slice stored n i xs answer left leftMarks hits) = ExchangeRow rl slice stored n i xs answer left leftMarks hits
 
 abbrev pub AllHold : List Row → Type 0
 AllHold [] = Unit {0}
@@ -120,7 +120,7 @@ abbrev slice : List ℕ
 slice = chapter ++ (1 ∷ 2 ∷ 3 ∷ [])
 
 abbrev inSource : List ℕ → ℕ → List ℕ → Answer → List ℕ → List ℕ → List ℕ → Row
-inSource stored e xs answer left leftMarks hits = exchanging rule slice stored 7 e xs answer left leftMarks hits
+inSource stored i xs answer left leftMarks hits = exchanging rule slice stored 7 i xs answer left leftMarks hits
 
 abbrev pub rows : List Row
 rows =
@@ -161,13 +161,13 @@ rows =
     ∷ inSource marks 3 (d ∷ []) (accepted (7 ∷ 1 ∷ [])) slice marks (2 ∷ 3 ∷ 4 ∷ [])
     -- a false mark at the element itself: one ancestor is worked out, and comes out unchanged
     ∷ inSource (set marks 3 0) 3 (d ∷ []) (accepted (7 ∷ 2 ∷ [])) slice marks (2 ∷ 3 ∷ 4 ∷ [])
-    -- true marks, rule d g h and chapter d g h: at g the hit is the same and the marks are others, so work goes on to h
+    -- true marks, rule d g h and chapter d g h: at g the hit is the same and the marks are others, so work continues to h
     ∷ exchanging (0x2000_0003 ∷ 0x2000_0005 ∷ 0x2000_0006 ∷ []) (d ∷ g ∷ h ∷ []) (1057 ∷ 2 ∷ 64 ∷ []) 3 0 (a ∷ []) (accepted (3 ∷ 3 ∷ []))
     (a ∷ g ∷ h ∷ [])
     (132 ∷ 0 ∷ 0 ∷ [])
     []
     ∷ marking alphabet (0x2000_0003 ∷ 0x2000_0005 ∷ 0x2000_0006 ∷ []) (d ∷ g ∷ h ∷ []) (0 ∷ 0 ∷ 0 ∷ []) (1057 ∷ 2 ∷ 64 ∷ [])
-    -- an ancestor with the same hit and other marks, a bit beyond the last state: work goes on to the next
+    -- an ancestor with the same hit and other marks, a bit beyond the last state: work continues to the next
     ∷ inSource (set (set marks 3 0) 4 2173467072) 3 (d ∷ []) (accepted (7 ∷ 3 ∷ [])) slice marks (2 ∷ 3 ∷ 4 ∷ [])
     -- false marks beside the way count as they stand, and stay
     ∷ inSource (set marks 2 0) 3 (a ∷ []) (accepted (7 ∷ 3 ∷ []))
@@ -252,7 +252,7 @@ examples = (
                               (
                                 not-twice,
                                 (
-                                  joined,
+                                  closure-joined,
                                   (
                                     record { answers = refl; chapterLeft = refl; marksLeft = refl; lists = refl },
                                     (

@@ -78,46 +78,46 @@ list-length a table n marks slice =
 
 -- ---- Exchange
 
-module _ (a table chapter marks : List ℕ) (n e : ℕ) (xs : List ℕ) where
+module _ (a table chapter marks : List ℕ) (n element : ℕ) (xs : List ℕ) where
   abbrev u : List ℕ
   u = take n chapter
 
   abbrev Accepted : Type 0
-  Accepted = ExchangeAccepted a table n u (length chapter) (length marks) e xs
+  Accepted = ExchangeAccepted a table n u (length chapter) (length marks) element xs
 
   -- the stored sets of the used elements are whole by 12
-  pub sized-outcomes : Accepted → Sized (sizeOf table) (map setIn (outcomes a table chapter marks n e xs))
+  pub sized-outcomes : Accepted → Sized (sizeOf table) (map setIn (outcomes a table chapter marks n element xs))
   unfolding outcomes
   sized-outcomes k =
       let many = length-take-le n chapter (k .within) in
       whole-outcomes a table (storedSet (sizeOf table) marks) n
       (λ i l. length-storedSet (sizeOf table) marks i (omega (arith, mul-le-mul-right (sizeOf table) l, k .marks)))
-      u e xs (rw many (k .element)) (omega arith)
+      u element xs (rw many (k .element)) (omega arith)
 
-  length-sets : Accepted → length (flatten (map setIn (outcomes a table chapter marks n e xs))) ≡ length (newTree a table chapter marks n e xs) * sizeOf table
+  length-sets : Accepted → length (flatten (map setIn (outcomes a table chapter marks n element xs))) ≡ length (newTree a table chapter marks n element xs) * sizeOf table
   unfolding outcomes newTree
   length-sets k =
-      let os = outcomesAfter a table (storedSet (sizeOf table) marks) u e xs in
-      let there : e < length u = rw (length-take-le n chapter (k .within)) (k .element) in
+      let os = outcomesAfter a table (storedSet (sizeOf table) marks) u element xs in
+      let there : element < length u = rw (length-take-le n chapter (k .within)) (k .element) in
       length-flatten (sizeOf table) (map setIn os) (sized-outcomes k)
       ∙ ap (λ (i : ℕ). i * sizeOf table)
       (length-map os setIn
-      ∙ follows-length a table (splice a u e xs) [] os
-      (follows-outcomes a table (storedSet (sizeOf table) marks) u e xs there (k .replacement .tree)))
+      ∙ follows-length a table (splice a u element xs) [] os
+      (follows-outcomes a table (storedSet (sizeOf table) marks) u element xs there (k .replacement .tree)))
 
   -- the new elements fit by 16
-  pub chapter-length : length (exchangeChapter a table chapter marks n e xs) ≡ length chapter
+  pub chapter-length : length (exchangeChapter a table chapter marks n element xs) ≡ length chapter
   unfolding exchangeChapter fault newTree
   chapter-length =
-      length-exit (fault a table chapter marks n e xs) (refit n (newTree a table chapter marks n e xs) chapter) chapter
-      (λ h. let k = exchange-accepted a table n u (length chapter) (length marks) e xs h in
-      length-refit n (newTree a table chapter marks n e xs) chapter (k .within) (k .fits .elements))
+      length-exit (fault a table chapter marks n element xs) (refit n (newTree a table chapter marks n element xs) chapter) chapter
+      (λ h. let k = exchange-accepted a table n u (length chapter) (length marks) element xs h in
+      length-refit n (newTree a table chapter marks n element xs) chapter (k .within) (k .fits .elements))
 
   -- and so do their state sets
-  pub marks-length : length (exchangeMarks a table chapter marks n e xs) ≡ length marks
+  pub marks-length : length (exchangeMarks a table chapter marks n element xs) ≡ length marks
   unfolding exchangeMarks fault newTree
   marks-length =
-      length-exit (fault a table chapter marks n e xs) (refit (n * sizeOf table) (flatten (map setIn (outcomes a table chapter marks n e xs))) marks) marks
-      (λ h. let k = exchange-accepted a table n u (length chapter) (length marks) e xs h in
-      length-refit (n * sizeOf table) (flatten (map setIn (outcomes a table chapter marks n e xs))) marks (k .marks)
+      length-exit (fault a table chapter marks n element xs) (refit (n * sizeOf table) (flatten (map setIn (outcomes a table chapter marks n element xs))) marks) marks
+      (λ h. let k = exchange-accepted a table n u (length chapter) (length marks) element xs h in
+      length-refit (n * sizeOf table) (flatten (map setIn (outcomes a table chapter marks n element xs))) marks (k .marks)
       (omega (arith, length-sets k, k .fits .marks)))

@@ -31,20 +31,20 @@ pub root-read : (a table xs : List ℕ) (h : oneTree a xs ≡ true) → rootSet 
 unfolding rootSet
 root-read a table xs h = ap (λ (l : List StateSet). getD l 0 []) (read (arity a) (nodeSet table) xs h .alone)
 
-module _ (a table : List ℕ) (stored : ℕ → StateSet) (used : List ℕ) (e : ℕ) (xs : List ℕ)
-    (h : oneTree a used ≡ true) (he : e < length used) (hx : oneTree a xs ≡ true)
+module _ (a table : List ℕ) (stored : ℕ → StateSet) (used : List ℕ) (element : ℕ) (xs : List ℕ)
+    (h : oneTree a used ≡ true) (he : element < length used) (hx : oneTree a xs ≡ true)
     (right : Right (arity a) (nodeSet table) stored 0 used []) where
   abbrev rule : ℕ → List StateSet → StateSet
   rule = nodeSet table
 
   front : List ℕ
-  front = take (startOf a used e) used
+  front = take (startOf a used element) used
 
   old : List ℕ
-  old = drop (startOf a used e) (take (e + 1) used)
+  old = drop (startOf a used element) (take (element + 1) used)
 
   behind : List ℕ
-  behind = drop (e + 1) used
+  behind = drop (element + 1) used
 
   σ : List StateSet
   σ = stackAfter a rule front []
@@ -54,70 +54,70 @@ module _ (a table : List ℕ) (stored : ℕ → StateSet) (used : List ℕ) (e :
 
   old-tree : Read (arity a) rule old
   unfolding old
-  old-tree = read (arity a) rule old (sub-tree (arity a) used e h he)
+  old-tree = read (arity a) rule old (sub-tree (arity a) used element h he)
 
   -- the stack behind the old subtree
-  stack-old : stackAfter a rule (take (e + 1) used) [] ≡ old-tree .root ∷ σ
+  stack-old : stackAfter a rule (take (element + 1) used) [] ≡ old-tree .root ∷ σ
   unfolding old front σ
   stack-old =
-      ap (λ (l : List ℕ). stackAfter a rule l []) (sym (front-sub (arity a) used e h he))
+      ap (λ (l : List ℕ). stackAfter a rule l []) (sym (front-sub (arity a) used element h he))
       ∙ stack-append (arity a) rule front old [] ∙ old-tree .stack-on σ
 
   right-front : Right (arity a) rule stored 0 front []
   unfolding front
   right-front =
-      right-left (arity a) rule stored front (drop (startOf a used e) used) 0 []
-      (subst (λ (l : List ℕ). Right (arity a) rule stored 0 l []) (sym (take-append-drop (startOf a used e) used)) right)
+      right-left (arity a) rule stored front (drop (startOf a used element) used) 0 []
+      (subst (λ (l : List ℕ). Right (arity a) rule stored 0 l []) (sym (take-append-drop (startOf a used element) used)) right)
 
-  right-taken : Right (arity a) rule stored 0 (take (e + 1) used ++ drop (e + 1) used) []
-  right-taken = subst (λ (l : List ℕ). Right (arity a) rule stored 0 l []) (sym (take-append-drop (e + 1) used)) right
+  right-taken : Right (arity a) rule stored 0 (take (element + 1) used ++ drop (element + 1) used) []
+  right-taken = subst (λ (l : List ℕ). Right (arity a) rule stored 0 l []) (sym (take-append-drop (element + 1) used)) right
 
-  right-behind : Right (arity a) rule stored (e + 1) behind (old-tree .root ∷ σ)
+  right-behind : Right (arity a) rule stored (element + 1) behind (old-tree .root ∷ σ)
   unfolding behind
   right-behind =
-      let n : 0 + length (take (e + 1) used) ≡ e + 1 = zero-add _ ∙ length-take-le (e + 1) used (omega arith) in
-      subst (λ (t : List StateSet). Right (arity a) rule stored (e + 1) behind t) stack-old
-      (subst (λ (i : ℕ). Right (arity a) rule stored i behind (stackAfter a rule (take (e + 1) used) [])) n
-      (right-right (arity a) rule stored (take (e + 1) used) behind 0 [] right-taken))
+      let n : 0 + length (take (element + 1) used) ≡ element + 1 = zero-add _ ∙ length-take-le (element + 1) used (omega arith) in
+      subst (λ (t : List StateSet). Right (arity a) rule stored (element + 1) behind t) stack-old
+      (subst (λ (i : ℕ). Right (arity a) rule stored i behind (stackAfter a rule (take (element + 1) used) [])) n
+      (right-right (arity a) rule stored (take (element + 1) used) behind 0 [] right-taken))
 
-  right-node : stored e ≡ old-tree .root
+  right-node : stored element ≡ old-tree .root
   right-node =
-      let u : take (e + 1) used ≡ take e used ++ getD used e 0 ∷ [] = ap (λ (i : ℕ). take i used) (add-one e) ∙ take-suc used e 0 he in
-      let n : 0 + length (take e used) ≡ e = zero-add _ ∙ length-take-le e used (omega arith) in
-      let r = right-left (arity a) rule stored (take (e + 1) used) (drop (e + 1) used) 0 [] right-taken in
+      let u : take (element + 1) used ≡ take element used ++ getD used element 0 ∷ [] = ap (λ (i : ℕ). take i used) (add-one element) ∙ take-suc used element 0 he in
+      let n : 0 + length (take element used) ≡ element = zero-add _ ∙ length-take-le element used (omega arith) in
+      let r = right-left (arity a) rule stored (take (element + 1) used) (drop (element + 1) used) 0 [] right-taken in
       ap stored (sym n)
-      ∙ right-last (arity a) rule stored (take e used) (getD used e 0) 0 [] σ (old-tree .root)
+      ∙ right-last (arity a) rule stored (take element used) (getD used element 0) 0 [] σ (old-tree .root)
       (subst (λ (l : List ℕ). Right (arity a) rule stored 0 l []) u r)
       (ap (λ (l : List ℕ). stackAfter a rule l []) (sym u) ∙ stack-old)
 
-  behind-right : map setIn (outcomesBehind a table stored used e xs) ≡ values a rule behind (new-tree .root ∷ σ)
+  behind-right : map setIn (outcomesBehind a table stored used element xs) ≡ values a rule behind (new-tree .root ∷ σ)
   unfolding outcomesBehind behind front σ new-tree
-  behind-right = go (tested (sameWords (rootSet a table xs) (stored e)))
+  behind-right = go (tested (sameWords (rootSet a table xs) (stored element)))
     where
       root : rootSet a table xs ≡ new-tree .root
       root = root-read a table xs hx
 
-      go : Tested (sameWords (rootSet a table xs) (stored e)) → map setIn (outcomesBehind a table stored used e xs) ≡ values a rule behind (new-tree .root ∷ σ)
+      go : Tested (sameWords (rootSet a table xs) (stored element)) → map setIn (outcomesBehind a table stored used element xs) ≡ values a rule behind (new-tree .root ∷ σ)
       go (holds same) =
-          let q : old-tree .root ≡ new-tree .root = sym right-node ∙ sym (same-words (rootSet a table xs) (stored e) same) ∙ root in
+          let q : old-tree .root ≡ new-tree .root = sym right-node ∙ sym (same-words (rootSet a table xs) (stored element) same) ∙ root in
           rw same
-          (sets-kept stored (length behind) (e + 1)
-          ∙ right-list (arity a) rule stored behind (e + 1) (old-tree .root ∷ σ) right-behind
+          (sets-kept stored (length behind) (element + 1)
+          ∙ right-list (arity a) rule stored behind (element + 1) (old-tree .root ∷ σ) right-behind
           ∙ ap (λ (r : StateSet). values a rule behind (r ∷ σ)) q)
       go (fails other) =
           rw (other, right-stack (arity a) rule stored front 0 [] right-front, root)
-          (propagate-right a table used e stored behind (e + 1) [] σ (old-tree .root) (new-tree .root) refl (holding-first (arity a) used e) right-behind)
+          (propagate-right a table used element stored behind (element + 1) [] σ (old-tree .root) (new-tree .root) refl (holding-first (arity a) used element) right-behind)
 
-  pub outcomes-right : map setIn (outcomesAfter a table stored used e xs) ≡ nodeSets a table (splice a used e xs)
+  pub outcomes-right : map setIn (outcomesAfter a table stored used element xs) ≡ nodeSets a table (splice a used element xs)
   unfolding outcomesAfter nodeSets spliceBy front behind σ
   outcomes-right =
-      let le = start-le (arity a) used e in
-      let n : length front ≡ startOf a used e = length-take-le (startOf a used e) used (omega arith) in
-      let kept-front : map setIn (keptFrom stored 0 (startOf a used e)) ≡ values a rule front [] =
-      sets-kept stored (startOf a used e) 0 ∙ ap (listFrom stored 0) (sym n) ∙ right-list (arity a) rule stored front 0 [] right-front in
-      map-append setIn (keptFrom stored 0 (startOf a used e)) (map recomputed (values a rule xs []) ++ outcomesBehind a table stored used e xs)
+      let le = start-le (arity a) used element in
+      let n : length front ≡ startOf a used element = length-take-le (startOf a used element) used (omega arith) in
+      let kept-front : map setIn (keptFrom stored 0 (startOf a used element)) ≡ values a rule front [] =
+      sets-kept stored (startOf a used element) 0 ∙ ap (listFrom stored 0) (sym n) ∙ right-list (arity a) rule stored front 0 [] right-front in
+      map-append setIn (keptFrom stored 0 (startOf a used element)) (map recomputed (values a rule xs []) ++ outcomesBehind a table stored used element xs)
       ∙ ap₂ (λ (l k : List StateSet). l ++ k) kept-front
-      (map-append setIn (map recomputed (values a rule xs [])) (outcomesBehind a table stored used e xs)
+      (map-append setIn (map recomputed (values a rule xs [])) (outcomesBehind a table stored used element xs)
       ∙ ap₂ (λ (l k : List StateSet). l ++ k) (sets-recomputed (values a rule xs [])) behind-right)
       ∙ sym
       (values-append (arity a) rule front (xs ++ behind) []

@@ -58,9 +58,9 @@ root-last a table xs h l =
         list-right (arity a) (nodeSet table) f xs 0 []
         (ap (listFrom f 0) (sym (length-values (arity a) (nodeSet table) xs [])) ∙ listFrom-getD [] vs)
 
-module _ (a table : List ℕ) (stored : ℕ → StateSet) (used : List ℕ) (e : ℕ) (xs : List ℕ) where
+module _ (a table : List ℕ) (stored : ℕ → StateSet) (used : List ℕ) (element : ℕ) (xs : List ℕ) where
   abbrev start : ℕ
-  start = startOf a used e
+  start = startOf a used element
 
   abbrev front : List Outcome
   front = keptFrom stored 0 start
@@ -69,10 +69,10 @@ module _ (a table : List ℕ) (stored : ℕ → StateSet) (used : List ℕ) (e :
   replaced = map recomputed (nodeSets a table xs)
 
   abbrev rest : List Outcome
-  rest = outcomesBehind a table stored used e xs
+  rest = outcomesBehind a table stored used element xs
 
   abbrev os : List Outcome
-  os = outcomesAfter a table stored used e xs
+  os = outcomesAfter a table stored used element xs
 
   length-front : length front ≡ start
   length-front = length-listFrom (λ i. kept (stored i)) start 0
@@ -162,9 +162,9 @@ module _ (c : ExchangeCall) (he : c .element < length (usedIn c)) (hx : oneTree 
       ∙ ap (λ (n : ℕ). count (recomputes c) (listFrom (λ i. i) 0 n)) many
 
   -- "it is at most the replacement's elements plus the depth of the place"
-  pub count-most : recomputedIn behind ≤ depthOf (c .alphabet) (usedIn c) (c .element)
+  pub recomputed-most : recomputedIn behind ≤ depthOf (c .alphabet) (usedIn c) (c .element)
   unfolding depthOfBy
-  count-most =
+  recomputed-most =
       let w = count-wider (recomputes c) (ancestor c) (λ k h. and-true (continues c k) (ancestor c k) h .1) (listFrom (λ i. i) 0 m) in
       omega (arith, count-rest, shifted, parts)
     where

@@ -42,32 +42,32 @@ module _ (a table : List ℕ) (stored : ℕ → StateSet) (n : ℕ) (whole : (i 
       go true true beside onward = (length-nodeSet table w _, whole-kept (length ws) (suc j) (omega arith))
       go true false beside onward = (length-nodeSet table w _, onward)
 
-  whole-behind : (used : List ℕ) (e : ℕ) (xs : List ℕ) → e < length used → length used ≤ n → Whole (outcomesBehind a table stored used e xs)
+  whole-behind : (used : List ℕ) (element : ℕ) (xs : List ℕ) → element < length used → length used ≤ n → Whole (outcomesBehind a table stored used element xs)
   unfolding outcomesBehind
-  whole-behind used e xs h l = go (sameWords (rootSet a table xs) (stored e))
+  whole-behind used element xs h l = go (sameWords (rootSet a table xs) (stored element))
     where
       rest : List ℕ
-      rest = drop (e + 1) used
+      rest = drop (element + 1) used
 
       stack : List StateSet
-      stack = rootSet a table xs ∷ stackGiven a stored 0 (take (startOf a used e) used) []
+      stack = rootSet a table xs ∷ stackGiven a stored 0 (take (startOf a used element) used) []
 
-      fits : e + 1 + length rest ≤ n
-      fits = rw (length-drop (e + 1) used) (omega arith)
+      fits : element + 1 + length rest ≤ n
+      fits = rw (length-drop (element + 1) used) (omega arith)
 
-      go : (b : Bool) → Whole (cond b (keptFrom stored (e + 1) (length rest)) (propagate a table stored (isAncestor a used e) (e + 1) rest stack))
-      go true = whole-kept (length rest) (e + 1) fits
-      go false = whole-propagate (isAncestor a used e) rest (e + 1) stack fits
+      go : (b : Bool) → Whole (cond b (keptFrom stored (element + 1) (length rest)) (propagate a table stored (isAncestor a used element) (element + 1) rest stack))
+      go true = whole-kept (length rest) (element + 1) fits
+      go false = whole-propagate (isAncestor a used element) rest (element + 1) stack fits
 
-  pub whole-outcomes : (used : List ℕ) (e : ℕ) (xs : List ℕ) → e < length used → length used ≤ n → Whole (outcomesAfter a table stored used e xs)
+  pub whole-outcomes : (used : List ℕ) (element : ℕ) (xs : List ℕ) → element < length used → length used ≤ n → Whole (outcomesAfter a table stored used element xs)
   unfolding outcomesAfter
-  whole-outcomes used e xs h l =
+  whole-outcomes used element xs h l =
       let size = sizeOf table in
-      let start = startOf a used e in
+      let start = startOf a used element in
       let sets : List Outcome = map recomputed (nodeSets a table xs) in
-      let behind = outcomesBehind a table stored used e xs in
+      let behind = outcomesBehind a table stored used element xs in
       rw (map-append setIn (keptFrom stored 0 start) (sets ++ behind), map-append setIn sets behind)
       (sized-append size (map setIn (keptFrom stored 0 start)) (map setIn sets ++ map setIn behind)
-      (whole-kept start 0 (omega (arith, start-le (arity a) used e)))
+      (whole-kept start 0 (omega (arith, start-le (arity a) used element)))
       (sized-append size (map setIn sets) (map setIn behind)
-      (rw (sets-recomputed (nodeSets a table xs)) (sized-nodeSets a table xs)) (whole-behind used e xs h l)))
+      (rw (sets-recomputed (nodeSets a table xs)) (sized-nodeSets a table xs)) (whole-behind used element xs h l)))

@@ -65,7 +65,7 @@ tail-drop p j w ws e = (
   ap (λ (i : ℕ). drop i p) (sym (add-one j)) ∙ sym (drop-drop 1 j p) ∙ ap (drop 1) e,
 )
 
-module _ (a table p : List ℕ) (e : ℕ) (stored : ℕ → StateSet) where
+module _ (a table p : List ℕ) (element : ℕ) (stored : ℕ → StateSet) where
   abbrev vals : List ℕ → List StateSet → List StateSet
   vals = values a (nodeSet table)
 
@@ -73,7 +73,7 @@ module _ (a table p : List ℕ) (e : ℕ) (stored : ℕ → StateSet) where
   on = valueOn a (nodeSet table)
 
   abbrev up : ℕ → List ℕ → List StateSet → List Outcome
-  up = propagate a table stored (isAncestor a p e)
+  up = propagate a table stored (isAncestor a p element)
 
   abbrev RightFrom : ℕ → List ℕ → List StateSet → Type 0
   RightFrom = Right (arity a) (nodeSet table) stored
@@ -81,10 +81,10 @@ module _ (a table p : List ℕ) (e : ℕ) (stored : ℕ → StateSet) where
   -- the old and the new stack differ in one state set alone, below those of t: that of the tree which holds the replaced one
   abbrev Onward : List ℕ → ℕ → Type 0
   Onward ws j =
-      (t s : List StateSet) (r₀ r : StateSet) → drop j p ≡ ws → HoldingTree (arity a) p e j (length t)
+      (t s : List StateSet) (r₀ r : StateSet) → drop j p ≡ ws → HoldingTree (arity a) p element j (length t)
       → RightFrom j ws (t ++ r₀ ∷ s) → map setIn (up j ws (t ++ r ∷ s)) ≡ vals ws (t ++ r ∷ s)
 
-  module _ (w : ℕ) (ws : List ℕ) (j : ℕ) (t s : List StateSet) (r₀ r : StateSet) (q : drop j p ≡ w ∷ ws) (y : HoldingTree (arity a) p e j (length t))
+  module _ (w : ℕ) (ws : List ℕ) (j : ℕ) (t s : List StateSet) (r₀ r : StateSet) (q : drop j p ≡ w ∷ ws) (y : HoldingTree (arity a) p element j (length t))
       (h : Right (arity a) (nodeSet table) stored j (w ∷ ws) (t ++ r₀ ∷ s)) (ih : Onward ws (suc j)) where
     abbrev k : ℕ
     k = arity a w
@@ -102,11 +102,11 @@ module _ (a table p : List ℕ) (e : ℕ) (stored : ℕ → StateSet) where
         let d : drop k (t ++ r ∷ s) ≡ drop k t ++ r ∷ s = drop-append-le k t (r ∷ s) l in
         let d₀ : drop k (t ++ r₀ ∷ s) ≡ drop k t ++ r₀ ∷ s = drop-append-le k t (r₀ ∷ s) l in
         let n : length t - arity a (getD p j 0) + 1 ≡ suc (length (drop k t)) = rw (word, length-drop k t) (add-one (length t - k)) in
-        let y′ : HoldingTree (arity a) p e (suc j) (suc (length (drop k t))) = subst (HoldingTree (arity a) p e (suc j)) n (holding-others (arity a) p e j (length t) y l′) in
+        let y′ : HoldingTree (arity a) p element (suc j) (suc (length (drop k t))) = subst (HoldingTree (arity a) p element (suc j)) n (holding-others (arity a) p element j (length t) y l′) in
         let h′ : RightFrom (suc j) ws (on w t ∷ (drop k t ++ r₀ ∷ s)) =
         subst (λ (x : StateSet). RightFrom (suc j) ws (x ∷ (drop k t ++ r₀ ∷ s))) (on-top (arity a) (nodeSet table) w t (r₀ ∷ s) l)
         (subst (λ (x : List StateSet). RightFrom (suc j) ws (on w (t ++ r₀ ∷ s) ∷ x)) d₀ (h .1)) in
-        ap (map setIn) (propagate-beside a table stored (isAncestor a p e) j w ws (t ++ r ∷ s) (takes-others (arity a) p e j (length t) y l′))
+        ap (map setIn) (propagate-beside a table stored (isAncestor a p element) j w ws (t ++ r ∷ s) (takes-others (arity a) p element j (length t) y l′))
         ∙ ap₂ (λ (x : StateSet) (z : List StateSet). x ∷ map setIn (up (suc j) ws (x ∷ z))) v d
         ∙ ap (λ (z : List StateSet). on w t ∷ z) (ih (on w t ∷ drop k t) s r₀ r (tail-drop p j w ws q .1) y′ h′)
         ∙ sym (ap₂ (λ (x : StateSet) (z : List StateSet). x ∷ vals ws (x ∷ z)) u d)
@@ -119,8 +119,8 @@ module _ (a table p : List ℕ) (e : ℕ) (stored : ℕ → StateSet) where
         l′ : length t < arity a (getD p j 0)
         l′ = omega (arith, word)
 
-        above : isAncestor a p e j ≡ true
-        above = takes-holding (arity a) p e j (length t) y l′
+        above : isAncestor a p element j ≡ true
+        above = takes-holding (arity a) p element j (length t) y l′
 
         old : StateSet
         old = on w (t ++ r₀ ∷ s)
@@ -139,15 +139,15 @@ module _ (a table p : List ℕ) (e : ℕ) (stored : ℕ → StateSet) where
 
         go : Tested (sameWords nu (stored j)) → map setIn (up j (w ∷ ws) (t ++ r ∷ s)) ≡ nu ∷ vals ws (nu ∷ drop k (t ++ r ∷ s))
         go (holds same) =
-            ap (map setIn) (propagate-last a table stored (isAncestor a p e) j w ws (t ++ r ∷ s) above same)
+            ap (map setIn) (propagate-last a table stored (isAncestor a p element) j w ws (t ++ r ∷ s) above same)
             ∙ ap (λ (z : List StateSet). nu ∷ z)
             (sets-kept stored (length ws) (suc j) ∙ right-list (arity a) (nodeSet table) stored ws (suc j) (old ∷ rest) h′
             ∙ ap₂ (λ (x : StateSet) (z : List StateSet). vals ws (x ∷ z)) (sym (same-words nu (stored j) same ∙ h .0)) (sym d))
         go (fails other) =
-            ap (map setIn) (propagate-onward a table stored (isAncestor a p e) j w ws (t ++ r ∷ s) above other)
+            ap (map setIn) (propagate-onward a table stored (isAncestor a p element) j w ws (t ++ r ∷ s) above other)
             ∙ ap (λ (z : List StateSet). nu ∷ z)
             (ap (λ (z : List StateSet). map setIn (up (suc j) ws (nu ∷ z))) d
-            ∙ ih [] rest old nu (tail-drop p j w ws q .1) (holding-ancestor (arity a) p e j (length t) y l′) h′
+            ∙ ih [] rest old nu (tail-drop p j w ws q .1) (holding-ancestor (arity a) p element j (length t) y l′) h′
             ∙ ap (λ (z : List StateSet). vals ws (nu ∷ z)) (sym d))
 
   pub propagate-right : (ws : List ℕ) (j : ℕ) → Onward ws j

@@ -20,7 +20,7 @@ use Rattle.operations.proofs.LengthLaws.{sized-outcomes}
 use Rattle.operations.proofs.AcceptedLaws.{accepted-values, ExchangeAccepted, exchange-accepted}
 use Rattle.operations.proofs.AnyTable.{nodeSet-reached}
 use Rattle.operations.proofs.RuleLaws.{Follows, follows-length, follows-outcomes, from-children}
-use Rattle.operations.proofs.OutcomeParts.{root-last, outcome-before, outcome-replaced, recomputed-parts, behindOf, outcome-rest, count-rest, count-most}
+use Rattle.operations.proofs.OutcomeParts.{root-last, outcome-before, outcome-replaced, recomputed-parts, behindOf, outcome-rest, count-rest, recomputed-most}
 
 module _ (c : ExchangeCall) (elements workedOut : ℕ) (h : answeredBy c ≡ accepted (elements ∷ workedOut ∷ [])) where
   abbrev a : List ℕ
@@ -117,7 +117,7 @@ module _ (c : ExchangeCall) (elements workedOut : ℕ) (h : answeredBy c ≡ acc
     rule = rule;
     reached = reached;
     exact = parts ∙ ap (λ (i : ℕ). length xs + i) (count-rest c there (call .replacement .tree));
-    most = rw parts (omega (arith, count-most c there (call .replacement .tree)));
+    most = rw parts (omega (arith, recomputed-most c there (call .replacement .tree)));
   }
 
 -- every accepted call

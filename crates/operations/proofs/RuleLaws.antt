@@ -31,7 +31,7 @@ module _ (a table : List ℕ) where
   Is (recomputed r) v = r ≡ v
 
   -- the outcomes of the words over a stack: each recomputed set is the one that the word and the stack give, and each set
-  -- goes on the stack
+  -- is put on the stack
   abbrev pub Follows : List ℕ → List StateSet → List Outcome → Type 0
   Follows [] s [] = Unit {0}
   Follows [] s (o ∷ os) = ⊥
@@ -97,9 +97,9 @@ module _ (a table : List ℕ) where
   stack-values [] s = refl
   stack-values (w ∷ ws) s = stack-values ws (on w s ∷ drop (arity a w) s)
 
-  module _ (stored : ℕ → StateSet) (used : List ℕ) (e : ℕ) (xs : List ℕ) (he : e < length used) (hx : oneTree a xs ≡ true) where
+  module _ (stored : ℕ → StateSet) (used : List ℕ) (element : ℕ) (xs : List ℕ) (he : element < length used) (hx : oneTree a xs ≡ true) where
     σ : List StateSet
-    σ = stackGiven a stored 0 (take (startOf a used e) used) []
+    σ = stackGiven a stored 0 (take (startOf a used element) used) []
 
     follows-replaced : Follows xs σ (map recomputed (nodeSets a table xs))
     unfolding nodeSets
@@ -113,33 +113,33 @@ module _ (a table : List ℕ) where
         ∙ stack-values xs σ ∙ read (arity a) (nodeSet table) xs hx .stack-on σ
         ∙ ap (λ (r : StateSet). r ∷ σ) (sym (root-read a table xs hx))
 
-    follows-behind : Follows (drop (e + 1) used) (rootSet a table xs ∷ σ) (outcomesBehind a table stored used e xs)
+    follows-behind : Follows (drop (element + 1) used) (rootSet a table xs ∷ σ) (outcomesBehind a table stored used element xs)
     unfolding outcomesBehind σ
-    follows-behind = go (tested (sameWords (rootSet a table xs) (stored e)))
+    follows-behind = go (tested (sameWords (rootSet a table xs) (stored element)))
       where
-        go : Tested (sameWords (rootSet a table xs) (stored e)) → Follows (drop (e + 1) used) (rootSet a table xs ∷ σ) (outcomesBehind a table stored used e xs)
-        go (holds b) = rw b (follows-kept stored (drop (e + 1) used) (e + 1) (rootSet a table xs ∷ σ))
-        go (fails b) = rw b (follows-propagate stored (isAncestor a used e) (drop (e + 1) used) (e + 1) (rootSet a table xs ∷ σ))
+        go : Tested (sameWords (rootSet a table xs) (stored element)) → Follows (drop (element + 1) used) (rootSet a table xs ∷ σ) (outcomesBehind a table stored used element xs)
+        go (holds b) = rw b (follows-kept stored (drop (element + 1) used) (element + 1) (rootSet a table xs ∷ σ))
+        go (fails b) = rw b (follows-propagate stored (isAncestor a used element) (drop (element + 1) used) (element + 1) (rootSet a table xs ∷ σ))
 
-    pub length-behind : length (outcomesBehind a table stored used e xs) ≡ length (drop (e + 1) used)
-    length-behind = follows-length (drop (e + 1) used) (rootSet a table xs ∷ σ) (outcomesBehind a table stored used e xs) follows-behind
+    pub length-behind : length (outcomesBehind a table stored used element xs) ≡ length (drop (element + 1) used)
+    length-behind = follows-length (drop (element + 1) used) (rootSet a table xs ∷ σ) (outcomesBehind a table stored used element xs) follows-behind
 
-    pub follows-outcomes : Follows (splice a used e xs) [] (outcomesAfter a table stored used e xs)
+    pub follows-outcomes : Follows (splice a used element xs) [] (outcomesAfter a table stored used element xs)
     unfolding spliceBy outcomesAfter σ
     follows-outcomes =
-        follows-append front (xs ++ drop (e + 1) used) [] (keptFrom stored 0 (startOf a used e)) _
+        follows-append front (xs ++ drop (element + 1) used) [] (keptFrom stored 0 (startOf a used element)) _
         (subst (λ (i : ℕ). Follows front [] (keptFrom stored 0 i)) many (follows-kept stored front 0 []))
-        (subst (λ (s : List StateSet). Follows (xs ++ drop (e + 1) used) s (map recomputed (nodeSets a table xs) ++ outcomesBehind a table stored used e xs)) (sym stack-front)
-        (follows-append xs (drop (e + 1) used) σ (map recomputed (nodeSets a table xs)) (outcomesBehind a table stored used e xs) follows-replaced
-        (subst (λ (s : List StateSet). Follows (drop (e + 1) used) s (outcomesBehind a table stored used e xs)) (sym stack-replaced) follows-behind)))
+        (subst (λ (s : List StateSet). Follows (xs ++ drop (element + 1) used) s (map recomputed (nodeSets a table xs) ++ outcomesBehind a table stored used element xs)) (sym stack-front)
+        (follows-append xs (drop (element + 1) used) σ (map recomputed (nodeSets a table xs)) (outcomesBehind a table stored used element xs) follows-replaced
+        (subst (λ (s : List StateSet). Follows (drop (element + 1) used) s (outcomesBehind a table stored used element xs)) (sym stack-replaced) follows-behind)))
       where
         front : List ℕ
-        front = take (startOf a used e) used
+        front = take (startOf a used element) used
 
-        many : length front ≡ startOf a used e
-        many = let le = start-le (arity a) used e in length-take-le (startOf a used e) used (omega arith)
+        many : length front ≡ startOf a used element
+        many = let le = start-le (arity a) used element in length-take-le (startOf a used element) used (omega arith)
 
-        stack-front : stackOf front (keptFrom stored 0 (startOf a used e)) [] ≡ σ
+        stack-front : stackOf front (keptFrom stored 0 (startOf a used element)) [] ≡ σ
         stack-front = ap (λ (i : ℕ). stackOf front (keptFrom stored 0 i) []) (sym many) ∙ stack-kept stored front 0 []
 
   -- ---- by node number

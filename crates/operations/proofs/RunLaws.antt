@@ -9,7 +9,7 @@ use lib.Seq.{take-at}
 use Rattle.words.specs.Tree.{Tree}
 use Rattle.words.specs.Postfix.{subtreeOf}
 use Rattle.language.specs.Expression.{SubjectOf}
-use Rattle.language.proofs.SubtreeLaws.{value-subject}
+use Rattle.language.proofs.SubjectSubtreeLaws.{value-subject}
 use Rattle.automaton.specs.Transition.{automatonOf}
 use Rattle.automaton.specs.StateSet.{stateSet}
 use Rattle.automaton.proofs.TreeSets.{treeSet}

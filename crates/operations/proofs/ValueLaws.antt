@@ -63,14 +63,14 @@ recomputed-few (kept r ∷ os) = let i = recomputed-few os in omega arith
 recomputed-few (recomputed r ∷ os) = let i = recomputed-few os in omega arith
 
 -- Exchange: at most 4,096 elements, and at most as many recomputed
-pub exchange-values : (a table chapter marks : List ℕ) (n e : ℕ) (xs : List ℕ) {count worked : ℕ}
-    → accepted (count ∷ worked ∷ []) ≡ exchangeAnswer a table chapter marks n e xs → (count < 2 ^ 32) × (worked < 2 ^ 32)
+pub exchange-values : (a table chapter marks : List ℕ) (n element : ℕ) (xs : List ℕ) {count worked : ℕ}
+    → accepted (count ∷ worked ∷ []) ≡ exchangeAnswer a table chapter marks n element xs → (count < 2 ^ 32) × (worked < 2 ^ 32)
 unfolding exchangeAnswer fault newTree
-exchange-values a table chapter marks n e xs {count} {worked} h =
-    let v = accepted-values (fault a table chapter marks n e xs) _ (count ∷ worked ∷ []) (sym h) in
-    let few = exchange-accepted a table n (take n chapter) (length chapter) (length marks) e xs (v .0) .fits .few in
+exchange-values a table chapter marks n element xs {count} {worked} h =
+    let v = accepted-values (fault a table chapter marks n element xs) _ (count ∷ worked ∷ []) (sym h) in
+    let few = exchange-accepted a table n (take n chapter) (length chapter) (length marks) element xs (v .0) .fits .few in
     let call : ExchangeCall =
-    record { alphabet = a; table = table; chapter = chapter; marks = marks; count = n; element = e; replacement = xs } in
+    record { alphabet = a; table = table; chapter = chapter; marks = marks; count = n; element = element; replacement = xs } in
     let done = recomputation call count worked (sym h) in
-    let most = recomputed-few (outcomes a table chapter marks n e xs) in
+    let most = recomputed-few (outcomes a table chapter marks n element xs) in
     (omega arith, omega arith)

@@ -68,7 +68,7 @@ keptFrom stored j n = listFrom (λ i. kept (stored i)) j n
 
 -- The nodes from j on, behind the replaced subtree, where `above` tells its ancestors. The stack holds the state sets of
 -- the roots so far: those just recomputed, otherwise those stored. A node that is no ancestor keeps its state set. An
--- ancestor is recomputed; if its state set is as stored, work ends there, otherwise it goes on.
+-- ancestor is recomputed; if its state set is as stored, work ends there, otherwise it continues.
 unfoldable pub propagate : List ℕ → List ℕ → (ℕ → StateSet) → (ℕ → Bool) → ℕ → List ℕ → List StateSet → List Outcome
 propagate a table stored above j [] stack = []
 propagate a table stored above j (w ∷ ws) stack =

@@ -45,7 +45,7 @@ module _ (c : ExchangeCall) where
   abbrev pub unchanged : ℕ → Bool
   unchanged k = ancestor k && sameWords (setAfter (newNumber k)) (storedIn c (oldNumber k))
 
-  -- work goes on up to it: the replacement root's words are not those stored for the old element, and no nearer ancestor is
+  -- work continues up to it: the replacement root's words are not those stored for the old element, and no nearer ancestor is
   -- unchanged
   abbrev pub continues : ℕ → Bool
   continues k =

@@ -33,9 +33,9 @@ abbrev pub EachOnce : List ℕ → Type 0
 EachOnce cs = (n k : ℕ) → k < length cs → lookup (numbered n cs) (getD cs k 0) ≡ (n + k) ∷ []
 
 -- the states of an entry: one, or none where it is missing
-abbrev pub statesIn : Entry → List ℕ
-statesIn Missing = []
-statesIn (State s) = s ∷ []
+abbrev pub statesOfEntry : Entry → List ℕ
+statesOfEntry Missing = []
+statesOfEntry (State s) = s ∷ []
 
 -- a state that fits the fields of a word with room to spare
 abbrev pub Low : Entry → Type 0
@@ -44,5 +44,5 @@ Low (State s) = s < 4096
 
 -- the entry of port p for a constant
 pub record EntryOf (cs : List ℕ) (p c : ℕ) (r : Entry) : Type 0 where
-  pub states : statesIn r ≡ entryFor (portIn cs p) c
+  pub states : statesOfEntry r ≡ entryFor (portIn cs p) c
   pub low : Low r

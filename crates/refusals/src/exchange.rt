@@ -12,14 +12,14 @@ use super::shared::wrong_count;
 use words::chapter::tree_fault;
 use words::postfix::subtree_start;
 
-// Whether so many elements are too few or too many, or do not fit a chapter slice of `places` words.
-fn wrong_use(count: usize, places: usize) -> bool
-    ensures { λ r. ⌜ r ≡ wrongUsedCount count places ⌝ }
+// Whether so many elements are too few or too many, or do not fit a chapter slice of this length.
+fn wrong_used_count(count: usize, chapter_length: usize) -> bool
+    ensures { λ r. ⌜ r ≡ wrongUsedCount count «chapter_length» ⌝ }
 {
     if wrong_count(count) {
         return true;
     }
-    places < count
+    chapter_length < count
 }
 
 // Whether the words are no replacement: none, too many, or no tree over the alphabet.
@@ -32,17 +32,17 @@ fn no_replacement(alphabet: &[u32], replacement: &[u32]) -> bool
     tree_fault(alphabet, replacement) != 0
 }
 
-// Whether a result of `count` elements is too long; the chapter slice has `places` words and the marks slice `room`.
-fn result_too_long(table: &[u32], count: usize, places: usize, room: usize) -> bool
-    ensures { λ r. ⌜ r ≡ resultTooLong (now (table .entry)) count places room ⌝ }
+// Whether a result of `count` elements is too long for chapter and marks slices of these lengths.
+fn result_too_long(table: &[u32], count: usize, chapter_length: usize, marks_length: usize) -> bool
+    ensures { λ r. ⌜ r ≡ resultTooLong (now (table .entry)) count «chapter_length» «marks_length» ⌝ }
 {
     if count > ELEMENTS_MOST {
         return true;
     }
-    if count > places {
+    if count > chapter_length {
         return true;
     }
-    marks_too_short(table, count, room)
+    marks_too_short(table, count, marks_length)
 }
 
 // Of the element and the replacement: 14, 15 or 16, the first that applies, or 0. For 16 the result's length is known: what
@@ -51,8 +51,8 @@ fn change_fault(
     alphabet: &[u32],
     table: &[u32],
     used: &[u32],
-    places: usize,
-    room: usize,
+    chapter_length: usize,
+    marks_length: usize,
     element: usize,
     replacement: &[u32],
 ) -> u32
@@ -60,7 +60,7 @@ fn change_fault(
     ensures { λ r. ⌜
         r
         ≡ refusal
-        (changeRefusals (now (alphabet .entry)) (now (table .entry)) (length (now (used .entry))) (now (used .entry)) places room element (now (replacement .entry)))
+        (changeRefusals (now (alphabet .entry)) (now (table .entry)) (length (now (used .entry))) (now (used .entry)) «chapter_length» «marks_length» element (now (replacement .entry)))
         ⌝ }
 {
     if element >= used.len() {
@@ -72,7 +72,7 @@ fn change_fault(
     let start = subtree_start(alphabet, used, element);
     let behind = used.len() - element - 1;
     let count = start + replacement.len() + behind;
-    if result_too_long(table, count, places, room) {
+    if result_too_long(table, count, chapter_length, marks_length) {
         return 16;
     }
     0
@@ -84,23 +84,23 @@ pub fn exchange_fault(
     table: &[u32],
     chapter: &[u32],
     count: usize,
-    room: usize,
+    marks_length: usize,
     element: usize,
     replacement: &[u32],
 ) -> u32
     ensures { λ r. ⌜
         r
-        ≡ exchangeFault (now (alphabet .entry)) (now (table .entry)) count (take count (now (chapter .entry))) (length (now (chapter .entry))) room element (now (replacement .entry))
+        ≡ exchangeFault (now (alphabet .entry)) (now (table .entry)) count (take count (now (chapter .entry))) (length (now (chapter .entry))) «marks_length» element (now (replacement .entry))
         ⌝ }
 {
     let first = table_fault(alphabet, table);
     if first != 0 {
         return first;
     }
-    if wrong_use(count, chapter.len()) {
+    if wrong_used_count(count, chapter.len()) {
         return 9;
     }
-    let marked = marked_fault(alphabet, table, &chapter[..count], room);
+    let marked = marked_fault(alphabet, table, &chapter[..count], marks_length);
     if marked != 0 {
         return marked;
     }
@@ -109,7 +109,7 @@ pub fn exchange_fault(
         table,
         &chapter[..count],
         chapter.len(),
-        room,
+        marks_length,
         element,
         replacement,
     )

@@ -5,10 +5,15 @@ use super::shared::marks_too_short;
 use super::shared::table_fault;
 use super::shared::wrong_count;
 
-// Document 01's number of the refusal, the first that applies, or 0; `room` and `places` are the lengths of the marks and
-// of the list slice.
-pub fn list_fault(alphabet: &[u32], table: &[u32], count: usize, room: usize, places: usize) -> u32
-    ensures { λ r. ⌜ r ≡ listFault (now (alphabet .entry)) (now (table .entry)) count room places ⌝ }
+// Document 01's number of the refusal, the first that applies, or 0, for marks and list slices of these lengths.
+pub fn list_fault(
+    alphabet: &[u32],
+    table: &[u32],
+    count: usize,
+    marks_length: usize,
+    list_length: usize,
+) -> u32
+    ensures { λ r. ⌜ r ≡ listFault (now (alphabet .entry)) (now (table .entry)) count «marks_length» «list_length» ⌝ }
 {
     let first = table_fault(alphabet, table);
     if first != 0 {
@@ -17,10 +22,10 @@ pub fn list_fault(alphabet: &[u32], table: &[u32], count: usize, room: usize, pl
     if wrong_count(count) {
         return 9;
     }
-    if marks_too_short(table, count, room) {
+    if marks_too_short(table, count, marks_length) {
         return 12;
     }
-    if places < count {
+    if list_length < count {
         return 13;
     }
     0

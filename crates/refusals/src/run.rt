@@ -5,9 +5,9 @@ use super::shared::marked_fault;
 use super::shared::table_fault;
 use super::shared::wrong_count;
 
-// Document 01's number of the refusal, the first that applies, or 0; `room` is the length of the marks slice.
-pub fn run_fault(alphabet: &[u32], table: &[u32], chapter: &[u32], room: usize) -> u32
-    ensures { λ r. ⌜ r ≡ runFault (now (alphabet .entry)) (now (table .entry)) (now (chapter .entry)) room ⌝ }
+// Document 01's number of the refusal, the first that applies, or 0, for a marks slice of this length.
+pub fn run_fault(alphabet: &[u32], table: &[u32], chapter: &[u32], marks_length: usize) -> u32
+    ensures { λ r. ⌜ r ≡ runFault (now (alphabet .entry)) (now (table .entry)) (now (chapter .entry)) «marks_length» ⌝ }
 {
     let first = table_fault(alphabet, table);
     if first != 0 {
@@ -16,5 +16,5 @@ pub fn run_fault(alphabet: &[u32], table: &[u32], chapter: &[u32], room: usize) 
     if wrong_count(chapter.len()) {
         return 9;
     }
-    marked_fault(alphabet, table, chapter, room)
+    marked_fault(alphabet, table, chapter, marks_length)
 }

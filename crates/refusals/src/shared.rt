@@ -36,28 +36,33 @@ pub(crate) fn wrong_count(count: usize) -> bool
     ELEMENTS_MOST < count
 }
 
-// Whether a marks slice of `room` words is too short for the state sets of this many elements.
-pub(crate) fn marks_too_short(table: &[u32], count: usize, room: usize) -> bool
+// Whether a marks slice of this length is too short for the state sets of this many elements.
+pub(crate) fn marks_too_short(table: &[u32], count: usize, marks_length: usize) -> bool
     requires { ⌜ count ≤ 4096 ⌝ }
-    ensures { λ r. ⌜ r ≡ marksTooShort (now (table .entry)) count room ⌝ }
+    ensures { λ r. ⌜ r ≡ marksTooShort (now (table .entry)) count «marks_length» ⌝ }
 {
-    room < count * set_size(table)
+    marks_length < count * set_size(table)
 }
 
-// Of a chapter's elements and a marks slice of `room` words: 10, 11 or 12, the first that applies, or 0.
-pub(crate) fn marked_fault(alphabet: &[u32], table: &[u32], nodes: &[u32], room: usize) -> u32
+// Of a chapter's elements and a marks slice of this length: 10, 11 or 12, the first that applies, or 0.
+pub(crate) fn marked_fault(
+    alphabet: &[u32],
+    table: &[u32],
+    nodes: &[u32],
+    marks_length: usize,
+) -> u32
     requires { ⌜ length (now nodes) ≤ 4096 ⌝ }
     ensures { λ r. ⌜
         r
         ≡ refusal
-        (markedRefusals (now (alphabet .entry)) (now (table .entry)) (length (now (nodes .entry))) (now (nodes .entry)) room)
+        (markedRefusals (now (alphabet .entry)) (now (table .entry)) (length (now (nodes .entry))) (now (nodes .entry)) «marks_length»)
         ⌝ }
 {
     let shape = tree_fault(alphabet, nodes);
     if shape != 0 {
         return shape;
     }
-    if marks_too_short(table, nodes.len(), room) {
+    if marks_too_short(table, nodes.len(), marks_length) {
         return 12;
     }
     0

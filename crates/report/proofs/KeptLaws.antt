@@ -79,8 +79,8 @@ chapter-number a e = cut-some (ruleRefusals a e) 9 (omega arith) refl
 
 -- ---- the words that are kept
 
-kept-long : (l : List ℕ) (k : ℕ) → k < length l → k < length (take (k + 1) l)
-kept-long l k h = rw (length-take-le (k + 1) l (omega arith)) (omega arith)
+kept-one-more : (l : List ℕ) (k : ℕ) → k < length l → k < length (take (k + 1) l)
+kept-one-more l k h = rw (length-take-le (k + 1) l (omega arith)) (omega arith)
 
 keep-alphabet : (a e ch : List ℕ) → marklistOutput (take 65 a) e ch ≡ marklistOutput a e ch
 keep-alphabet a e ch = go (decLe (length a) 64)
@@ -88,7 +88,7 @@ keep-alphabet a e ch = go (decLe (length a) 64)
     go : Dec (length a ≤ 64) → marklistOutput (take 65 a) e ch ≡ marklistOutput a e ch
     go (yes h) = ap (λ (l : List ℕ). marklistOutput l e ch) (take-all 65 a (omega arith))
     go (no h) =
-        refused-output (take 65 a) e ch 1 (alphabet-long (take 65 a) e ch (kept-long a 64 (omega arith))) (omega arith)
+        refused-output (take 65 a) e ch 1 (alphabet-long (take 65 a) e ch (kept-one-more a 64 (omega arith))) (omega arith)
         ∙ sym (refused-output a e ch 1 (alphabet-long a e ch (omega arith)) (omega arith))
 
 keep-rule : (a e ch : List ℕ) → marklistOutput a (take 65 e) ch ≡ marklistOutput a e ch
@@ -97,7 +97,7 @@ keep-rule a e ch = go (decLe (length e) 64)
     go : Dec (length e ≤ 64) → marklistOutput a (take 65 e) ch ≡ marklistOutput a e ch
     go (yes h) = ap (λ (l : List ℕ). marklistOutput a l ch) (take-all 65 e (omega arith))
     go (no h) =
-        refused-output a (take 65 e) ch _ (rule-long a (take 65 e) ch (kept-long e 64 (omega arith))) (rule-number a)
+        refused-output a (take 65 e) ch _ (rule-long a (take 65 e) ch (kept-one-more e 64 (omega arith))) (rule-number a)
         ∙ sym (refused-output a e ch _ (rule-long a e ch (omega arith)) (rule-number a))
 
 keep-chapter : (a e ch : List ℕ) → marklistOutput a e (take 257 ch) ≡ marklistOutput a e ch
@@ -106,7 +106,7 @@ keep-chapter a e ch = go (decLe (length ch) 256)
     go : Dec (length ch ≤ 256) → marklistOutput a e (take 257 ch) ≡ marklistOutput a e ch
     go (yes h) = ap (marklistOutput a e) (take-all 257 ch (omega arith))
     go (no h) =
-        refused-output a e (take 257 ch) _ (chapter-long a e (take 257 ch) (kept-long ch 256 (omega arith))) (chapter-number a e)
+        refused-output a e (take 257 ch) _ (chapter-long a e (take 257 ch) (kept-one-more ch 256 (omega arith))) (chapter-number a e)
         ∙ sym (refused-output a e ch _ (chapter-long a e ch (omega arith)) (chapter-number a e))
 
 pub kept-output : (a e ch : List ℕ) → marklistOutput (take 65 a) (take 65 e) (take 257 ch) ≡ marklistOutput a e ch

@@ -2,5 +2,5 @@ pub mod KeptLaws
 pub mod OutputLength
 pub mod ProgramLaws
 pub mod SourceExample
-pub mod AnswerLaws
+pub mod ReportedAnswerLaws
 pub mod ReportLaws

@@ -12,7 +12,7 @@ use Rattle.lines.specs.Line.{refusedLine}
 use Rattle.report.specs.Output.{marklistOutput, outputOf}
 use Rattle.encoding.specs.Words.{wordsIn}
 use Rattle.report.specs.Input.{countIn, announced, complete, alphabetIn, ruleIn, chapterIn, programOutput}
-use Rattle.encoding.proofs.WordLaws.{length-wordsIn}
+use Rattle.encoding.proofs.WordByteLaws.{length-wordsIn}
 use Rattle.report.proofs.KeptLaws.{kept-output}
 
 -- ---- the whole program

@@ -10,7 +10,7 @@ use Rattle.words.specs.Answer.{refused, accepted}
 use Rattle.operations.specs.Compile.{compiledTable, compileAnswer, compileExit}
 use Rattle.operations.specs.Run.{runAnswer, runExit}
 use Rattle.operations.specs.Listing.{matchesOf, listFault, listAnswer, listExit}
-use Rattle.operations.proofs.AcceptedLaws.{accepted-values, list-accepted as list-fine}
+use Rattle.operations.proofs.AcceptedLaws.{accepted-values, list-accepted}
 use Rattle.operations.proofs.CompileLaws.{CompileAccepted, compile-accepted}
 use Rattle.compiler.specs.declared.Compiled.{Compiled}
 use Rattle.compiler.specs.declared.Compiled.the-variants.{Table, Refused as Compiled·Refused}
@@ -24,14 +24,14 @@ use Rattle.operations.proofs.MatchLaws.{matchesOf-few}
 use Rattle.lines.specs.Line.{refusedLine, headLine, hitLines}
 use Rattle.report.specs.Output.{marklistOutput, outputOf}
 use Rattle.report.specs.Stages.{Compiles, Marks}
-use Rattle.encoding.specs.Writing.{Written}
-use Rattle.encoding.proofs.WritingLaws.{written-same, written-whole}
+use Rattle.encoding.specs.ByteWriting.{BytesWritten}
+use Rattle.encoding.proofs.ByteWritingLaws.{bytes-written-same, bytes-written-whole}
 use Rattle.report.proofs.KeptLaws.{complete-output, early-output}
 use Rattle.report.proofs.OutputLength.{output-short}
-use Rattle.report.proofs.AnswerLaws.{compile-refused, chapter-over, run-refused, list-accepted, listed-long, listed-output}
+use Rattle.report.proofs.ReportedAnswerLaws.{compile-refused, chapter-over, run-refusal, list-not-refused, listed-long, listed-output}
 
 -- the slices as they are lent first
-abbrev zeros : ℕ → List ℕ
+abbrev pub zeros : ℕ → List ℕ
 zeros n = replicate n 0
 
 pub many : (n : ℕ) → length (zeros n) ≡ n
@@ -39,30 +39,30 @@ many n = length-replicate {A = ℕ} n 0
 
 -- ---- the whole output, in a slice that it fits
 
-whole : (bs out out′ : List ℕ) (r : ℕ) → length bs ≤ 4096 → 4096 ≤ length out → Written 0 bs out out′ r → (r ≡ length bs) × (out′ ≡ bs ++ drop r out)
-whole bs out out′ r s room w =
-    let p = written-whole bs out out′ r w (omega arith) in
+whole : (bs out out′ : List ℕ) (r : ℕ) → length bs ≤ 4096 → 4096 ≤ length out → BytesWritten 0 bs out out′ r → (r ≡ length bs) × (out′ ≡ bs ++ drop r out)
+whole bs out out′ r s fits w =
+    let p = bytes-written-whole bs out out′ r w (omega arith) in
     (p .0, p .1 ∙ ap (λ (n : ℕ). bs ++ drop n out) (sym (p .0)))
 
-module _ (complete : Bool) (a e ch : List ℕ) {out out′ : List ℕ} {r : ℕ} (room : 4096 ≤ length out) where
-  pub complete-whole : complete ≡ true → Written 0 (marklistOutput a e ch) out out′ r
+module _ (complete : Bool) (a e ch : List ℕ) {out out′ : List ℕ} {r : ℕ} (fits : 4096 ≤ length out) where
+  pub complete-whole : complete ≡ true → BytesWritten 0 (marklistOutput a e ch) out out′ r
       → (r ≡ length (outputOf complete a e ch)) × (out′ ≡ outputOf complete a e ch ++ drop r out)
   complete-whole t w =
-      whole (outputOf complete a e ch) out out′ r (output-short complete a e ch) room (written-same w (sym (complete-output complete a e ch t)))
+      whole (outputOf complete a e ch) out out′ r (output-short complete a e ch) fits (bytes-written-same w (sym (complete-output complete a e ch t)))
 
-  pub early-whole : complete ≡ false → Written 0 (refusedLine 0) out out′ r
+  pub early-whole : complete ≡ false → BytesWritten 0 (refusedLine 0) out out′ r
       → (r ≡ length (outputOf complete a e ch)) × (out′ ≡ outputOf complete a e ch ++ drop r out)
   early-whole t w =
-      whole (outputOf complete a e ch) out out′ r (output-short complete a e ch) room (written-same w (sym (early-output complete a e ch t)))
+      whole (outputOf complete a e ch) out out′ r (output-short complete a e ch) fits (bytes-written-same w (sym (early-output complete a e ch t)))
 
 -- ---- Compile
 
 module _ (a e ch : List ℕ) where
   pub refused-compiled : {n x : ℕ} {out out′ : List ℕ} (r : Compiled) → r ≡ Compiled·Refused n → answerIn r ≡ compileAnswer a e (zeros 2048)
-      → Written 0 (refusedLine n) out out′ x → Written 0 (marklistOutput a e ch) out out′ x
+      → BytesWritten 0 (refusedLine n) out out′ x → BytesWritten 0 (marklistOutput a e ch) out out′ x
   refused-compiled {n} r q h w =
       let g : refused n ≡ compileAnswer a e (zeros 2048) = rw q at h in
-      written-same w (sym (compile-refused a e ch (zeros 2048) n (many 2048) g))
+      bytes-written-same w (sym (compile-refused a e ch (zeros 2048) n (many 2048) g))
 
 module _ (a e slice : List ℕ) {table : List ℕ} {k : ℕ} (r : Compiled) (told : r ≡ Table k) (h : answerIn r ≡ compileAnswer a e slice)
     (exit : table ≡ compileExit a e slice) where
@@ -75,35 +75,35 @@ module _ (a e slice : List ℕ) {table : List ℕ} {k : ℕ} (r : Compiled) (tol
   table-is : take k table ≡ compiledTable a e
   table-is = ap (take k) exit ∙ known .table
 
-  pub table-long : k ≡ length (take k table)
-  table-long = known .count ∙ sym (ap length table-is)
+  pub table-counted : k ≡ length (take k table)
+  table-counted = known .count ∙ sym (ap length table-is)
 
   pub table-fits : k ≤ length table
-  table-fits = let l = length-take k table in omega (arith, table-long)
+  table-fits = let l = length-take k table in omega (arith, table-counted)
 
   pub compiles : length slice ≡ 2048 → Compiles a e (take k table)
-  compiles room = record {
+  compiles long = record {
     slice = slice;
-    room = room;
-    answer = ap (λ (n : ℕ). accepted (n ∷ [])) (sym table-long) ∙ answer;
+    long = long;
+    answer = ap (λ (n : ℕ). accepted (n ∷ [])) (sym table-counted) ∙ answer;
     same = table-is;
   }
 
 -- ---- Run
 
 module _ {a e table : List ℕ} (t : Compiles a e table) (ch : List ℕ) where
-  pub refused-over : {x : ℕ} {out out′ : List ℕ} → 256 < length ch → Written 0 (refusedLine 9) out out′ x
-      → Written 0 (marklistOutput a e ch) out out′ x
-  refused-over h w = written-same w (sym (chapter-over a e ch (t .slice) (length table) (t .room) (t .answer) h))
+  pub refused-over : {x : ℕ} {out out′ : List ℕ} → 256 < length ch → BytesWritten 0 (refusedLine 9) out out′ x
+      → BytesWritten 0 (marklistOutput a e ch) out out′ x
+  refused-over h w = bytes-written-same w (sym (chapter-over a e ch (t .slice) (length table) (t .long) (t .answer) h))
 
   module _ (few : length ch ≤ 256) where
     pub refused-ran : {n x : ℕ} {out out′ : List ℕ} (r : Ran) → r ≡ Ran·Refused n → answerInRan r ≡ runAnswer a table ch (zeros 8192)
-        → Written 0 (refusedLine n) out out′ x → Written 0 (marklistOutput a e ch) out out′ x
+        → BytesWritten 0 (refusedLine n) out out′ x → BytesWritten 0 (marklistOutput a e ch) out out′ x
     refused-ran {n} r q h w =
         let g : refused n ≡ runAnswer a table ch (zeros 8192) = rw q at h in
-        written-same w
+        bytes-written-same w
         (sym
-        (run-refused a e ch (t .slice) (length table) (t .room) (t .answer) few (zeros 8192) n (many 8192)
+        (run-refusal a e ch (t .slice) (length table) (t .long) (t .answer) few (zeros 8192) n (many 8192)
         (g ∙ ap (λ (l : List ℕ). runAnswer a l ch (zeros 8192)) (t .same))))
 
     pub marked : {n cells : ℕ} {marks : List ℕ} (r : Ran) → r ≡ Marked n cells → answerInRan r ≡ runAnswer a table ch (zeros 8192)
@@ -112,7 +112,7 @@ module _ {a e table : List ℕ} (t : Compiles a e table) (ch : List ℕ) where
       compiles = t;
       few = few;
       slice = zeros 8192;
-      room = many 8192;
+      long = many 8192;
       nodes = n;
       cells = cells;
       answer = rw q at h;
@@ -128,8 +128,8 @@ unfolding listAnswer
 hits-most a table n marks {k} q e h =
     let g : accepted (k ∷ []) ≡ listAnswer a table n marks (zeros 256) = rw e at h in
     let v = accepted-values (listFault a table n (length marks) (length (zeros 256))) (length (matchesOf table n marks) ∷ []) (k ∷ []) (sym g) in
-    let fits = list-fine a table n (length marks) (length (zeros 256)) (v .0) .list in
-    let room = many 256 in
+    let fits = list-accepted a table n (length marks) (length (zeros 256)) (v .0) .list in
+    let long = many 256 in
     let few = matchesOf-few table marks n in
     let count : length (matchesOf table n marks) ≡ k = head-eq-of-cons-eq (v .1) in
     omega arith
@@ -154,25 +154,25 @@ module _ {a e table ch marks : List ℕ} (m : Marks a e table ch marks) where
   pub never-refused : {f : ℕ} (q : Listed) → q ≡ Listed·Refused f → answerInListed q ≡ listAnswer a table (length ch) marks (zeros 256) → ⊥
   never-refused {f} q told h =
       let g : refused f ≡ listAnswer a table (length ch) marks (zeros 256) = rw told at h in
-      list-accepted a e ch (t .slice) (length table) (t .room) (t .answer) (m .few) (m .slice) (zeros 256) (m .room) (many 256) (m .nodes) (m .cells) runs f
+      list-not-refused a e ch (t .slice) (length table) (t .long) (t .answer) (m .few) (m .slice) (zeros 256) (m .long) (many 256) (m .nodes) (m .cells) runs f
       (g ∙ same-answer)
 
   pub lines-written : {hits states x : ℕ} {out out′ list : List ℕ} (q : Listed) → q ≡ Matches hits
       → answerInListed q ≡ listAnswer a table (length ch) marks (zeros 256) → list ≡ listExit a table (length ch) marks (zeros 256)
       → states ≡ automatonOf table .states
-      → Written 0 (headLine (length ch) states (length (take hits list)) ++ hitLines a ch (take hits list)) out out′ x
-      → Written 0 (marklistOutput a e ch) out out′ x
+      → BytesWritten 0 (headLine (length ch) states (length (take hits list)) ++ hitLines a ch (take hits list)) out out′ x
+      → BytesWritten 0 (marklistOutput a e ch) out out′ x
   lines-written {hits} {states} {list = list} q told h wrote s w =
       let g : accepted (hits ∷ []) ≡ listAnswer a table (length ch) marks (zeros 256) = rw told at h in
       let l : list ≡ listExit a (compiledTable a e) (length ch) left (zeros 256) =
       wrote ∙ ap₂ (λ (l ms : List ℕ). listExit a l (length ch) ms (zeros 256)) (t .same) marks-are in
       let z : states ≡ automatonOf (compiledTable a e) .states = s ∙ ap (λ (l : List ℕ). automatonOf l .states) (t .same) in
       let n : hits ≡ length (take hits list) =
-      listed-long a e ch (t .slice) (length table) (t .room) (t .answer) (m .few) (m .slice) (zeros 256) (m .room) (many 256) (m .nodes) (m .cells) runs hits
+      listed-long a e ch (t .slice) (length table) (t .long) (t .answer) (m .few) (m .slice) (zeros 256) (m .long) (many 256) (m .nodes) (m .cells) runs hits
       (g ∙ same-answer)
       ∙ sym (ap (λ (ls : List ℕ). length (take hits ls)) l) in
-      written-same w
+      bytes-written-same w
       (sym
-      (listed-output a e ch (t .slice) (length table) (t .room) (t .answer) (m .few) (m .slice) (zeros 256) (m .room) (many 256) (m .nodes) (m .cells) runs hits
+      (listed-output a e ch (t .slice) (length table) (t .long) (t .answer) (m .few) (m .slice) (zeros 256) (m .long) (many 256) (m .nodes) (m .cells) runs hits
       (g ∙ same-answer)
       ∙ rw (← l, ← n, z)))

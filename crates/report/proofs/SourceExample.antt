@@ -18,7 +18,7 @@ use Rattle.operations.specs.Marks.{finalOf, nodeSets}
 use Rattle.operations.specs.Run.{runMarks}
 use Rattle.operations.specs.Listing.{matchesIn, matchesOf}
 use Rattle.operations.proofs.RunLaws.{run-writes, matches-nodeSets}
-use Rattle.operations.proofs.Examples.{examples}
+use Rattle.operations.proofs.Examples.{chapter, examples}
 use Rattle.encoding.specs.Decimal.{digitsWithin, decimal}
 use Rattle.lines.specs.Line.{headLine, hitLine, hitLines}
 use Rattle.report.specs.Output.{wrongChapter, marklistFault, hitsOf}
@@ -49,10 +49,6 @@ exampleOutput =
     ∷ 50 ∷ 32 ∷ 52 ∷ 32 ∷ 51 ∷ 10
     ∷ 51 ∷ 32 ∷ 51 ∷ 32 ∷ 49 ∷ 10
     ∷ 52 ∷ 32 ∷ 53 ∷ 32 ∷ 50 ∷ 10 ∷ []
-
--- "Chapter a b f d g h f."
-abbrev chapter : List ℕ
-chapter = 0x7000_0000 ∷ 0x7000_0001 ∷ 0x7000_0004 ∷ 0x7000_0003 ∷ 0x7000_0005 ∷ 0x7000_0006 ∷ 0x7000_0004 ∷ []
 
 -- ---- the hits
 

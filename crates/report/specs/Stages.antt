@@ -10,7 +10,7 @@ use Rattle.operations.specs.Run.{runAnswer, runExit}
 -- the table of a rule that Compile accepts with a slice of 2,048 words
 pub record Compiles (a e table : List ℕ) : Type 0 where
   pub slice : List ℕ
-  pub room : length slice ≡ 2048
+  pub long : length slice ≡ 2048
   pub answer : accepted (length table ∷ []) ≡ compileAnswer a e slice
   pub same : table ≡ compiledTable a e
 
@@ -19,7 +19,7 @@ pub record Marks (a e table ch marks : List ℕ) : Type 0 where
   pub compiles : Compiles a e table
   pub few : length ch ≤ 256
   pub slice : List ℕ
-  pub room : length slice ≡ 8192
+  pub long : length slice ≡ 8192
   pub nodes : ℕ
   pub cells : ℕ
   pub answer : accepted (nodes ∷ cells ∷ []) ≡ runAnswer a table ch slice

@@ -1,8 +1,8 @@
 // How the words of the input are read: part after part, and no more of them than are kept.
 ghost use mathlib.Core.Path.{_≡_};
 ghost use Prim.Native.Nat.{_*_, min};
-use encoding::word::WORD_BYTES;
-use encoding::word::least;
+use encoding::word_bytes::WORD_BYTES;
+use encoding::word_bytes::least;
 
 // How many bytes to read next, where `left` words are still to come: whole words, as many as a buffer of 4,096 bytes holds.
 pub fn part_bytes(left: usize) -> usize
@@ -11,9 +11,9 @@ pub fn part_bytes(left: usize) -> usize
     WORD_BYTES * least(left, 1024)
 }
 
-// How many words are kept of `count` in a slice of `room` words.
-pub fn kept(count: u32, room: usize) -> usize
-    ensures { λ r. ⌜ r ≡ min count room ⌝ }
+// How many words are kept of `count` in a slice of this length.
+pub fn kept(count: u32, slice_length: usize) -> usize
+    ensures { λ r. ⌜ r ≡ min count «slice_length» ⌝ }
 {
-    least(count as usize, room)
+    least(count as usize, slice_length)
 }

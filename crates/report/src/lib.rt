@@ -5,15 +5,15 @@ ghost use Prim.Native.Nat.{ℕ, _≤_};
 ghost use lib.ListN.{length, drop};
 ghost use Rattle.report.specs.Output.{marklistOutput, outputOf};
 ghost use Rattle.report.specs.Stages.{Compiles, Marks};
-ghost use Rattle.encoding.specs.Writing.{Written};
+ghost use Rattle.encoding.specs.ByteWriting.{BytesWritten};
 use compiler::Compiled;
 use compiler::compile;
 use lines::write_lines;
 use lines::write_refused;
 use matcher::Listed;
 use matcher::Ran;
-use matcher::listing::list;
-use matcher::run::run;
+use matcher::list;
+use matcher::run;
 use tables::head::state_count;
 
 pub mod input;
@@ -37,7 +37,7 @@ fn report_hits(
 ) -> usize
     ensures { λ r. ⌜
         ((rule : List ℕ) → Marks (now (alphabet .entry)) rule (now (table .entry)) (now (chapter .entry)) (now (marks .entry))
-        → Written 0 (marklistOutput (now (alphabet .entry)) rule (now (chapter .entry))) (now (out .entry)) (now (out .exit)) r)
+        → BytesWritten 0 (marklistOutput (now (alphabet .entry)) rule (now (chapter .entry))) (now (out .entry)) (now (out .exit)) r)
         ⌝ }
 {
     let mut hits = [0u32; CHAPTER_MOST];
@@ -57,7 +57,7 @@ fn report_hits(
 fn report_chapter(alphabet: &[u32], table: &[u32], chapter: &[u32], out: &mut [u8]) -> usize
     ensures { λ r. ⌜
         ((rule : List ℕ) → Compiles (now (alphabet .entry)) rule (now (table .entry))
-        → Written 0 (marklistOutput (now (alphabet .entry)) rule (now (chapter .entry))) (now (out .entry)) (now (out .exit)) r)
+        → BytesWritten 0 (marklistOutput (now (alphabet .entry)) rule (now (chapter .entry))) (now (out .entry)) (now (out .exit)) r)
         ⌝ }
 {
     if chapter.len() > CHAPTER_MOST {

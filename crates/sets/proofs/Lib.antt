@@ -2,7 +2,7 @@ pub mod Constants
 pub mod MaskLaws
 pub mod JoinLaws
 pub mod CompareLaws
-pub mod CountLaws
+pub mod CellCountLaws
 pub mod RowLaws
 pub mod SetLaws
 pub mod StoredLaws

@@ -1,4 +1,4 @@
--- A set of a slice that goes through a set of its own comes out as it was.
+-- A set of a slice that is copied through a set of its own is as it was.
 use mathlib.Core.Path.{_≡_, ap, ap₂, _∙_, sym}
 use mathlib.Core.List.{List, _++_}
 use Prim.Native.Nat.{ℕ, _+_, _-_, _≤_}
@@ -21,12 +21,12 @@ module _ {marks : List ℕ} {from to size : ℕ} (g : Copyable marks from to siz
   front : take size set ≡ take size (drop from marks)
   front = ap (take size) e ∙ take-at source rest size source-length ∙ same-part
 
-  pub set-length : size ≡ length (take size set)
-  set-length = sym (ap length front ∙ sym (ap length same-part) ∙ source-length)
+  pub copied-length : size ≡ length (take size set)
+  copied-length = sym (ap length front ∙ sym (ap length same-part) ∙ source-length)
 
-  pub set-room : to + length (take size set) ≤ length marks
-  set-room = omega (arith, set-length, g .target)
+  pub copied-fits : to + length (take size set) ≤ length marks
+  copied-fits = omega (arith, copied-length, g .target)
 
   pub set-copied : (marks′ : List ℕ) → marks′ ≡ paste marks to (take size set) (length (take size set))
       → marks′ ≡ paste marks to (take size (drop from marks)) size
-  set-copied marks′ q = q ∙ ap₂ (λ (l : List ℕ) (n : ℕ). paste marks to l n) front (sym set-length)
+  set-copied marks′ q = q ∙ ap₂ (λ (l : List ℕ) (n : ℕ). paste marks to l n) front (sym copied-length)

@@ -12,8 +12,8 @@ use Rattle.operations.specs.Marks.{storedSet}
 use Rattle.slices.proofs.RefitLaws.{take-drop}
 
 -- node i's words lie inside the marks of n nodes
-pub row-inside : (i n size room : ℕ) → i < n → n * size ≤ room → i * size + size ≤ room
-row-inside i n size room h l = le-trans (rw (← suc-mul i size) (mul-le-mul-right size h)) l
+pub row-inside : (i n size marksLength : ℕ) → i < n → n * size ≤ marksLength → i * size + size ≤ marksLength
+row-inside i n size marksLength h l = le-trans (rw (← suc-mul i size) (mul-le-mul-right size h)) l
 
 -- the words of all marks are at most 4,096 times 32
 pub words-few : (n size : ℕ) → n ≤ 4096 → size ≤ 32 → n * size ≤ 131072

@@ -20,7 +20,7 @@ module _ (s₀ : List ℕ) (at : ℕ) (ws : List ℕ) (n : ℕ) where
 
   pub copied-more : (s : List ℕ) (k i v : ℕ) → Copied s₀ at ws n s k → k < n → at + n ≤ length s₀ → n ≤ length ws
       → i ≡ at + k → v ≡ getD ws k 0 → Copied s₀ at ws n (set s i v) (k + 1)
-  copied-more s k i v g l room enough ei ev = record {
+  copied-more s k i v g l fits enough ei ev = record {
     few = omega arith;
     long = length-set s i v ∙ g .long;
     same =
@@ -37,12 +37,12 @@ module _ (s₀ : List ℕ) (at : ℕ) (ws : List ℕ) (n : ℕ) where
 -- a word at or behind the place of the next one is as it was
 pub copied-behind : (s₀ : List ℕ) (at : ℕ) (ws : List ℕ) (n : ℕ) (s : List ℕ) (k i : ℕ) → Copied s₀ at ws n s k
     → at + k ≤ i → at ≤ length s₀ → n ≤ length ws → getD s i 0 ≡ getD s₀ i 0
-copied-behind s₀ at ws n s k i g l room enough =
+copied-behind s₀ at ws n s k i g l fits enough =
     let few = g .few in
     let q : at + k + (i - (at + k)) ≡ i = omega arith in
     ap₂ (λ (t : List ℕ) (j : ℕ). getD t j 0) (g .same) (sym q)
     ∙ sym (getD-drop (at + k) (paste s₀ at ws k) (i - (at + k)) 0)
-    ∙ ap (λ (t : List ℕ). getD t (i - (at + k)) 0) (drop-paste s₀ at ws k room (omega arith))
+    ∙ ap (λ (t : List ℕ). getD t (i - (at + k)) 0) (drop-paste s₀ at ws k fits (omega arith))
     ∙ getD-drop (at + k) s₀ (i - (at + k)) 0 ∙ ap (λ (j : ℕ). getD s₀ j 0) q
 
 -- ---- the values that are copied

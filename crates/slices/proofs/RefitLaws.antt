@@ -20,7 +20,7 @@ take-drop (suc t) (suc n) (x ∷ l) h =
     ap (λ (i : ℕ). take i (drop t l)) (let e : suc n - suc t ≡ n - t = omega arith in e) ∙ take-drop t n l (omega arith)
 
 -- the words from index t up to n move to index `at`; `front` is what stands before them
-module _ (l : List ℕ) (at t n : ℕ) (h : t ≤ n) (inside : n ≤ length l) (room : at + (n - t) ≤ length l) where
+module _ (l : List ℕ) (at t n : ℕ) (h : t ≤ n) (inside : n ≤ length l) (fits : at + (n - t) ≤ length l) where
   abbrev words : List ℕ
   words = take at l ++ slice t n l
 

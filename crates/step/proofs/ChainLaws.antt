@@ -38,16 +38,16 @@ module _ (w : ℕ) where
   unfolding keyOf
   key-none h i = rw (ne-eqb (numberOf w) (kindNumber transitionKind) h, ne-eqb (numberOf w) (kindNumber epsilonKind) i)
 
-  pub symbol-word : {f : ℕ} → keyOf w ≡ f → f < 256 → SymbolWord w f
-  symbol-word {f} e h = go (tested (hasKind transitionKind w)) (tested (hasKind epsilonKind w))
+  pub keyed-symbol : {f : ℕ} → keyOf w ≡ f → f < 256 → SymbolWord w f
+  keyed-symbol {f} e h = go (tested (hasKind transitionKind w)) (tested (hasKind epsilonKind w))
     where
       go : Tested (hasKind transitionKind w) → Tested (hasKind epsilonKind w) → SymbolWord w f
       go (holds y) t = let k = eqb-true (numberOf w) (kindNumber transitionKind) y in record { kind = k; symbol = sym (key-symbol k refl) ∙ e }
       go (fails n) (holds y) = absurd (omega (arith, key-epsilon (eqb-true (numberOf w) (kindNumber epsilonKind) y) refl))
       go (fails n) (fails m) = absurd (omega (arith, key-none (eqb-false (numberOf w) (kindNumber transitionKind) n) (eqb-false (numberOf w) (kindNumber epsilonKind) m)))
 
-  pub epsilon-word : {p : ℕ} → keyOf w ≡ 256 + p → p < 1024 → EpsilonWord w p
-  epsilon-word {p} e h = go (tested (hasKind transitionKind w)) (tested (hasKind epsilonKind w))
+  pub keyed-epsilon : {p : ℕ} → keyOf w ≡ 256 + p → p < 1024 → EpsilonWord w p
+  keyed-epsilon {p} e h = go (tested (hasKind transitionKind w)) (tested (hasKind epsilonKind w))
     where
       go : Tested (hasKind transitionKind w) → Tested (hasKind epsilonKind w) → EpsilonWord w p
       go (holds y) t = absurd (omega (arith, key-symbol (eqb-true (numberOf w) (kindNumber transitionKind) y) refl))
@@ -93,7 +93,7 @@ abbrev pub Without : List ℕ → ℕ → ℕ → ℕ → Type 0
 Without table key j e = (m : ℕ) → j ≤ m → m < e → keyOf (getD table m 0) ≡ key → ⊥
 
 -- word i is the first one from j on that has the key
-pub record Next (table : List ℕ) (key j i : ℕ) : Type 0 where
+pub record FirstWith (table : List ℕ) (key j i : ℕ) : Type 0 where
   pub behind : j ≤ i
   pub inside : i < length table
   pub keyed : keyOf (getD table i 0) ≡ key
@@ -123,18 +123,18 @@ module _ (table : List ℕ) (key : ℕ) where
       go (yes d) = n (rw d at k)
       go (no d) = w m (omega arith) h k
 
-  some-at : (j : ℕ) → j < length table → (0 < nextWith table key (j + 1) → Next table key (j + 1) (nextWith table key (j + 1)))
-      → 0 < nextWith table key j → Next table key j (nextWith table key j)
+  some-at : (j : ℕ) → j < length table → (0 < nextWith table key (j + 1) → FirstWith table key (j + 1) (nextWith table key (j + 1)))
+      → 0 < nextWith table key j → FirstWith table key j (nextWith table key j)
   some-at j l later h = go (ℕ-discrete (keyOf (getD table j 0)) key)
     where
-      go : Dec (keyOf (getD table j 0) ≡ key) → Next table key j (nextWith table key j)
+      go : Dec (keyOf (getD table j 0) ≡ key) → FirstWith table key j (nextWith table key j)
       go (yes k) = rw (next-here table key j l k) (record { behind = omega arith; inside = l; keyed = k; skipped = λ m g f e. omega arith })
       go (no n) =
           let p = next-past table key j l n in
           let s = later (omega (arith, p)) in
           rw p (record { behind = omega arith; inside = s .inside; keyed = s .keyed; skipped = without-more j _ n (s .skipped) })
 
-  some-from : (n j : ℕ) → length table - j ≡ n → 0 < nextWith table key j → Next table key j (nextWith table key j)
+  some-from : (n j : ℕ) → length table - j ≡ n → 0 < nextWith table key j → FirstWith table key j (nextWith table key j)
   some-from zero j e h = absurd (omega (arith, next-over table key j (omega arith)))
   some-from (suc n) j e h = some-at j (omega arith) (some-from n (j + 1) (omega arith)) h
 
@@ -155,7 +155,7 @@ module _ (table : List ℕ) (key : ℕ) where
 
 -- the next word of a chain, and the end of a chain
 module _ {table : List ℕ} {key j i : ℕ} (e : i ≡ nextWith table key j) where
-  pub next-some : 0 < i → Next table key j i
+  pub next-some : 0 < i → FirstWith table key j i
   next-some h = rw e (some-from table key (length table - j) j refl (omega arith))
 
   pub next-none : Keyed table → key < 1280 → i ≡ 0 → Without table key j (length table)

@@ -9,23 +9,23 @@ use lib.ListN.{length, getD}
 use Rattle.words.specs.Word.{stateBelow}
 use Rattle.automaton.specs.Transition.{automatonOf}
 use Rattle.automaton.specs.StateSet.{StateSet, contains}
-use Rattle.step.specs.Ready.{Checked}
-use Rattle.step.specs.Closure.{Closed, Stack, Search, Room, Put, ClosingAt, Followed, work}
-use Rattle.step.proofs.ChainLaws.{Next, EpsilonWord, nextWith, next-some, next-none, epsilon-word}
-use Rattle.step.proofs.WordLaws.{closed-epsilon, epsilon-below, epsilon-reached}
-use Rattle.step.proofs.StackLaws.{stack-room, stack-put, put-less, put-length, put-present, put-keeps}
+use Rattle.step.specs.Ready.{IndexedTable}
+use Rattle.step.specs.Closure.{Closed, PendingStack, Search, Puttable, Put, ClosingAt, Followed, work}
+use Rattle.step.proofs.ChainLaws.{FirstWith, EpsilonWord, nextWith, next-some, next-none, keyed-epsilon}
+use Rattle.step.proofs.KeyedWordLaws.{closed-epsilon, epsilon-below, epsilon-reached}
+use Rattle.step.proofs.PendingStackLaws.{stack-puttable, stack-put, put-less, put-length, put-present, put-keeps}
 use Rattle.step.proofs.SearchLaws.{search-put, search-word, search-end, search-pop}
-use Rattle.step.proofs.FollowLaws.{InChain, left, states-most, keyed, first, in-chain, next, left-less}
+use Rattle.step.proofs.FollowLaws.{InChain, left, states-most, keyed, chain-first, in-chain, chain-next, left-less}
 
 -- ---- the chain of a state
 
 -- At word i of state p's chain, or at its end, where i is 0: the words before are followed. Before the first word there were the set, the stack and its height with the sign ₀
 pub record EpsilonsAt (table index : List ℕ) (p : ℕ) (r₀ : StateSet) (pending₀ : List ℕ) (top₀ i : ℕ) (r : StateSet) (pending : List ℕ) (top : ℕ) : Type 0 where
-  pub checked : Checked table index
+  pub checked : IndexedTable table index
   pub from : ℕ
   pub at : i ≡ nextWith table (256 + p) from
   pub size : length pending ≡ length pending₀
-  pub stack : Stack table r pending top
+  pub stack : PendingStack table r pending top
   pub less : work table r top ≤ work table r₀ top₀
   pub present : contains r p ≡ true
   pub search : (base : StateSet) (o : ℕ) → Closed table base → Search table base o (256 + p) 0 r₀ pending₀ top₀ → Search table base o (256 + p) from r pending top
@@ -40,7 +40,7 @@ epsilons-first {p = p} g =
     record {
       checked = g .closing .checked;
       from = 0;
-      at = first (g .closing .checked) (256 + p) (key-inside g);
+      at = chain-first (g .closing .checked) (256 + p) (key-inside g);
       size = refl;
       stack = g .closing .stack;
       less = omega arith;
@@ -62,20 +62,20 @@ module _ {table index : List ℕ} {p : ℕ} {r₀ : StateSet} {pending₀ : List
       }
 
   module _ (h : 0 < i) where
-    epsilons-next : Next table (256 + p) (s .from) i
+    epsilons-next : FirstWith table (256 + p) (s .from) i
     epsilons-next = next-some (s .at) h
 
     pub epsilons-in : InChain table index i
     epsilons-in = in-chain (s .checked) epsilons-next
 
     epsilons-at : EpsilonWord (getD table i 0) p
-    epsilons-at = let l = key-small in epsilon-word (getD table i 0) (epsilons-next .keyed) (omega arith)
+    epsilons-at = let l = key-small in keyed-epsilon (getD table i 0) (epsilons-next .keyed) (omega arith)
 
     reaches-below : stateBelow (getD table i 0) < automatonOf table .states
     reaches-below = epsilon-below (s .checked) i (epsilons-next .inside) epsilons-at
 
-    pub epsilons-room : Room r pending top (stateBelow (getD table i 0))
-    epsilons-room = stack-room (states-most (s .checked)) (s .stack) reaches-below
+    pub epsilons-puttable : Puttable r pending top (stateBelow (getD table i 0))
+    epsilons-puttable = stack-puttable (states-most (s .checked)) (s .stack) reaches-below
 
     pub epsilons-less : left table (getD index (1280 + i) 0) < left table i
     epsilons-less = left-less (s .checked) epsilons-next key-small h
@@ -87,7 +87,7 @@ module _ {table index : List ℕ} {p : ℕ} {r₀ : StateSet} {pending₀ : List
         record {
           checked = s .checked;
           from = i + 1;
-          at = next (s .checked) epsilons-next key-small;
+          at = chain-next (s .checked) epsilons-next key-small;
           size = put-length most (s .stack) reaches-below q ∙ s .size;
           stack = stack-put most (s .stack) reaches-below q;
           less = let u = put-less most (s .stack) reaches-below q in let v = s .less in omega arith;
@@ -106,15 +106,15 @@ module _ {table index : List ℕ} {p : ℕ} {r₀ : StateSet} {pending₀ : List
 -- ---- the states on the stack, until none is left
 
 module _ {table : List ℕ} {r₀ : StateSet} {pending₀ : List ℕ} {top₀ : ℕ} where
-  pub pending-none : Stack table r₀ pending₀ top₀ → Followed table 0 (length table) r₀ pending₀ top₀ r₀ pending₀ top₀
+  pub pending-none : PendingStack table r₀ pending₀ top₀ → Followed table 0 (length table) r₀ pending₀ top₀ r₀ pending₀ top₀
   pending-none stack = record { stack = stack; less = omega arith; settled = λ base o k g. g }
 
   module _ {r : StateSet} {pending : List ℕ} {top : ℕ} (s : Followed table 0 (length table) r₀ pending₀ top₀ r pending top) (below : ℕ) (e : below + 1 ≡ top) where
     -- without the top state
-    pub pending-stack : Stack table r pending below
+    pub pending-stack : PendingStack table r pending below
     pending-stack =
         let h = s .stack in
-        record { size = h .size; below = h .below; room = h .room; few = omega (arith, h .few); inside = λ k l. h .inside k (omega arith) }
+        record { size = h .size; below = h .below; fits = h .fits; few = omega (arith, h .few); inside = λ k l. h .inside k (omega arith) }
 
     pub pending-present : contains r (getD pending below 0) ≡ true
     pending-present = s .stack .inside below (omega arith)
@@ -134,7 +134,7 @@ module _ {table : List ℕ} {r₀ : StateSet} {pending₀ : List ℕ} {top₀ : 
   module _ {r : StateSet} {pending : List ℕ} {top : ℕ} (s : Followed table 0 (length table) r₀ pending₀ top₀ r pending top) where
     -- a state that is on the stack stands in its array
     pub pending-inside : 0 < top → top - 1 < length pending
-    pending-inside h = omega (arith, s .stack .few, s .stack .room)
+    pending-inside h = omega (arith, s .stack .few, s .stack .fits)
 
     pub pending-end : top ≤ 0 → Followed table 0 (length table) r₀ pending₀ top₀ r pending 0
     pending-end h = let e : top ≡ 0 = omega arith in rw e at s

@@ -13,15 +13,15 @@ use Rattle.automaton.specs.Transition.{automatonOf}
 use Rattle.automaton.specs.StateSet.{StateSet, contains, insert}
 use Rattle.automaton.proofs.BitLaws.{words-insert, insert-same, insert-other, insert-keeps}
 use Rattle.step.specs.Index.{keyOf}
-use Rattle.step.specs.Closure.{ReachedFrom, itself, ClosedAt, SettledAt, satisfied, waiting, Stack, Search, Settled, Put, ClosedSet}
-use Rattle.step.proofs.ChainLaws.{Next}
-use Rattle.step.proofs.WordLaws.{starts-epsilon}
-use Rattle.step.proofs.StackLaws.{put-cases, stack-room}
+use Rattle.step.specs.Closure.{ReachedFrom, itself, ClosedAt, SettledAt, satisfied, waiting, PendingStack, Search, Settled, Put, ClosedSet}
+use Rattle.step.proofs.ChainLaws.{FirstWith}
+use Rattle.step.proofs.KeyedWordLaws.{starts-epsilon}
+use Rattle.step.proofs.PendingStackLaws.{put-cases, stack-puttable}
 
 -- ---- one state more
 
 -- the epsilon transitions from the new state wait, and every other word stays settled
-module _ (table : List ℕ) (r : StateSet) (pending : List ℕ) (top s : ℕ) (room : top < length pending) (i : ℕ) where
+module _ (table : List ℕ) (r : StateSet) (pending : List ℕ) (top s : ℕ) (fits : top < length pending) (i : ℕ) where
   kept : (keyOf (getD table i 0) ≡ 256 + s → ⊥) → ClosedAt table r i → ClosedAt table (insert r s) i
   kept n h p q m e =
       insert-keeps r s q (h p q m (sym (insert-other r s p (λ x. n (starts-epsilon table i m ∙ ap (λ (y : ℕ). 256 + y) x))) ∙ e))
@@ -31,12 +31,12 @@ module _ (table : List ℕ) (r : StateSet) (pending : List ℕ) (top s : ℕ) (r
   settled-insert (satisfied h) = go (ℕ-discrete (keyOf (getD table i 0)) (256 + s))
     where
       go : Dec (keyOf (getD table i 0) ≡ 256 + s) → SettledAt table (insert r s) (set pending top s) (top + 1) i
-      go (yes e) = waiting top (omega arith) (e ∙ sym (ap (λ (y : ℕ). 256 + y) (getD-set-same pending top s 0 room)))
+      go (yes e) = waiting top (omega arith) (e ∙ sym (ap (λ (y : ℕ). 256 + y) (getD-set-same pending top s 0 fits)))
       go (no n) = satisfied (kept n h)
 
 module _ {table : List ℕ} {base : StateSet} {o : ℕ} where
   module _ {key from : ℕ} {r : StateSet} {pending : List ℕ} {top : ℕ} (g : Search table base o key from r pending top) where
-    pub search-put : automatonOf table .states ≤ 1024 → Stack table r pending top → {s : ℕ} → s < automatonOf table .states
+    pub search-put : automatonOf table .states ≤ 1024 → PendingStack table r pending top → {s : ℕ} → s < automatonOf table .states
         → (contains base s ≡ true) ⊎ ReachedFrom (automatonOf table .transitions) o s → {t : StateSet} {pushed : List ℕ} {height : ℕ} → Put r pending top s t pushed height
         → Search table base o key from t pushed height
     search-put most stack {s} below reaches p = put-cases (λ t k n. Search table base o key from t k n) p (λ e. g) new
@@ -52,12 +52,12 @@ module _ {table : List ℕ} {base : StateSet} {o : ℕ} where
               grown = λ q e. insert-keeps r s q (g .grown q e);
               holds = insert-keeps r s o (g .holds);
               reached = λ q e. reached q e (ℕ-discrete q s);
-              settled = λ i l h. settled-insert table r pending top s (stack-room most stack below .room absent) i (g .settled i l h);
+              settled = λ i l h. settled-insert table r pending top s (stack-puttable most stack below .fits absent) i (g .settled i l h);
             }
 
     -- ---- the first word of the chain is followed, or there is none
 
-    pub search-word : {i : ℕ} → Next table key from i → ClosedAt table r i → Search table base o key (i + 1) r pending top
+    pub search-word : {i : ℕ} → FirstWith table key from i → ClosedAt table r i → Search table base o key (i + 1) r pending top
     search-word {i} n done =
         record { words = g .words; grown = g .grown; holds = g .holds; reached = g .reached; settled = λ j l h. go j l h (ℕ-discrete j i) (decLt j from) }
       where
@@ -111,13 +111,13 @@ module _ (table : List ℕ) (base : StateSet) (pending : List ℕ) (s : ℕ) (se
       }
 
   pub search-first : s < 1024 → 0 < length pending → Settled table base s (insert base s) (set pending 0 s) 1
-  search-first few room =
+  search-first few fits =
       record {
         words = words-insert base s (set-is .words);
         grown = insert-keeps base s;
         holds = insert-same base s (omega (arith, set-is .size));
         reached = λ q e. reached q e (ℕ-discrete q s);
-        settled = λ i l h. settled-insert table base pending 0 s room i (satisfied (closed i l));
+        settled = λ i l h. settled-insert table base pending 0 s fits i (satisfied (closed i l));
       }
     where
       reached : (q : ℕ) → contains (insert base s) q ≡ true → Dec (q ≡ s) → (contains base q ≡ true) ⊎ ReachedFrom (automatonOf table .transitions) s q

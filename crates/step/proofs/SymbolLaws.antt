@@ -15,14 +15,14 @@ use Rattle.automaton.specs.Reached.{Reached, byEpsilon}
 use Rattle.automaton.proofs.ClosureLaws.{targets-below, reached-below}
 use Rattle.automaton.proofs.TableLaws.{isTable-automaton}
 use Rattle.step.specs.Index.{keyOf}
-use Rattle.step.specs.Ready.{Prepared, Checked, RowsInside, childSets}
+use Rattle.step.specs.Ready.{Prepared, IndexedTable, RowsInside, childSets}
 use Rattle.step.specs.Closure.{ReachedFrom, itself, onward, Closures, Joinable, JoinedClosure}
-use Rattle.step.specs.Node.{Sources, Growing, Satisfied, Steppable, Seeding, SeedingAt, Joined, Seeded}
-use Rattle.step.proofs.ChainLaws.{Next, SymbolWord, nextWith, next-some, next-none, symbol-word}
-use Rattle.step.proofs.WordLaws.{symbol-below, symbol-reached, symbol-sources}
-use Rattle.step.proofs.FollowLaws.{InChain, left, states-most, keyed, first, in-chain, next, left-less}
+use Rattle.step.specs.Node.{Sources, Growing, Satisfied, Steppable, Seeding, SeedingAt, Joined, SymbolFollowed}
+use Rattle.step.proofs.ChainLaws.{FirstWith, SymbolWord, nextWith, next-some, next-none, keyed-symbol}
+use Rattle.step.proofs.KeyedWordLaws.{symbol-below, symbol-reached, symbol-sources}
+use Rattle.step.proofs.FollowLaws.{InChain, left, states-most, keyed, chain-first, in-chain, chain-next, left-less}
 
-pub prepared-checked : {table index : List ℕ} {f : ℕ} {marks children : List ℕ} → Prepared table index f marks children → Checked table index
+pub prepared-checked : {table index : List ℕ} {f : ℕ} {marks children : List ℕ} → Prepared table index f marks children → IndexedTable table index
 prepared-checked p =
     record { alphabet = p .ready .alphabet; short = p .ready .short; checked = p .ready .checked; indexed = p .indexed }
 
@@ -41,11 +41,11 @@ module _ {table index : List ℕ} {size : ℕ} {marks children owners rows pendi
   rs : List StateSet
   rs = childSets size marks children
 
-  checked : Checked table index
+  checked : IndexedTable table index
   checked = prepared-checked (g .seeding .steppable .prepared)
 
   symbol : SymbolWord (getD table i 0) (keyOf (getD table i 0))
-  symbol = symbol-word (getD table i 0) refl (g .seeding .steppable .prepared .ready .symbol-below)
+  symbol = keyed-symbol (getD table i 0) refl (g .seeding .steppable .prepared .ready .symbol-below)
 
   target-below : stateBelow (getD table i 0) < automatonOf table .states
   target-below = symbol-below checked i (g .inside) symbol
@@ -70,7 +70,7 @@ module _ {table index : List ℕ} {size : ℕ} {marks children owners rows pendi
       let over = targets-below (isTable-automaton (checked .alphabet) (omega arith) table (checked .checked)) in
       record {
         keepable = record {
-          closable = record { checked = checked; state = target-below; room = g .seeding .steppable .room };
+          closable = record { checked = checked; state = target-below; fits = g .seeding .steppable .fits };
           closures = g .seeding .steppable .closures;
         };
         set = record {
@@ -107,11 +107,11 @@ module _ {table index : List ℕ} {size : ℕ} {marks children owners rows pendi
 -- ---- all of them
 
 -- at word i of the chain, or at its end, where i is 0: the words before are followed
-pub record SymbolAt (table index : List ℕ) (f size : ℕ) (marks children owners rows pending : List ℕ) (r : StateSet) (room i : ℕ) : Type 0 where
+pub record SymbolAt (table index : List ℕ) (f size : ℕ) (marks children owners rows pending : List ℕ) (r : StateSet) (pendingLength i : ℕ) : Type 0 where
   pub seeding : Seeding table index f size marks children owners rows pending r
   pub from : ℕ
   pub at : i ≡ nextWith table f from
-  pub room-is : length pending ≡ room
+  pub pending-long : length pending ≡ pendingLength
   pub followed : (j : ℕ) → j < from → j < length table → keyOf (getD table j 0) ≡ f → Satisfied table (childSets size marks children) r j
 
 module _ {table index : List ℕ} {f size : ℕ} {marks children owners rows pending : List ℕ} {r : StateSet} where
@@ -120,16 +120,16 @@ module _ {table index : List ℕ} {f size : ℕ} {marks children owners rows pen
   symbol-first g =
       let c = prepared-checked (g .steppable .prepared) in
       let small = g .steppable .prepared .ready .symbol-below in
-      record { seeding = g; from = 0; at = first c f (omega arith); room-is = refl; followed = λ j h l e. absurd (omega arith) }
+      record { seeding = g; from = 0; at = chain-first c f (omega arith); pending-long = refl; followed = λ j h l e. absurd (omega arith) }
 
-  module _ {room i : ℕ} (s : SymbolAt table index f size marks children owners rows pending r room i) where
-    chain : Checked table index
+  module _ {pendingLength i : ℕ} (s : SymbolAt table index f size marks children owners rows pending r pendingLength i) where
+    chain : IndexedTable table index
     chain = prepared-checked (s .seeding .steppable .prepared)
 
     key-below : f < 1280
     key-below = let small = s .seeding .steppable .prepared .ready .symbol-below in omega arith
 
-    pub symbol-end : i ≤ 0 → Seeded table f (childSets size marks children) r owners rows
+    pub symbol-end : i ≤ 0 → SymbolFollowed table f (childSets size marks children) r owners rows
     symbol-end h =
         record {
           closures = s .seeding .steppable .closures;
@@ -142,7 +142,7 @@ module _ {table index : List ℕ} {f size : ℕ} {marks children owners rows pen
         go j l e (no b) = absurd (next-none (s .at) (keyed chain) key-below (omega arith) j (omega arith) l e)
 
     module _ (h : 0 < i) where
-      symbol-next : Next table f (s .from) i
+      symbol-next : FirstWith table f (s .from) i
       symbol-next = next-some (s .at) h
 
       pub symbol-in : InChain table index i
@@ -160,21 +160,21 @@ module _ {table index : List ℕ} {f size : ℕ} {marks children owners rows pen
 
       pub symbol-more : {t : StateSet} {owners′ rows′ pending′ : List ℕ} → length pending′ ≡ length pending
           → Joined table (keyOf (getD table i 0)) (childSets size marks children) i r t owners′ rows′
-          → SymbolAt table index f size marks children owners′ rows′ pending′ t room (getD index (1280 + i) 0)
+          → SymbolAt table index f size marks children owners′ rows′ pending′ t pendingLength (getD index (1280 + i) 0)
       symbol-more {t} {owners′} {rows′} {pending′} e j =
           record {
             seeding = record {
               steppable = record {
                 prepared = s .seeding .steppable .prepared;
                 closures = j .closures;
-                room = rw e (s .seeding .steppable .room);
+                fits = rw e (s .seeding .steppable .fits);
               };
               size-is = s .seeding .size-is;
               growing = subst (λ k. Growing table k (childSets size marks children) t) (symbol-next .keyed) (j .growing);
             };
             from = i + 1;
-            at = next chain symbol-next key-below;
-            room-is = e ∙ s .room-is;
+            at = chain-next chain symbol-next key-below;
+            pending-long = e ∙ s .pending-long;
             followed = λ k b l q. go k b l q (ℕ-discrete k i) (decLt k (s .from));
           }
         where

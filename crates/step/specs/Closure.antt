@@ -12,7 +12,7 @@ use Rattle.automaton.specs.Transition.{Transition, epsilon, transitionAt, autom
 use Rattle.automaton.specs.StateSet.{StateSet, contains, insert}
 use Rattle.operations.specs.Marks.{storedSet}
 use Rattle.step.specs.Index.{keyOf}
-use Rattle.step.specs.Ready.{Checked}
+use Rattle.step.specs.Ready.{IndexedTable}
 
 -- ---- the closure of a state
 
@@ -63,10 +63,10 @@ unfoldable pub missing : ℕ → StateSet → ℕ
 missing n r = n - count (contains r) (listFrom (λ q. q) 0 n)
 
 -- The first `top` words of the stack are states of the set. No state is pushed twice, so the stack has room.
-pub record Stack (table : List ℕ) (r : StateSet) (pending : List ℕ) (top : ℕ) : Type 0 where
+pub record PendingStack (table : List ℕ) (r : StateSet) (pending : List ℕ) (top : ℕ) : Type 0 where
   pub size : length r ≡ 32
   pub below : (q : ℕ) → contains r q ≡ true → q < automatonOf table .states
-  pub room : automatonOf table .states ≤ length pending
+  pub fits : automatonOf table .states ≤ length pending
   pub few : missing (automatonOf table .states) r + top ≤ automatonOf table .states
   pub inside : (k : ℕ) → k < top → contains r (getD pending k 0) ≡ true
 
@@ -86,9 +86,9 @@ Settled table base s r pending top = Search table base s 0 (length table) r pend
 -- ---- what the inner functions are given, and what they leave
 
 -- a state number, and room for a state that is not in the set
-pub record Room (r : StateSet) (pending : List ℕ) (top s : ℕ) : Type 0 where
+pub record Puttable (r : StateSet) (pending : List ℕ) (top s : ℕ) : Type 0 where
   pub few : s < 1024
-  pub room : contains r s ≡ false → top < length pending
+  pub fits : contains r s ≡ false → top < length pending
 
 -- state s was put into the set and on the stack, if it was not in the set
 pub record Put (r : StateSet) (pending : List ℕ) (top s : ℕ) (t : StateSet) (pushed : List ℕ) (height : ℕ) : Type 0 where
@@ -98,8 +98,8 @@ pub record Put (r : StateSet) (pending : List ℕ) (top s : ℕ) (t : StateSet) 
 
 -- a checked table with its index, and a set with its stack
 pub record Closing (table index : List ℕ) (r : StateSet) (pending : List ℕ) (top : ℕ) : Type 0 where
-  pub checked : Checked table index
-  pub stack : Stack table r pending top
+  pub checked : IndexedTable table index
+  pub stack : PendingStack table r pending top
 
 -- the same, and a state of the set
 pub record ClosingAt (table index : List ℕ) (p : ℕ) (r : StateSet) (pending : List ℕ) (top : ℕ) : Type 0 where
@@ -112,15 +112,15 @@ work table r top = missing (automatonOf table .states) r + missing (automatonOf 
 
 -- Of whatever state the closure is: where only the words with this key from word `from` on were left, none is left now.
 pub record Followed (table : List ℕ) (key from : ℕ) (r : StateSet) (pending : List ℕ) (top : ℕ) (t : StateSet) (pushed : List ℕ) (height : ℕ) : Type 0 where
-  pub stack : Stack table t pushed height
+  pub stack : PendingStack table t pushed height
   pub less : work table t height ≤ work table r top
   pub settled : (base : StateSet) (s : ℕ) → Closed table base → Search table base s key from r pending top → Settled table base s t pushed height
 
 -- a checked table with its index, one of its states, and a stack with room for every state
 pub record Closable (table index : List ℕ) (s : ℕ) (pending : List ℕ) : Type 0 where
-  pub checked : Checked table index
+  pub checked : IndexedTable table index
   pub state : s < automatonOf table .states
-  pub room : automatonOf table .states ≤ length pending
+  pub fits : automatonOf table .states ≤ length pending
 
 -- a set of 32 words with states of the table, closed under the epsilon transitions
 pub record ClosedSet (table : List ℕ) (r : StateSet) : Type 0 where

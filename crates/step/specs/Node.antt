@@ -35,7 +35,7 @@ Satisfied table rs r i = allContained (sourcesAt (drop (i + 1) table)) rs ≡ tr
 pub record Steppable (table index : List ℕ) (f : ℕ) (marks children owners rows pending : List ℕ) : Type 0 where
   pub prepared : Prepared table index f marks children
   pub closures : Closures table owners rows
-  pub room : automatonOf table .states ≤ length pending
+  pub fits : automatonOf table .states ≤ length pending
 
 -- the same, and the set so far
 pub record Seeding (table index : List ℕ) (f size : ℕ) (marks children owners rows pending : List ℕ) (r : StateSet) : Type 0 where
@@ -56,7 +56,7 @@ pub record Joined (table : List ℕ) (f : ℕ) (rs : List StateSet) (i : ℕ) (r
   pub satisfied : Satisfied table rs t i
 
 -- all transitions on the symbol were followed
-pub record Seeded (table : List ℕ) (f : ℕ) (rs : List StateSet) (t : StateSet) (owners rows : List ℕ) : Type 0 where
+pub record SymbolFollowed (table : List ℕ) (f : ℕ) (rs : List StateSet) (t : StateSet) (owners rows : List ℕ) : Type 0 where
   pub closures : Closures table owners rows
   pub growing : Growing table f rs t
   pub satisfied : (i : ℕ) → i < length table → keyOf (getD table i 0) ≡ f → Satisfied table rs t i

@@ -24,7 +24,7 @@ pub record Ready (table : List ℕ) (symbol : ℕ) (marks children : List ℕ) :
   pub rows : RowsInside (sizeOf table) marks children
 
 -- a checked table with its index
-pub record Checked (table index : List ℕ) : Type 0 where
+pub record IndexedTable (table index : List ℕ) : Type 0 where
   pub alphabet : List ℕ
   pub short : length alphabet ≤ 64
   pub checked : isTable alphabet table ≡ true

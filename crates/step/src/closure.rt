@@ -1,7 +1,7 @@
 // The epsilon closure of a state, worked out along the index; closures that were worked out are kept for other nodes.
 ghost use Prim.Native.Nat.{_+_};
 ghost use lib.ListN.{length};
-ghost use Rattle.step.specs.Closure.{Room, Put, Closing, ClosingAt, Followed, Closable, ClosureOf, Addable, Added, Keepable, Kept, Joinable, JoinedClosure};
+ghost use Rattle.step.specs.Closure.{Puttable, Put, Closing, ClosingAt, Followed, Closable, ClosureOf, Addable, Added, Keepable, Kept, Joinable, JoinedClosure};
 use super::index::KEYS;
 use super::index::STATE_KEYS;
 use sets::state::contains;
@@ -18,7 +18,7 @@ const SET_WORDS: usize = 32;
 
 // Puts state s into the set and on the stack, if it is not in the set. Answers the stack's height.
 fn reach(set: &mut [u32], pending: &mut [u32], top: usize, s: usize) -> usize
-    requires { ⌜ Room (now set) (now pending) top s ⌝ }
+    requires { ⌜ Puttable (now set) (now pending) top s ⌝ }
     ensures { λ r. ⌜ Put (now (set .entry)) (now (pending .entry)) top s (now (set .exit)) (now (pending .exit)) r ⌝ }
 {
     if contains(set, s) {

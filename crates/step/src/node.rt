@@ -9,7 +9,7 @@ ghost use Rattle.operations.specs.Marks.{sizeOf};
 ghost use Rattle.step.specs.Index.{keyOf};
 ghost use Rattle.step.specs.Ready.{childSets};
 ghost use Rattle.step.specs.Closure.{Closures};
-ghost use Rattle.step.specs.Node.{Sources, Steppable, Seeding, SeedingAt, Joined, Seeded};
+ghost use Rattle.step.specs.Node.{Sources, Steppable, Seeding, SeedingAt, Joined, SymbolFollowed};
 use super::closure::join_closure;
 use super::index::KEYS;
 use sets::state::contains;
@@ -84,7 +84,7 @@ fn follow_symbol(
         Seeding (now table) (now index) symbol size (now marks) (now children) (now owners) (now rows) (now pending) (now set)
         ⌝ }
     ensures { λ _. ⌜
-        Seeded (now (table .entry)) symbol (childSets size (now (marks .entry)) (now (children .entry))) (now (set .exit)) (now (owners .exit)) (now (rows .exit))
+        SymbolFollowed (now (table .entry)) symbol (childSets size (now (marks .entry)) (now (children .entry))) (now (set .exit)) (now (owners .exit)) (now (rows .exit))
         ⌝ }
 {
     let mut i = index[symbol as usize] as usize;

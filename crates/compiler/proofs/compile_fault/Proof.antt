@@ -7,9 +7,9 @@ use Rattle.words.specs.Alphabet.{alphabetRefusals}
 use Rattle.words.specs.Expression.{expressionRefusals}
 use Rattle.words.proofs.RefusalLaws.{none, here, next, number, refuses, passes}
 use Rattle.words.proofs.AcceptedAlphabet.{alphabet-accepted}
-use Rattle.automaton.proofs.Reading.{expression-length}
+use Rattle.automaton.proofs.PortReading.{expression-length}
 use Rattle.operations.specs.Compile.{compileRefusals}
-use Rattle.compiler.proofs.FaultLaws.{states-over, states-within, table-over, table-within}
+use Rattle.compiler.proofs.FaultLaws.{states-above, states-within, table-over, table-within}
 use Rattle.compiler.proofs.compile_fault.Statement.{statement}
 use Rattle.compiler.proofs.compile_fault.Tie as tie
 
@@ -17,7 +17,7 @@ use Rattle.compiler.proofs.compile_fault.Tie as tie
 abbrev asked : tie.After-alphabet-fault → Refusals
 asked c =
     let q = c .before .before .before .args in
-    compileRefusals (q .alphabet .now) (q .expression .now) (q .room)
+    compileRefusals (q .alphabet .now) (q .expression .now) (q .table-length)
 
 alphabet-fault-requires : tie.Need-alphabet-fault-requires
 alphabet-fault-requires c κs = search needs
@@ -54,7 +54,7 @@ returns-3 c =
     number (asked (first .before))
     (passes (alphabetRefusals _) refl (first .before .alphabet-fault .ensures) (first .if1 .left)
     (passes (expressionRefusals _ _) refl (second .before .expression-fault .ensures) (second .if2 .left)
-    (here (states-over _ _ _ (c .before .states-after .ensures .0) (c .if3 .taken)))))
+    (here (states-above _ _ _ (c .before .states-after .ensures .0) (c .if3 .taken)))))
 
 slice-aggregate-write-table : tie.Need-slice-aggregate-write-table
 slice-aggregate-write-table c = search needs

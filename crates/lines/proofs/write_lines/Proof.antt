@@ -3,7 +3,7 @@ use Prim.Native.Nat.{_-_}
 use mathlib.Core.Path.{_∙_}
 use lib.ListN.{length}
 use borrow.Author.Needs.{needs}
-use Rattle.encoding.proofs.WritingLaws.{written-more}
+use Rattle.encoding.proofs.ByteWritingLaws.{bytes-written-more}
 use Rattle.lines.proofs.LineLaws.{Hit, hit-none, hit-more, hit-end}
 use Rattle.lines.proofs.write_lines.Statement.{statement}
 use Rattle.lines.proofs.write_lines.Tie as tie
@@ -47,7 +47,7 @@ same-length c = c .before .loop .inv .long ∙ c .before .before .before .before
 returns : tie.Need-returns Inv-loop μ-loop
 returns c =
     let head = c .before .before .before .before in
-    written-more (head .write-head .ensures) (hit-end _ _ _ _ _ _ _ _ (c .before .loop .inv) (c .loop-test .left))
+    bytes-written-more (head .write-head .ensures) (hit-end _ _ _ _ _ _ _ _ (c .before .loop .inv) (c .loop-test .left))
 
 pub write-lines-spec : {M : Type 1} → statement M
 write-lines-spec =

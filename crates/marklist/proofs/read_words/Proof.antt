@@ -7,7 +7,7 @@ use native.Mathlib.Omega.{arith}
 use lib.Seq.{length-take-le}
 use borrow.Author.Needs.{needs}
 use borrow.Author.Tests.{not-false}
-use Rattle.marklist.proofs.ReadingLaws.{part-fits, part-long, SoFar, so-far-none, so-far-more, so-far-end}
+use Rattle.marklist.proofs.InputReadingLaws.{part-fits, part-long, SoFar, so-far-none, so-far-more, so-far-end}
 use Rattle.marklist.proofs.read_words.Statement.{statement}
 use Rattle.marklist.proofs.read_words.Tie as tie
 

@@ -1,7 +1,7 @@
 -- `report` meets its contract: each return writes what the laws of Compile say of its answer, and the output fits the slice,
 -- so all of it is written.
 use borrow.Author.Tests.{not-true, not-false}
-use Rattle.report.proofs.ReportLaws.{complete-whole, early-whole, refused-compiled, table-long, table-fits, compiles, many}
+use Rattle.report.proofs.ReportLaws.{complete-whole, early-whole, refused-compiled, table-counted, table-fits, compiles, many}
 use borrow.Author.Needs.{needs}
 use Rattle.report.proofs.report.Statement.{statement}
 use Rattle.report.proofs.report.Tie as tie
@@ -28,7 +28,7 @@ array-share-prefix-table : tie.Need-array-share-prefix-table
 array-share-prefix-table c = table-fits _ _ _ _ (c .before .size .given .1) (c .before .before .before .before .compile .ensures .0) (c .before .before .before .before .compile .ensures .1)
 
 slice-aggregate-report-chapter : tie.Need-slice-aggregate-report-chapter
-slice-aggregate-report-chapter c = table-long _ _ _ _ (c .before .before .size .given .1) (c .before .before .before .before .before .compile .ensures .0) (c .before .before .before .before .before .compile .ensures .1)
+slice-aggregate-report-chapter c = table-counted _ _ _ _ (c .before .before .size .given .1) (c .before .before .before .before .before .compile .ensures .0) (c .before .before .before .before .before .compile .ensures .1)
 
 report-chapter-requires : tie.Need-report-chapter-requires
 report-chapter-requires c κs = tt

@@ -8,14 +8,14 @@ use borrow.Author.Needs.{needs}
 use Rattle.words.proofs.AcceptedAlphabet.{alphabet-accepted}
 use Rattle.emitter.proofs.WritingLaws.{wrote-next}
 use Rattle.compiler.proofs.KnownConstants.{constants-symbols}
-use Rattle.compiler.proofs.AcceptedLaws.{expression-accepted, constants-counted, length-take-most, states-few}
-use Rattle.compiler.proofs.TableLaws.{word-last, wrote-table}
+use Rattle.compiler.proofs.AcceptedRuleLaws.{expression-passed, constants-counted, length-take-most, states-few}
+use Rattle.compiler.proofs.TablePartLaws.{word-last, wrote-table}
 use Rattle.compiler.proofs.table.write_parts.Statement.{statement}
 use Rattle.compiler.proofs.table.write_parts.Tie as tie
 
 sub-last : tie.Need-sub-last
 sub-last c =
-    let some = expression-accepted _ _ (c .before .before .before .before .pre .accepted .expression) .some in
+    let some = expression-passed _ _ (c .before .before .before .before .pre .accepted .expression) .some in
     omega arith
 
 mul-w : tie.Need-mul-w
@@ -23,7 +23,7 @@ mul-w c = search needs
 
 shared-slice-read-w : tie.Need-shared-slice-read-w
 shared-slice-read-w c =
-    let some = expression-accepted _ _ (c .before .before .before .before .before .pre .accepted .expression) .some in
+    let some = expression-passed _ _ (c .before .before .before .before .before .pre .accepted .expression) .some in
     omega arith
 
 slice-aggregate-states-after : tie.Need-slice-aggregate-states-after
@@ -35,7 +35,7 @@ states-after-requires : tie.Need-states-after-requires
 states-after-requires c κs =
     let p = c .before .before .before .before .before .before .pre in
     let l = c .before .before .before .before .before .before .args .expression .now in
-    let few = expression-accepted _ _ (p .accepted .expression) .few in
+    let few = expression-passed _ _ (p .accepted .expression) .few in
     let t = length-take-most l (length l - 1) in
     (constants-counted _ _ (p .accepted .alphabet) (p .constants), omega arith)
 
@@ -46,7 +46,7 @@ states-of-requires c κs =
 
 add-states : tie.Need-add-states
 add-states c =
-    let e = expression-accepted _ _ (c .before .before .before .before .before .before .before .before .pre .accepted .expression) in
+    let e = expression-passed _ _ (c .before .before .before .before .before .before .before .before .pre .accepted .expression) in
     let l = c .before .before .before .before .before .before .before .before .args .expression .now in
     let x = states-few l (length l - 1) _ (e .few) (c .before .states-after .ensures .1) in
     let s = c .states-of .ensures .1 in
@@ -55,7 +55,7 @@ add-states c =
 word-port-requires : tie.Need-word-port-requires
 word-port-requires c κs =
     let p = c .before .before .before .before .before .before .before .before .pre in
-    let e = expression-accepted _ _ (c .before .before .before .before .before .before .before .before .pre .accepted .expression) in
+    let e = expression-passed _ _ (c .before .before .before .before .before .before .before .before .pre .accepted .expression) in
     let l = c .before .before .before .before .before .before .before .before .args .expression .now in
     let x = states-few l (length l - 1) _ (e .few) (c .before .states-after .ensures .1) in
     record {
@@ -69,7 +69,7 @@ mul-push c = search needs
 
 mul-push-2 : tie.Need-mul-push-2
 mul-push-2 c =
-    let e = expression-accepted _ _
+    let e = expression-passed _ _
     (c .before .before .before .before .before .before .before .before .before .before .pre .accepted .expression) in
     let l = c .before .before .before .before .before .before .before .before .before .before .args .expression .now in
     let x = states-few l (length l - 1) _ (e .few) (c .before .before .before .states-after .ensures .1) in
@@ -78,7 +78,7 @@ mul-push-2 c =
 
 add-push : tie.Need-add-push
 add-push c =
-    let e = expression-accepted _ _
+    let e = expression-passed _ _
     (c .before .before .before .before .before .before .before .before .before .before .pre .accepted .expression) in
     let l = c .before .before .before .before .before .before .before .before .before .before .args .expression .now in
     let x = states-few l (length l - 1) _ (e .few) (c .before .before .before .states-after .ensures .1) in
@@ -87,7 +87,7 @@ add-push c =
 
 add-push-2 : tie.Need-add-push-2
 add-push-2 c =
-    let e = expression-accepted _ _
+    let e = expression-passed _ _
     (c .before .before .before .before .before .before .before .before .before .before .pre .accepted .expression) in
     let l = c .before .before .before .before .before .before .before .before .before .before .args .expression .now in
     let x = states-few l (length l - 1) _ (e .few) (c .before .before .before .states-after .ensures .1) in
@@ -122,7 +122,7 @@ returns : tie.Need-returns
 returns c =
     let p = c .before .before .before .before .before .before .before .before .before .before .before .before .before .before .before .before .before .before .before .before .before .pre in
     let a = c .before .before .before .before .before .before .before .before .before .before .before .before .before .before .before .before .before .before .before .before .before .args in
-    let e = expression-accepted _ _ (p .accepted .expression) in
+    let e = expression-passed _ _ (p .accepted .expression) in
     wrote-table (a .alphabet .now) (a .constants .now) (a .expression .now) (e .some) _ _ _ _ _ _ _ _ _ _ (p .constants)
     (c .before .before .before .before .before .before .before .before .before .before .before .before .before .before .states-after .ensures .0)
     (c .before .before .before .before .before .before .before .before .before .before .before .before .before .states-of .ensures .0)

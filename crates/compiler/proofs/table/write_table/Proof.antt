@@ -3,7 +3,7 @@ use native.Mathlib.Omega.{arith}
 use mathlib.Core.Path.{refl, sym}
 use lib.Seq.{length-take-le}
 use borrow.Author.Needs.{needs}
-use Rattle.compiler.proofs.AcceptedLaws.{constants-first, constants-within}
+use Rattle.compiler.proofs.AcceptedRuleLaws.{constants-first, constants-within}
 use Rattle.compiler.proofs.table.write_table.Statement.{statement}
 use Rattle.compiler.proofs.table.write_table.Tie as tie
 

@@ -6,7 +6,7 @@ use native.Mathlib.Omega.{arith}
 use lib.ListN.{length}
 use borrow.Author.Needs.{needs}
 use Rattle.words.proofs.AcceptedAlphabet.{alphabet-accepted}
-use Rattle.compiler.proofs.AcceptedLaws.{expression-accepted}
+use Rattle.compiler.proofs.AcceptedRuleLaws.{expression-passed}
 use Rattle.compiler.proofs.EmittedLaws.{Emitted, emitted-none, emitted-word, emitted-children, emitted-height, emitted-emits, emitted-takes, emitted-more, emitted-end}
 use Rattle.compiler.proofs.table.write_words.Statement.{statement}
 use Rattle.compiler.proofs.table.write_words.Tie as tie
@@ -20,7 +20,7 @@ abbrev μ-loop : tie.MeasureT-loop
 
 loop-holds : tie.Need-loop-holds Inv-loop μ-loop
 loop-holds c =
-    let e = expression-accepted _ _ (c .before .before .before .before .pre .accepted .expression) in
+    let e = expression-passed _ _ (c .before .before .before .before .pre .accepted .expression) in
     emitted-none _ _ _ _ _ _ (e .words) (e .shape) refl
 
 mul-w : tie.Need-mul-w Inv-loop μ-loop
@@ -49,7 +49,7 @@ part-push-own-start c = omega arith
 
 part-push-own-end : tie.Need-part-push-own-end Inv-loop μ-loop
 part-push-own-end c =
-    let room = c .before .before .before .before .loop .inv .room in
+    let stack-long = c .before .before .before .before .loop .inv .stack-long in
     let h = emitted-height (c .before .before .before .before .loop .inv) (c .before .before .before .loop-test .taken)
     (c .before .before .before .before .before .before .before .before .before .pre .accepted .expression) in
     omega arith
@@ -58,7 +58,7 @@ push-own-requires : tie.Need-push-own-requires Inv-loop μ-loop
 push-own-requires c κs =
     let p = c .before .before .before .before .before .before .before .before .before .before .before .pre in
     let m = c .before .before .before .before .before .before .loop .inv in
-    let e = expression-accepted _ _ (p .accepted .expression) in
+    let e = expression-passed _ _ (p .accepted .expression) in
     let h = c .before .before .before .before .before .loop-test .taken in
     let r = c .before .before .before .arity .ensures in (
       emitted-emits m _ _ (p .constants) (alphabet-accepted _ (p .accepted .alphabet)) h (e .few) (p .early) r refl,
@@ -70,7 +70,7 @@ word-port-requires c κs =
     let p = c .before .before .before .before .before .before .before .before .before .before .before .before .before .before .pre in
     let m = c .before .before .before .before .before .before .before .before .before .loop .inv in
     let h = c .before .before .before .before .before .before .before .before .loop-test .taken in
-    let e = expression-accepted _ _ (p .accepted .expression) in
+    let e = expression-passed _ _ (p .accepted .expression) in
     let few = e .few in
     let low = m .low in
     record { symbols = alphabet-accepted _ (p .accepted .alphabet) .few; word = emitted-word m h; low = omega arith }
@@ -108,7 +108,7 @@ add-state c =
     let p = c .before .before .before .before .before .before .before .before .before .before .before .before .before .before .before .before .pre in
     let low = c .before .before .before .before .before .before .before .before .before .before .before .loop .inv .low in
     let h = c .before .before .before .before .before .before .before .before .before .before .loop-test .taken in
-    let few = expression-accepted _ _ (p .accepted .expression) .few in
+    let few = expression-passed _ _ (p .accepted .expression) .few in
     let s = c .states-of .ensures .1 in
     omega arith
 
@@ -122,7 +122,7 @@ loop-again : tie.Need-loop-again Inv-loop μ-loop
 loop-again c =
     let p = c .before .before .before .before .before .before .before .before .before .before .before .before .before .before .before .before .pre in
     let m = c .before .before .before .before .before .before .before .before .before .before .before .loop .inv in
-    let e = expression-accepted _ _ (p .accepted .expression) in
+    let e = expression-passed _ _ (p .accepted .expression) in
     emitted-more m _ _ _ _ _ _ (p .constants)
     (c .before .before .before .before .before .before .before .before .before .before .loop-test .taken) (e .few)
     (c .before .before .before .before .before .before .before .before .arity .ensures) refl
@@ -134,7 +134,7 @@ same-length c = c .before .loop .inv .long
 
 returns : tie.Need-returns Inv-loop μ-loop
 returns c =
-    emitted-end (c .before .loop .inv) (c .loop-test .left) (expression-accepted _ _
+    emitted-end (c .before .loop .inv) (c .loop-test .left) (expression-passed _ _
     (c .before .before .before .before .before .before .pre .accepted .expression) .few)
 
 pub write-words-spec : {M : Type 1} → statement M

@@ -1,6 +1,6 @@
 -- `emitter::constants::push_constants` meets its contract: the entries number says which of the laws applies.
 use borrow.Author.Needs.{needs}
-use Rattle.emitter.proofs.ConstantLaws.{port-every, port-none, port-own}
+use Rattle.emitter.proofs.ConstantTransitionLaws.{port-every, port-none, port-own}
 use Rattle.emitter.proofs.constants.push_constants.Statement.{statement}
 use Rattle.emitter.proofs.constants.push_constants.Tie as tie
 

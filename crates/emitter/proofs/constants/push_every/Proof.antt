@@ -4,7 +4,7 @@ use native.Mathlib.Omega.{arith}
 use lib.ListN.{length}
 use borrow.Author.Needs.{needs}
 use Rattle.emitter.proofs.WritingLaws.{wrote-next}
-use Rattle.emitter.proofs.ConstantLaws.{Moved, moved-none, moved-more, moved-end}
+use Rattle.emitter.proofs.ConstantTransitionLaws.{Moved, moved-none, moved-more, moved-end}
 use Rattle.emitter.proofs.constants.push_every.Statement.{statement}
 use Rattle.emitter.proofs.constants.push_every.Tie as tie
 

@@ -2,7 +2,7 @@
 use native.Mathlib.Omega.{arith}
 use Prim.Native.Nat.{ℕ}
 use lib.ListN.{length-replicate}
-use Rattle.exchanger.proofs.PropagateLaws.{row-room, row-small, row-few, row-part, before-length, node-recomputed}
+use Rattle.exchanger.proofs.PropagationLaws.{row-fits, row-small, row-few, row-part, before-length, node-recomputed}
 use borrow.Author.Needs.{needs}
 use Rattle.exchanger.proofs.propagate.recompute.Statement.{statement}
 use Rattle.exchanger.proofs.propagate.recompute.Tie as tie
@@ -32,7 +32,7 @@ part-write-set-start : tie.Need-part-write-set-start
 part-write-set-start c = search needs
 
 part-write-set-end : tie.Need-part-write-set-end
-part-write-set-end c = let s = c .before .before in row-room (start s .pre) _ (s .set-size .ensures)
+part-write-set-end c = let s = c .before .before in row-fits (start s .pre) _ (s .set-size .ensures)
 
 write-set-requires : tie.Need-write-set-requires
 write-set-requires c κs = let s = c .before .before .before in row-part (start s .pre) _ (s .set-size .ensures)
@@ -53,7 +53,7 @@ part-same-words-start : tie.Need-part-same-words-start
 part-same-words-start c = search needs
 
 part-same-words-end : tie.Need-part-same-words-end
-part-same-words-end c = let s = c .before .before .before .before .before .before .before .before .before .before .before .before .before .before .before .before .before .before .before .before .before .before .before .before .before .before .before .before .before .before .before in omega (arith, row-room (start s .pre) _ (s .set-size .ensures), c .before .before .before .before .before .before .before .before .before .before .before .before .before .before .before .before .before .mark-node .kept .1 .1 .1 .1 .1 .0)
+part-same-words-end c = let s = c .before .before .before .before .before .before .before .before .before .before .before .before .before .before .before .before .before .before .before .before .before .before .before .before .before .before .before .before .before .before .before in omega (arith, row-fits (start s .pre) _ (s .set-size .ensures), c .before .before .before .before .before .before .before .before .before .before .before .before .before .before .before .before .before .mark-node .kept .1 .1 .1 .1 .1 .0)
 
 array-share-prefix-before : tie.Need-array-share-prefix-before
 array-share-prefix-before c = let s = c .before .before .before .before .before .before .before .before .before .before .before .before .before .before .before .before .before .before .before .before .before .before .before .before .before .before .before .before .before .before .before .before in omega (arith, row-few (start s .pre) _ (s .set-size .ensures), c .before .before .before .before .before .before .before .before .before .before .before .before .before .before .before .before .before .before .before .before .before .before .before .before .before .before .before .before .write-set .kept .0, length-replicate {A = ℕ} 32 0)

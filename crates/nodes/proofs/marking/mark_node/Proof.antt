@@ -1,6 +1,6 @@
 -- `marking::mark_node` meets its contract: the last of the four words that are lent represent the children.
 use native.Mathlib.Omega.{arith}
-use Rattle.nodes.proofs.NodeLaws.{node-low, node-fits, node-room, node-few, node-next, node-words, node-kept}
+use Rattle.nodes.proofs.NodeLaws.{node-low, node-fits, node-height, node-few, node-next, node-words, node-kept}
 use borrow.Author.Needs.{needs}
 use Rattle.nodes.proofs.marking.mark_node.Statement.{statement}
 use Rattle.nodes.proofs.marking.mark_node.Tie as tie
@@ -36,7 +36,7 @@ part-mark-next-start : tie.Need-part-mark-next-start
 part-mark-next-start c = search needs
 
 part-mark-next-end : tie.Need-part-mark-next-end
-part-mark-next-end c = let n = c .before .before in let l = node-room (start n .pre) _ (n .rank .ensures) in omega arith
+part-mark-next-end c = let n = c .before .before in let l = node-height (start n .pre) _ (n .rank .ensures) in omega arith
 
 mark-next-requires : tie.Need-mark-next-requires
 mark-next-requires c κs = let n = c .before .before .before .before .before .before .before .before .before in node-next (start n .pre) _ (n .rank .ensures)
@@ -51,7 +51,7 @@ mul-stack : tie.Need-mul-stack
 mul-stack c = let n = ranked (c .before .before .before .before .before .before .before .before .before .before .before .before .before .before) in let l = node-few (start n .pre) _ (n .rank .ensures) in omega arith
 
 slice-write-stack : tie.Need-slice-write-stack
-slice-write-stack c = let n = ranked (c .before .before .before .before .before .before .before .before .before .before .before .before .before .before) in let l = node-room (start n .pre) _ (n .rank .ensures) in omega arith
+slice-write-stack c = let n = ranked (c .before .before .before .before .before .before .before .before .before .before .before .before .before .before) in let l = node-height (start n .pre) _ (n .rank .ensures) in omega arith
 
 add-result : tie.Need-add-result
 add-result c = let n = ranked (c .before .before .before .before .before .before .before .before .before .before .before .before .before .before) in let l = node-few (start n .pre) _ (n .rank .ensures) in omega arith

@@ -2,7 +2,7 @@
 use mathlib.Core.Path.{sym, _∙_}
 use Prim.Native.Nat.{_-_}
 use native.Mathlib.Omega.{arith}
-use Rattle.nodes.proofs.StackLaws.{Stacking, stacking-none, stacking-pushable, stacking-more, stacking-end}
+use Rattle.nodes.proofs.RootStackLaws.{Stacking, stacking-none, stacking-pushable, stacking-more, stacking-end}
 use Rattle.nodes.proofs.stack.stack_nodes.Statement.{statement}
 use Rattle.nodes.proofs.stack.stack_nodes.Tie as tie
 

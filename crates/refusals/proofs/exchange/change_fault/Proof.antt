@@ -12,7 +12,7 @@ use Rattle.words.proofs.RefusalLaws.{none, here, next, number}
 use Rattle.words.proofs.PostfixLaws.{start-le}
 use Rattle.operations.specs.Exchange.{noElement, changeRefusals}
 use Rattle.operations.proofs.AcceptedLaws.{replacement-right}
-use Rattle.refusals.proofs.ExchangeLaws.{result-length, judged-length}
+use Rattle.refusals.proofs.ReplacementRefusalLaws.{result-length, judged-length}
 use Rattle.refusals.proofs.exchange.change_fault.Statement.{statement}
 use Rattle.refusals.proofs.exchange.change_fault.Tie as tie
 
@@ -20,7 +20,7 @@ use Rattle.refusals.proofs.exchange.change_fault.Tie as tie
 abbrev asked : tie.Start → Refusals
 asked s =
     let q = s .args in
-    changeRefusals (q .alphabet .now) (q .table .now) (length (q .used .now)) (q .used .now) (q .places) (q .room) (q .element) (q .replacement .now)
+    changeRefusals (q .alphabet .now) (q .table .now) (length (q .used .now)) (q .used .now) (q .chapter-length) (q .marks-length) (q .element) (q .replacement .now)
 
 returns : tie.Need-returns
 unfolding noElement

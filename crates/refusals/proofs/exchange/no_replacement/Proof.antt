@@ -2,7 +2,7 @@
 use mathlib.Core.Path.{sym, _∙_}
 use borrow.Author.Needs.{needs}
 use Rattle.operations.specs.Exchange.{noReplacement}
-use Rattle.refusals.proofs.ExchangeLaws.{tree-refused}
+use Rattle.refusals.proofs.ReplacementRefusalLaws.{tree-refused}
 use Rattle.refusals.proofs.exchange.no_replacement.Statement.{statement}
 use Rattle.refusals.proofs.exchange.no_replacement.Tie as tie
 

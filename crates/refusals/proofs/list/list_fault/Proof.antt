@@ -14,7 +14,7 @@ use Rattle.refusals.proofs.list.list_fault.Tie as tie
 abbrev asked : tie.After-table-fault → Refusals
 asked c =
     let q = c .before .before .before .args in
-    listRefusals (q .alphabet .now) (q .table .now) (q .count) (q .room) (q .places)
+    listRefusals (q .alphabet .now) (q .table .now) (q .count) (q .marks-length) (q .list-length)
 
 table-fault-requires : tie.Need-table-fault-requires
 table-fault-requires c κs = search needs

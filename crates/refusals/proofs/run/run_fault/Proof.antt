@@ -12,7 +12,7 @@ use Rattle.refusals.proofs.run.run_fault.Tie as tie
 abbrev asked : tie.After-table-fault → Refusals
 asked c =
     let q = c .before .before .before .before .args in
-    runRefusals (q .alphabet .now) (q .table .now) (q .chapter .now) (q .room)
+    runRefusals (q .alphabet .now) (q .table .now) (q .chapter .now) (q .marks-length)
 
 table-fault-requires : tie.Need-table-fault-requires
 table-fault-requires c κs = search needs

@@ -13,7 +13,7 @@ use Rattle.refusals.proofs.shared.marked_fault.Tie as tie
 abbrev asked : tie.After-tree-fault → Refusals
 asked c =
     let q = c .before .before .before .before .args in
-    markedRefusals (q .alphabet .now) (q .table .now) (length (q .nodes .now)) (q .nodes .now) (q .room)
+    markedRefusals (q .alphabet .now) (q .table .now) (length (q .nodes .now)) (q .nodes .now) (q .marks-length)
 
 tree-fault-requires : tie.Need-tree-fault-requires
 tree-fault-requires c κs = search needs

@@ -1,5 +1,5 @@
 -- `sets::whole::copy_set` meets its contract: the set of its own gets the words at its front.
-use Rattle.sets.proofs.SetLaws.{set-length, set-room, set-copied}
+use Rattle.sets.proofs.SetLaws.{copied-length, copied-fits, set-copied}
 use borrow.Author.Needs.{needs}
 use Rattle.sets.proofs.whole.copy_set.Statement.{statement}
 use Rattle.sets.proofs.whole.copy_set.Tie as tie
@@ -31,12 +31,12 @@ array-share-prefix-set c = search needs
 slice-aggregate-write-set-at : tie.Need-slice-aggregate-write-set-at
 slice-aggregate-write-set-at c =
     let w = c .before .before .before in
-    set-length (w .before .before .before .before .before .pre) _ _ (w .write-set .ensures)
+    copied-length (w .before .before .before .before .before .pre) _ _ (w .write-set .ensures)
 
 write-set-at-requires : tie.Need-write-set-at-requires
 write-set-at-requires c κs =
     let w = c .before .before .before in
-    set-room (w .before .before .before .before .before .pre) _ _ (w .write-set .ensures)
+    copied-fits (w .before .before .before .before .before .pre) _ _ (w .write-set .ensures)
 
 same-length : tie.Need-same-length
 same-length c = search needs

@@ -1,11 +1,11 @@
 -- `step::closure::add_closure` meets its contract: the state is put into the set, and all that waits is followed.
-use Rattle.step.proofs.ClosureLaws.{add-room, add-stack, add-end}
+use Rattle.step.proofs.KeptClosureLaws.{add-puttable, add-stack, add-end}
 use borrow.Author.Needs.{needs}
 use Rattle.step.proofs.closure.add_closure.Statement.{statement}
 use Rattle.step.proofs.closure.add_closure.Tie as tie
 
 reach-requires : tie.Need-reach-requires
-reach-requires c κs = add-room (c .before .before .before .before .before .before .pre)
+reach-requires c κs = add-puttable (c .before .before .before .before .before .before .pre)
 
 follow-pending-requires : tie.Need-follow-pending-requires
 follow-pending-requires c κs = record { checked = c .before .before .before .before .before .before .before .before .before .before .before .before .before .pre .closable .checked; stack = add-stack (c .before .before .before .before .before .before .before .before .before .before .before .before .before .pre) (c .before .before .before .before .before .before .reach .ensures) }

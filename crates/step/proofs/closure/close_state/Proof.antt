@@ -1,5 +1,5 @@
 -- `step::closure::close_state` meets its contract: the closure is put into the empty set.
-use Rattle.step.proofs.ClosureLaws.{close-empty, close-end}
+use Rattle.step.proofs.KeptClosureLaws.{close-empty, close-end}
 use borrow.Author.Needs.{needs}
 use Rattle.step.proofs.closure.close_state.Statement.{statement}
 use Rattle.step.proofs.closure.close_state.Tie as tie

@@ -3,8 +3,8 @@ use mathlib.Core.Path.{sym, _∙_}
 use Prim.Native.Nat.{_+_}
 use native.Mathlib.Omega.{arith}
 use borrow.Author.Needs.{needs}
-use Rattle.step.proofs.FollowLaws.{left, index-room}
-use Rattle.step.proofs.EpsilonLaws.{EpsilonsAt, key-inside, epsilons-first, epsilons-in, epsilons-room, epsilons-less, epsilons-more, epsilons-end}
+use Rattle.step.proofs.FollowLaws.{left, index-long}
+use Rattle.step.proofs.EpsilonLaws.{EpsilonsAt, key-inside, epsilons-first, epsilons-in, epsilons-puttable, epsilons-less, epsilons-more, epsilons-end}
 use Rattle.step.proofs.closure.follow_epsilons.Statement.{statement}
 use Rattle.step.proofs.closure.follow_epsilons.Tie as tie
 
@@ -23,7 +23,7 @@ mul-i c = omega (arith, key-inside (c .before .before .before .before .pre))
 shared-slice-read-i : tie.Need-shared-slice-read-i Inv-loop μ-loop
 shared-slice-read-i c =
     let g = c .before .before .before .before .before .pre in
-    omega (arith, key-inside g, index-room (g .closing .checked))
+    omega (arith, key-inside g, index-long (g .closing .checked))
 
 cast-i : tie.Need-cast-i Inv-loop μ-loop
 cast-i c = omega (arith, c .shared-slice-known3 .given (256 + c .before .before .before .before .before .args .p))
@@ -45,7 +45,7 @@ cast-target c = search needs
 reach-requires : tie.Need-reach-requires Inv-loop μ-loop
 reach-requires c κs =
     let t = c .before .before .before in
-    epsilons-room (t .before .loop .inv) (t .loop-test .taken)
+    epsilons-puttable (t .before .loop .inv) (t .loop-test .taken)
 
 add-i-2 : tie.Need-add-i-2 Inv-loop μ-loop
 add-i-2 c =

@@ -1,6 +1,6 @@
 -- `step::closure::join_closure` meets its contract: the closure is in its row, and the row is joined; or it is searched in the set.
 use borrow.Author.Tests.{not-false}
-use Rattle.step.proofs.ClosureLaws.{add-again, join-end}
+use Rattle.step.proofs.KeptClosureLaws.{add-again, join-end}
 use borrow.Author.Needs.{needs}
 use Rattle.step.proofs.closure.join_closure.Statement.{statement}
 use Rattle.step.proofs.closure.join_closure.Tie as tie

@@ -2,7 +2,7 @@
 use mathlib.Core.Path.{sym}
 use native.Mathlib.Omega.{arith}
 use Rattle.step.proofs.FollowLaws.{states-most}
-use Rattle.step.proofs.ClosureLaws.{row-inside, row-room, keep-known, keep-other, keep-new}
+use Rattle.step.proofs.KeptClosureLaws.{owner-inside, closure-fits, keep-known, keep-other, keep-new}
 use borrow.Author.Needs.{needs}
 use Rattle.step.proofs.closure.keep_closure.Statement.{statement}
 use Rattle.step.proofs.closure.keep_closure.Tie as tie
@@ -17,7 +17,7 @@ mul-found : tie.Need-mul-found
 mul-found c = search needs
 
 slice-read-found : tie.Need-slice-read-found
-slice-read-found c = row-inside (c .before .before .before .before .before .before .pre)
+slice-read-found c = owner-inside (c .before .before .before .before .before .before .pre)
 
 returns : tie.Need-returns
 returns c = keep-known (c .before .before .before .before .before .before .before .pre) (c .if1 .taken)
@@ -35,13 +35,13 @@ slice-aggregate-write-set-at : tie.Need-slice-aggregate-write-set-at
 slice-aggregate-write-set-at c = sym (c .before .before .before .before .close-state .ensures .size)
 
 write-set-at-requires : tie.Need-write-set-at-requires
-write-set-at-requires c κs = rw (c .before .before .before .before .close-state .ensures .size) (row-room (c .before .before .before .before .before .before .before .before .before .before .before .before .before .before .pre))
+write-set-at-requires c κs = rw (c .before .before .before .before .close-state .ensures .size) (closure-fits (c .before .before .before .before .before .before .before .before .before .before .before .before .before .before .pre))
 
 mul-owners : tie.Need-mul-owners
 mul-owners c = search needs
 
 slice-write-owners : tie.Need-slice-write-owners
-slice-write-owners c = row-inside (c .before .before .before .before .before .before .before .before .before .before .before .before .before .before .before .before .before .pre)
+slice-write-owners c = owner-inside (c .before .before .before .before .before .before .before .before .before .before .before .before .before .before .before .before .before .pre)
 
 same-length : tie.Need-same-length
 same-length c = search needs

@@ -2,7 +2,7 @@
 use mathlib.Core.Path.{sym, _∙_}
 use native.Mathlib.Omega.{arith}
 use borrow.Author.Needs.{needs}
-use Rattle.step.proofs.StackLaws.{put-none, put-one}
+use Rattle.step.proofs.PendingStackLaws.{put-present-none, put-one}
 use Rattle.step.proofs.closure.reach.Statement.{statement}
 use Rattle.step.proofs.closure.reach.Tie as tie
 
@@ -13,7 +13,7 @@ same-length : tie.Need-same-length
 same-length c = search needs
 
 returns : tie.Need-returns
-returns c = put-none (sym (c .before .contains .ensures) ∙ c .if1 .taken)
+returns c = put-present-none (sym (c .before .contains .ensures) ∙ c .if1 .taken)
 
 insert-requires : tie.Need-insert-requires
 insert-requires c κs = search needs
@@ -22,19 +22,19 @@ cast-pending : tie.Need-cast-pending
 cast-pending c = search needs
 
 -- the state was not in the set
-room : tie.Need-slice-write-pending
-room c =
+fits : tie.Need-slice-write-pending
+fits c =
     let d = c .before .before .before .before in
-    d .before .before .before .before .before .pre .room (sym (d .before .contains .ensures) ∙ d .if1 .left)
+    d .before .before .before .before .before .pre .fits (sym (d .before .contains .ensures) ∙ d .if1 .left)
 
 mul-pending : tie.Need-mul-pending
-mul-pending c = let l = room c in omega arith
+mul-pending c = let l = fits c in omega arith
 
 slice-write-pending : tie.Need-slice-write-pending
-slice-write-pending c = room c
+slice-write-pending c = fits c
 
 add-result : tie.Need-add-result
-add-result c = let l = room c in omega arith
+add-result c = let l = fits c in omega arith
 
 same-length-2 : tie.Need-same-length-2
 same-length-2 c = search needs

@@ -3,7 +3,7 @@ use mathlib.Core.Path.{sym, _∙_}
 use Prim.Native.Nat.{_+_}
 use native.Mathlib.Omega.{arith}
 use lib.ListN.{length}
-use Rattle.step.proofs.FollowLaws.{left, index-room}
+use Rattle.step.proofs.FollowLaws.{left, index-long}
 use Rattle.step.proofs.SymbolLaws.{SymbolAt, prepared-checked, symbol-first, symbol-in, symbol-at, symbol-less, symbol-more, symbol-end}
 use borrow.Author.Needs.{needs}
 use Rattle.step.proofs.node.follow_symbol.Statement.{statement}
@@ -20,7 +20,7 @@ mul-i : tie.Need-mul-i Inv-loop μ-loop
 mul-i c = omega (arith, c .before .before .before .before .before .before .before .before .pre .steppable .prepared .ready .symbol-below)
 
 shared-slice-read-i : tie.Need-shared-slice-read-i Inv-loop μ-loop
-shared-slice-read-i c = let g = c .before .before .before .before .before .before .before .before .before .pre .steppable .prepared in omega (arith, g .ready .symbol-below, index-room (prepared-checked g))
+shared-slice-read-i c = let g = c .before .before .before .before .before .before .before .before .before .pre .steppable .prepared in omega (arith, g .ready .symbol-below, index-long (prepared-checked g))
 
 cast-i : tie.Need-cast-i Inv-loop μ-loop
 cast-i c = omega (arith, c .shared-slice-known5 .given (c .before .before .before .before .before .before .before .before .before .args .symbol))
@@ -56,7 +56,7 @@ same-length-2 : tie.Need-same-length-2 Inv-loop μ-loop
 same-length-2 c = c .before .loop .inv .seeding .steppable .closures .rows-are ∙ sym (c .before .before .before .before .before .before .before .before .before .before .before .pre .steppable .closures .rows-are)
 
 same-length-3 : tie.Need-same-length-3 Inv-loop μ-loop
-same-length-3 c = c .before .loop .inv .room-is
+same-length-3 c = c .before .loop .inv .pending-long
 
 same-length-4 : tie.Need-same-length-4 Inv-loop μ-loop
 same-length-4 c = c .before .loop .inv .seeding .growing .size ∙ sym (c .before .before .before .before .before .before .before .before .before .before .before .pre .growing .size)

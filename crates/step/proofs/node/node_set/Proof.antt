@@ -1,5 +1,5 @@
 -- `step::node::node_set` meets its contract: from the empty set all transitions on the symbol are followed.
-use Rattle.step.proofs.NodeLaws.{node-seeding, node-end}
+use Rattle.step.proofs.NodeStepLaws.{node-seeding, node-end}
 use borrow.Author.Needs.{needs}
 use Rattle.step.proofs.node.node_set.Statement.{statement}
 use Rattle.step.proofs.node.node_set.Tie as tie

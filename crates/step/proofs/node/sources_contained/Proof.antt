@@ -4,18 +4,18 @@ use native.Mathlib.Omega.{arith}
 use lib.ListN.{length}
 use borrow.Author.Needs.{needs}
 use borrow.Author.Tests.{not-true, not-false}
-use Rattle.step.proofs.SourceLaws.{Held, held-none, held-inside, held-more, held-fails, held-end, row-contains}
+use Rattle.step.proofs.SourceSetLaws.{SourcesHeld, sources-held-none, sources-held-inside, sources-held-more, sources-held-fails, sources-held-end, row-contains}
 use Rattle.step.proofs.node.sources_contained.Statement.{statement}
 use Rattle.step.proofs.node.sources_contained.Tie as tie
 
 abbrev Inv-loop : tie.InvT-loop
-Inv-loop table at size marks children k₀ k = Held table at size marks children k
+Inv-loop table at size marks children k₀ k = SourcesHeld table at size marks children k
 
 abbrev μ-loop : tie.MeasureT-loop
 μ-loop table at size marks children k₀ k = length children - k
 
 loop-holds : tie.Need-loop-holds Inv-loop μ-loop
-loop-holds c = held-none (c .before .before .before .pre)
+loop-holds c = sources-held-none (c .before .before .before .pre)
 
 mul-first : tie.Need-mul-first Inv-loop μ-loop
 mul-first c = search needs
@@ -34,17 +34,17 @@ mul-first-2 c =
 add-state : tie.Need-add-state Inv-loop μ-loop
 add-state c =
     let t = c .before in
-    omega (arith, held-inside (t .before .loop .inv) (t .loop-test .taken))
+    omega (arith, sources-held-inside (t .before .loop .inv) (t .loop-test .taken))
 
 mul-state : tie.Need-mul-state Inv-loop μ-loop
 mul-state c =
     let t = c .before in
-    omega (arith, held-inside (t .before .loop .inv) (t .loop-test .taken))
+    omega (arith, sources-held-inside (t .before .loop .inv) (t .loop-test .taken))
 
 shared-slice-read-state : tie.Need-shared-slice-read-state Inv-loop μ-loop
 shared-slice-read-state c =
     let t = c .before .before in
-    held-inside (t .before .loop .inv) (t .loop-test .taken)
+    sources-held-inside (t .before .loop .inv) (t .loop-test .taken)
 
 cast-state : tie.Need-cast-state Inv-loop μ-loop
 cast-state c = search needs
@@ -76,7 +76,7 @@ contains-requires c κs = search needs
 returns : tie.Need-returns Inv-loop μ-loop
 returns c =
     let t = c .before .before .before .before .before in
-    held-fails (t .before .loop .inv) (t .loop-test .taken) _ (row-contains _ _ _ _ _ (c .before .contains .ensures))
+    sources-held-fails (t .before .loop .inv) (t .loop-test .taken) _ (row-contains _ _ _ _ _ (c .before .contains .ensures))
     (not-true _ (c .if1 .taken))
 
 add-k : tie.Need-add-k Inv-loop μ-loop
@@ -88,11 +88,11 @@ loop-less c = search needs
 loop-again : tie.Need-loop-again Inv-loop μ-loop
 loop-again c =
     let t = c .before .before .before .before .before in
-    held-more (t .before .loop .inv) (t .loop-test .taken) _ (row-contains _ _ _ _ _ (c .before .contains .ensures))
+    sources-held-more (t .before .loop .inv) (t .loop-test .taken) _ (row-contains _ _ _ _ _ (c .before .contains .ensures))
     (not-false _ (c .if1 .left))
 
 returns-2 : tie.Need-returns-2 Inv-loop μ-loop
-returns-2 c = held-end (c .before .loop .inv) (c .loop-test .left)
+returns-2 c = sources-held-end (c .before .loop .inv) (c .loop-test .left)
 
 pub sources-contained-spec : {M : Type 1} → statement M
 sources-contained-spec =

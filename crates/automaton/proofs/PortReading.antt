@@ -1,0 +1,81 @@
+-- The words of an accepted expression, read one by one with the stack of ports: what holds at every word. Laws of the
+-- compiled automaton are proved by going through such a reading.
+use Prim.Native.Nat.{ℕ, suc, _+_, _-_, _<_, _≤_}
+use mathlib.Core.Path.{_≡_, refl, _∙_, subst}
+use mathlib.Core.Bool.{true}
+use mathlib.Core.List.{List, [], _∷_, reverse}
+use native.Mathlib.Omega.{arith}
+use native.Mathlib.Numerals.{add-one}
+use lib.ListN.{length, take, drop, length-drop, length-reverse}
+use lib.Seq.{length-take-le}
+use lib.Dec.{ltb, leb, eqb}
+use borrow.Author.Tests.{leb-true, ltb-false, eqb-false, not-false}
+use Rattle.words.specs.Lists.{all}
+use Rattle.words.specs.Shape.{treesBy}
+use Rattle.words.specs.Postfix.{arity, trees, oneTree, notOneTree}
+use Rattle.words.specs.Expression.{isExpressionWord, wrongLength, notExpressionWords, expressionRefusals, expressionFault}
+use Rattle.words.proofs.TestLaws.{and-true, or-false, picked}
+use Rattle.words.proofs.RefusalLaws.{none-applies}
+use Rattle.automaton.specs.Numbering.{Port, statesOf, portOf, ownTransitions}
+use Rattle.automaton.proofs.PortStates.{PortIn, portOf-in, portIn-from, Stack, bottom, push, Children, children-le, taken}
+use Rattle.automaton.proofs.OwnTransitions.{Own, own}
+
+-- the children of word w
+abbrev pub childrenOn : List ℕ → ℕ → List Port → List Port
+childrenOn a w stack = reverse (take (arity a w) stack)
+
+-- at word w with the states from n on: its children's states lie before n and behind those of the other ports on the stack
+pub record WordRead (a : List ℕ) (n w : ℕ) (stack : List Port) : Type 0 where
+  pub low : ℕ
+  pub children : Children a low n (childrenOn a w stack)
+  pub number : length (childrenOn a w stack) ≡ arity a w
+  pub rest : Stack a low (drop (arity a w) stack)
+  pub port : PortIn a n (n + statesOf a w) (portOf a n w)
+  pub own : Own a (n + statesOf a w) w (portOf a n w) (childrenOn a w stack) (ownTransitions w (portOf a n w) (childrenOn a w stack))
+
+-- the same at each of the words, from state n on
+pub data Reading (a : List ℕ) : ℕ → List ℕ → List Port → Type 0 where
+  ended : {n : ℕ} {stack : List Port} → Reading a n [] stack
+  word : {n w : ℕ} {ws : List ℕ} {stack : List Port} → WordRead a n w stack
+      → Reading a (n + statesOf a w) ws (portOf a n w ∷ drop (arity a w) stack) → Reading a n (w ∷ ws) stack
+
+module _ (a : List ℕ) where
+  word-read : (n w : ℕ) (stack : List Port) → isExpressionWord a w ≡ true → arity a w ≤ length stack → Stack a n stack → WordRead a n w stack
+  word-read n w stack h r s =
+      let t = taken a (arity a w) n stack s in
+      let l : length (childrenOn a w stack) ≡ arity a w = length-reverse (take (arity a w) stack) ∙ length-take-le (arity a w) stack r in
+      record {
+        low = t .low;
+        children = t .children;
+        number = l;
+        rest = t .rest;
+        port = portOf-in a n w h;
+        own = own a n w (childrenOn a w stack) h l;
+      }
+
+  pub reading : (ws : List ℕ) (n t : ℕ) (stack : List Port) → all (isExpressionWord a) ws ≡ true → trees a (length stack) ws t ≡ true
+      → Stack a n stack → Reading a n ws stack
+  unfolding treesBy
+  reading [] n t stack h r s = ended
+  reading (w ∷ ws) n t stack h r s =
+      let p = and-true (isExpressionWord a w) (all (isExpressionWord a) ws) h in
+      let q = picked (leb (arity a w) (length stack)) (trees a (length stack - arity a w + 1) ws t) r in
+      let d = word-read n w stack (p .0) (leb-true (arity a w) (length stack) (q .0)) s in
+      let l : length stack - arity a w + 1 ≡ suc (length (drop (arity a w) stack)) = rw (length-drop (arity a w) stack) (add-one (length stack - arity a w)) in
+      let s′ = push (portIn-from (children-le a (d .children)) (d .port)) (d .rest) in
+      word d (reading ws (n + statesOf a w) t (portOf a n w ∷ drop (arity a w) stack) (p .1) (subst (λ (x : ℕ). trees a x ws t ≡ true) l (q .1)) s′)
+
+  -- the words of an accepted expression
+  pub expression-reading : (e : List ℕ) → expressionFault a e ≡ 0 → Reading a 0 e []
+  unfolding notExpressionWords notOneTree
+  expression-reading e h =
+      let words = not-false (all (isExpressionWord a) e) (none-applies (expressionRefusals a e) refl h 4) in
+      let tree = not-false (oneTree a e) (none-applies (expressionRefusals a e) refl h 5) in
+      reading e 0 1 [] words tree bottom
+
+  pub expression-length : (e : List ℕ) → expressionFault a e ≡ 0 → (0 < length e) × (length e ≤ 64)
+  unfolding wrongLength
+  expression-length e h =
+      let p = or-false (eqb (length e) 0) (ltb 64 (length e)) (none-applies (expressionRefusals a e) refl h 3) in
+      let z = eqb-false (length e) 0 (p .0) in
+      (omega arith, ltb-false 64 (length e) (p .1))

@@ -1,0 +1,70 @@
+-- What holds of an alphabet and a rule that refusals 1 to 5 let pass.
+use mathlib.Core.Path.{_≡_, refl, ap, _∙_, sym}
+use mathlib.Core.Bool.{true, false}
+use mathlib.Core.List.{List, [], _∷_, _++_}
+use Prim.Native.Nat.{ℕ, zero, suc, _*_, _<_, _≤_}
+use native.Mathlib.Omega.{arith}
+use lib.ListN.{length, take, drop, length-append}
+use lib.Seq.{sets, take-all, take-at}
+use borrow.Author.Tests.{not-false}
+use Rattle.words.specs.Lists.{all}
+use Rattle.words.specs.Alphabet.{constantsOf, alphabetFault}
+use Rattle.words.specs.Postfix.{oneTree, notOneTree}
+use Rattle.words.specs.Expression.{isExpressionWord, notExpressionWords, expressionRefusals, expressionFault}
+use Rattle.words.proofs.RefusalLaws.{conditionOf, none-applies}
+use Rattle.words.proofs.ListLaws.{sets-whole}
+use Rattle.words.proofs.AcceptedAlphabet.{alphabet-accepted}
+use Rattle.automaton.proofs.PortReading.{expression-length}
+use Rattle.compiler.specs.Compiling.{Counted}
+
+pub record AcceptedExpression (a e : List ℕ) : Type 0 where
+  pub some : 0 < length e
+  pub few : length e ≤ 64
+  pub words : all (isExpressionWord a) e ≡ true
+  pub shape : oneTree a e ≡ true
+
+pub expression-passed : (a e : List ℕ) → expressionFault a e ≡ 0 → AcceptedExpression a e
+unfolding notExpressionWords notOneTree
+expression-passed a e h =
+    let not-so : (n : ℕ) → conditionOf n (expressionRefusals a e) ≡ false = none-applies (expressionRefusals a e) refl h in
+    let l = expression-length a e h in
+    record {
+      some = l .0;
+      few = l .1;
+      words = not-false (all (isExpressionWord a) e) (not-so 4);
+      shape = not-false (oneTree a e) (not-so 5);
+    }
+
+-- the number of the constants
+pub constants-counted : (a cs : List ℕ) → alphabetFault a ≡ 0 → cs ≡ constantsOf a → Counted a (length cs)
+constants-counted a cs h known =
+    let l = ap length known in
+    let few = alphabet-accepted a h .fewConstants in
+    record { constants = l; few = omega arith }
+
+pub length-take-most : (e : List ℕ) (n : ℕ) → length (take n e) ≤ length e
+length-take-most e zero = omega arith
+length-take-most [] (suc n) = omega arith
+length-take-most (w ∷ e) (suc n) = omega (arith, length-take-most e n)
+
+-- the states of a rule's first words are few
+pub states-few : (e : List ℕ) (n x : ℕ) → length e ≤ 64 → x ≤ 17 * length (take n e) → x ≤ 1088
+states-few e n x few h = omega (arith, length-take-most e n)
+
+-- the constants of an accepted alphabet in a list of 16 words: none is left out
+module _ (a l l′ : List ℕ) (r : ℕ) (accepted : alphabetFault a ≡ 0) (long : length l ≡ 16)
+    (count : r ≡ length (constantsOf (take 64 a))) (stored : l′ ≡ sets l 0 (constantsOf (take 64 a))) where
+  whole : take 64 a ≡ a
+  whole = take-all 64 a (alphabet-accepted a accepted .few)
+
+  begins : l′ ≡ constantsOf a ++ drop (length (constantsOf a)) l
+  begins = stored ∙ rw whole (sets-whole (constantsOf a) l (omega (arith, alphabet-accepted a accepted .fewConstants)))
+
+  number : r ≡ length (constantsOf a)
+  number = count ∙ rw whole
+
+  pub constants-first : take r l′ ≡ constantsOf a
+  constants-first = ap (take r) begins ∙ take-at (constantsOf a) _ r (sym number)
+
+  pub constants-within : r ≤ length l′
+  constants-within = rw (begins, length-append) (omega (arith, number))

@@ -1,0 +1,61 @@
+-- Laws of the steps that recompute nodes behind an exchange: what each step asks, shown of what the first one asks, and what
+-- they give together.
+use mathlib.Core.Path.{_≡_, refl, ap, _∙_}
+use mathlib.Core.List.{List, reverse}
+use Prim.Native.Nat.{ℕ, _-_, _≤_}
+use native.Mathlib.Omega.{arith}
+use lib.ListN.{length, replicate, length-replicate}
+use Rattle.step.specs.Index.{indexOf, Indexable}
+use Rattle.nodes.specs.Nodes.{rootsOf, Held, Stackable, markedFrom}
+use Rattle.nodes.specs.Marking.{Maintained, AtNodes}
+use Rattle.nodes.proofs.WorkableLaws.{table-few, workable-long}
+use Rattle.nodes.proofs.NodesLaws.{nothing-prepared}
+use Rattle.exchanger.specs.Propagation.{propagateFrom, initial, PropagationStart}
+use Rattle.exchanger.specs.Exchanging.{exchangedFrom, Exchangeable}
+
+module _ {a table ch : List ℕ} {start root : ℕ} {marks : List ℕ} (g : Exchangeable a table ch start root marks) where
+  pub nodes-index : Indexable table (replicate 3328 0)
+  nodes-index = record { few = table-few (g .workable); zeros = refl }
+
+  pub nodes-stack : Stackable a ch start (replicate 4100 0)
+  nodes-stack =
+      let order = g .order in
+      let inside = g .inside in
+      record { tree = g .workable .tree; within = omega arith; long = length-replicate {A = ℕ} 4100 0; zeros = refl }
+
+  pub nodes-marks : {index : List ℕ} → index ≡ indexOf table → {array : List ℕ} {height : ℕ} → length array ≡ length (replicate {A = ℕ} 4100 0)
+      → Held array height (reverse (rootsOf a ch start))
+      → AtNodes a table index ch start root marks array height (replicate 1024 0) (replicate 1024 0) (replicate 1021 0) (replicate 64 0) (replicate 2048 0) (replicate 1024 0)
+  nodes-marks q l s =
+      let order = g .order in
+      let inside = g .inside in
+      record {
+        workable = g .workable;
+        indexed = q;
+        order = order;
+        inside = omega arith;
+        prepared = nothing-prepared (l ∙ length-replicate {A = ℕ} 4100 0) (omega arith) s;
+      }
+
+  pub nodes-propagate : {index : List ℕ} → index ≡ indexOf table → {marks′ array : List ℕ} {height : ℕ} {keys known places owners rows pending : List ℕ}
+      → length marks′ ≡ length marks → Maintained a table ch root marks′ array height keys known places owners rows pending
+      → PropagationStart a table index ch root marks′ array height (root - start) keys known places owners rows pending
+  nodes-propagate q m p =
+      let inside = g .inside in
+      let few = g .workable .tree .few in
+      record {
+        nodes = record {
+          workable = workable-long m (g .workable);
+          indexed = q;
+          order = omega arith;
+          inside = omega arith;
+          prepared = p;
+        };
+        few = omega arith;
+      }
+
+pub nodes-exchanged : (a table ch : List ℕ) (start root : ℕ) (marks work : List ℕ) → work ≡ markedFrom a table ch start (root - start) marks
+    → (r : List ℕ × ℕ) → r ≡ propagateFrom a table ch root (length ch - root) work (initial (root - start)) → r ≡ exchangedFrom a table ch start root marks
+unfolding exchangedFrom
+nodes-exchanged a table ch start root marks work w r p =
+    p ∙ ap (λ (m : List ℕ). propagateFrom a table ch root (length ch - root) m (initial (root - start))) w

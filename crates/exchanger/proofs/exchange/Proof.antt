@@ -1,0 +1,54 @@
+-- `exchanger::exchange` meets its contract: a refused call changes nothing, and an accepted one does what the definitions say.
+use Rattle.exchanger.proofs.ExchangeAnswerLaws.{call-refused, call-accepted, call-replaced}
+use borrow.Author.Needs.{needs}
+use Rattle.exchanger.proofs.exchange.Statement.{statement}
+use Rattle.exchanger.proofs.exchange.Tie as tie
+
+abbrev start : tie.After-exchange-fault → tie.Start
+start c = c .before .before .before .before .before .before .before
+
+exchange-fault-requires : tie.Need-exchange-fault-requires
+exchange-fault-requires c κs = search needs
+
+same-length : tie.Need-same-length
+same-length c = search needs
+
+returns : tie.Need-returns
+returns c =
+    let q = start (c .before) .args in
+    call-refused (q .alphabet .now) (q .table .now) (q .chapter .now) (q .marks .now) (q .count) (q .element) (q .replacement .now)
+    _ (c .before .exchange-fault .ensures) (c .if1 .taken)
+
+replace-subtree-requires : tie.Need-replace-subtree-requires
+replace-subtree-requires c κs =
+    let d = c .before .before in
+    let q = start (d .before) .args in
+    call-accepted (q .alphabet .now) (q .table .now) (q .chapter .now) (q .marks .now) (q .count) (q .element) (q .replacement .now)
+    _ (d .before .exchange-fault .ensures) (d .if1 .left)
+
+same-length-2 : tie.Need-same-length-2
+same-length-2 c = search needs
+
+same-length-3 : tie.Need-same-length-3
+same-length-3 c = search needs
+
+returns-2 : tie.Need-returns-2
+returns-2 c =
+    let r = c .before .before .before .before in
+    let d = r .before .before .before in
+    let q = start (d .before) .args in
+    let s = r .replace-subtree .ensures in
+    call-replaced (q .alphabet .now) (q .table .now) (q .chapter .now) (q .marks .now) (q .count) (q .element) (q .replacement .now)
+    _ (d .before .exchange-fault .ensures) (d .if1 .left) _ _ _ (s .0) (s .1 .0) (s .1 .1)
+
+pub exchange-spec : {M : Type 1} → statement M
+exchange-spec =
+    tie.close
+    (tie.spec
+    exchange-fault-requires
+    same-length
+    returns
+    replace-subtree-requires
+    same-length-2
+    same-length-3
+    returns-2)

@@ -1,0 +1,172 @@
+-- `subtree::replace_subtree` meets its contract: both tails move, the replacement fills the chapter's gap, and the loops recompute
+-- what the definition says, with the old element's words at the root's place.
+use mathlib.Core.Path.{sym, ap₂}
+use mathlib.Core.List.{[], _∷_}
+use Prim.Native.Nat.{ℕ}
+use native.Mathlib.Omega.{arith}
+use Rattle.words.specs.Answer.{accepted}
+use Rattle.operations.specs.Exchange.{newTree}
+use Rattle.exchanger.proofs.CallNumberLaws.{CallNumbers, call-numbers, accepted-call, length-used, chapter-fits, marks-fits}
+use Rattle.exchanger.proofs.ReplaceLaws.{chapter-exit, chapter-count, call-exchangeable, marks-exit}
+use borrow.Author.Needs.{needs}
+use Rattle.exchanger.proofs.subtree.replace_subtree.Statement.{statement}
+use Rattle.exchanger.proofs.subtree.replace_subtree.Tie as tie
+
+abbrev start : tie.After-set-size → tie.Start
+start c = c .before .before .before .before .before .before
+
+abbrev sized : tie.After-subtree-start → tie.After-set-size
+sized c = c .before .before
+
+-- the place behind `subtree_start`, seen from later ones
+abbrev placed : tie.After-move-tail → tie.After-subtree-start
+placed c = c .before .before
+
+abbrev moved : tie.After-copy-words → tie.After-move-tail
+moved c = c .before .before .before .before
+
+abbrev filled : tie.After-move-tail2 → tie.After-copy-words
+filled c = c .before .before .before .before
+
+facts : (c : tie.After-subtree-start)
+    → CallNumbers (start (sized c) .args .alphabet .now) (start (sized c) .args .table .now) (start (sized c) .args .chapter .now)
+    (start (sized c) .args .marks .now) (start (sized c) .args .count) (start (sized c) .args .element)
+    (start (sized c) .args .replacement .now) (c .subtree-start .result) (sized c .set-size .result)
+facts c = call-numbers _ _ _ _ _ _ _ (start (sized c) .pre) _ (c .subtree-start .ensures) _ (sized c .set-size .ensures)
+
+set-size-requires : tie.Need-set-size-requires
+set-size-requires c κs = search needs
+
+slice-reshare-prefix-subtree-start : tie.Need-slice-reshare-prefix-subtree-start
+slice-reshare-prefix-subtree-start c = accepted-call _ _ _ _ _ _ _ (start c .pre) .within
+
+slice-aggregate-subtree-start : tie.Need-slice-aggregate-subtree-start
+slice-aggregate-subtree-start c = sym (length-used _ _ _ _ _ _ _ (start (c .before) .pre))
+
+subtree-start-requires : tie.Need-subtree-start-requires
+subtree-start-requires c κs = search needs
+
+add-behind : tie.Need-add-behind
+add-behind c = let f = facts c in omega arith
+
+sub-root : tie.Need-sub-root
+sub-root c = let f = facts c in omega arith
+
+sub-total : tie.Need-sub-total
+sub-total c = let f = facts c in omega arith
+
+sub-total-2 : tie.Need-sub-total-2
+sub-total-2 c = let f = facts c in omega arith
+
+add-total : tie.Need-add-total
+add-total c = let f = facts c in omega arith
+
+add-move-tail : tie.Need-add-move-tail
+add-move-tail c = let f = facts (c .before) in omega arith
+
+move-tail-requires : tie.Need-move-tail-requires
+move-tail-requires c κs =
+    let p = c .before in
+    chapter-fits _ _ _ _ _ _ _ (start (sized p) .pre) _ (p .subtree-start .ensures) _ (sized p .set-size .ensures)
+
+copy-words-requires : tie.Need-copy-words-requires
+copy-words-requires c κs =
+    let t = c .before .before .before in
+    let f = facts (placed t) in
+    let k = t .move-tail .kept .0 in
+    omega arith
+
+mul-move-tail : tie.Need-mul-move-tail
+mul-move-tail c = let f = facts (placed (moved (c .before .before .before))) in omega arith
+
+mul-move-tail-2 : tie.Need-mul-move-tail-2
+mul-move-tail-2 c = let f = facts (placed (moved (c .before .before .before))) in omega arith
+
+mul-move-tail-3 : tie.Need-mul-move-tail-3
+mul-move-tail-3 c = let f = facts (placed (moved (c .before .before .before))) in omega arith
+
+move-tail-requires-2 : tie.Need-move-tail-requires-2
+move-tail-requires-2 c κs =
+    let p = placed (moved (c .before .before .before)) in
+    marks-fits _ _ _ _ _ _ _ (start (sized p) .pre) _ (p .subtree-start .ensures) _ (sized p .set-size .ensures)
+
+slice-reshare-prefix-recompute-nodes : tie.Need-slice-reshare-prefix-recompute-nodes
+slice-reshare-prefix-recompute-nodes c =
+    let f = filled (c .before .before) in
+    let t = moved f in
+    let n = facts (placed t) in
+    let k = t .move-tail .kept .0 in
+    let k₂ = f .copy-words .kept .0 in
+    omega arith
+
+slice-aggregate-recompute-nodes : tie.Need-slice-aggregate-recompute-nodes
+slice-aggregate-recompute-nodes c =
+    let f = filled (c .before .before .before) in
+    let t = moved f in
+    let p = placed t in
+    chapter-count _ _ _ _ _ _ _ (start (sized p) .pre) _ (p .subtree-start .ensures) _ (sized p .set-size .ensures)
+    _ _ (t .move-tail .ensures) (f .copy-words .ensures)
+
+recompute-nodes-requires : tie.Need-recompute-nodes-requires
+recompute-nodes-requires c κs =
+    let w = c .before .before .before .before in
+    let f = filled w in
+    let t = moved f in
+    let p = placed t in
+    call-exchangeable _ _ _ _ _ _ _ (start (sized p) .pre) _ (p .subtree-start .ensures) _ (sized p .set-size .ensures)
+    _ _ (t .move-tail .ensures) (f .copy-words .ensures) _ (w .move-tail2 .ensures) (w .move-tail2 .kept .0)
+
+same-length : tie.Need-same-length
+same-length c = search needs
+
+same-length-2 : tie.Need-same-length-2
+same-length-2 c = search needs
+
+returns : tie.Need-returns
+unfolding newTree
+returns c =
+    let k = c .before .before in
+    let w = k .before .before .before .before .before in
+    let f = filled w in
+    let t = moved f in
+    let p = placed t in
+    let q = start (sized p) .args in
+    let pre = start (sized p) .pre in
+    let qs = p .subtree-start .ensures in
+    let qz = sized p .set-size .ensures in
+    let left =
+    marks-exit (q .alphabet .now) (q .table .now) (q .chapter .now) (q .marks .now) (q .count) (q .element) (q .replacement .now) pre _ qs _ qz
+    _ _ (t .move-tail .ensures) (f .copy-words .ensures) _ (w .move-tail2 .ensures) (w .move-tail2 .kept .0) _ _ (k .recompute-nodes .ensures) in (
+      ap₂ (λ (i j : ℕ). accepted (i ∷ j ∷ [])) (facts p .total) (left .count-is),
+      (
+        chapter-exit _ _ _ _ _ _ _ pre _ qs _ qz _ _ (t .move-tail .ensures) (f .copy-words .ensures),
+        left .words,
+      ),
+    )
+
+pub replace-subtree-spec : {M : Type 1} → statement M
+replace-subtree-spec =
+    tie.close
+    (tie.spec
+    set-size-requires
+    slice-reshare-prefix-subtree-start
+    slice-aggregate-subtree-start
+    subtree-start-requires
+    add-behind
+    sub-root
+    sub-total
+    sub-total-2
+    add-total
+    add-move-tail
+    move-tail-requires
+    copy-words-requires
+    mul-move-tail
+    mul-move-tail-2
+    mul-move-tail-3
+    move-tail-requires-2
+    slice-reshare-prefix-recompute-nodes
+    slice-aggregate-recompute-nodes
+    recompute-nodes-requires
+    same-length
+    same-length-2
+    returns)

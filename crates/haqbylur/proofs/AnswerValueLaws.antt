@@ -1,0 +1,35 @@
+-- Every value of an answer fits 32 bits: what the answer's number and values are is given by its definition.
+use mathlib.Core.Path.{_≡_}
+use mathlib.Core.List.{List}
+use Prim.Native.Nat.{ℕ, _^_, _<_}
+use Rattle.operations.specs.Compile.{compileAnswer}
+use Rattle.operations.specs.Run.{runAnswer}
+use Rattle.operations.specs.Listing.{listAnswer}
+use Rattle.operations.specs.Exchange.{exchangeAnswer}
+use Rattle.operations.proofs.ValueLaws.{compile-value, run-values, list-value, exchange-values}
+use Rattle.compiler.specs.declared.Compiled.{Compiled}
+use Rattle.compiler.specs.declared.Compiled.the-variants.{Table}
+use Rattle.compiler.specs.Answers.{answerIn as answerInCompiled}
+use Rattle.matcher.specs.declared.Ran.{Ran}
+use Rattle.matcher.specs.declared.Ran.the-variants.{Marked}
+use Rattle.matcher.specs.declared.Listed.{Listed}
+use Rattle.matcher.specs.declared.Listed.the-variants.{Matches}
+use Rattle.matcher.specs.Answers.{answerInRan, answerInListed}
+use Rattle.exchanger.specs.declared.Exchanged.{Exchanged}
+use Rattle.exchanger.specs.declared.Exchanged.the-variants.{Replaced}
+use Rattle.exchanger.specs.Answers.{answerIn as answerInExchanged}
+
+pub compile-small : (a e slice : List ℕ) {k : ℕ} (r : Compiled) → r ≡ Table k → answerInCompiled r ≡ compileAnswer a e slice → k < 2 ^ 32
+compile-small a e slice r told answer = compile-value a e slice (rw told at answer)
+
+pub run-small : (a table ch marks : List ℕ) {n cells : ℕ} (r : Ran) → r ≡ Marked n cells → answerInRan r ≡ runAnswer a table ch marks
+    → (n < 2 ^ 32) × (cells < 2 ^ 32)
+run-small a table ch marks r told answer = run-values a table ch marks (rw told at answer)
+
+pub list-small : (a table : List ℕ) (n : ℕ) (marks list : List ℕ) {k : ℕ} (r : Listed) → r ≡ Matches k
+    → answerInListed r ≡ listAnswer a table n marks list → k < 2 ^ 32
+list-small a table n marks list r told answer = list-value a table n marks list (rw told at answer)
+
+pub exchange-small : (a table chapter marks : List ℕ) (n i : ℕ) (xs : List ℕ) {count worked : ℕ} (r : Exchanged) → r ≡ Replaced count worked
+    → answerInExchanged r ≡ exchangeAnswer a table chapter marks n i xs → (count < 2 ^ 32) × (worked < 2 ^ 32)
+exchange-small a table chapter marks n i xs r told answer = exchange-values a table chapter marks n i xs (rw told at answer)

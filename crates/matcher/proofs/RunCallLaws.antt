@@ -1,0 +1,105 @@
+-- Run's accepted calls: what its parts ask, and that the marks and the cells are those of the definition.
+use mathlib.Core.Path.{_≡_, refl, ap, ap₂, _∙_}
+use mathlib.Core.List.{List, [], _∷_, _++_, flatten, append-nil}
+use Prim.Native.Nat.{ℕ, _+_, _-_, _*_, _≤_}
+use native.Mathlib.Omega.{arith}
+use native.Mathlib.Nat.{zero-add}
+use lib.ListN.{length, take, drop, replicate, drop-of-length-le, length-replicate}
+use lib.Seq.{length-take-le, take-length}
+use Rattle.words.specs.Lists.{listFrom}
+use Rattle.words.specs.Shape.{stackGivenBy}
+use Rattle.words.specs.Postfix.{values}
+use Rattle.words.proofs.ListLaws.{length-listFrom}
+use Rattle.automaton.specs.StateSet.{StateSet}
+use Rattle.words.specs.Answer.{refused, accepted}
+use Rattle.operations.specs.Marks.{sizeOf, nodeSet, nodeSets, storedSet}
+use Rattle.operations.specs.Run.{runFault, runMarks, cellsIn, runAnswer, runExit}
+use Rattle.nodes.proofs.LoopLaws.{Recomputing}
+use Rattle.operations.proofs.RunLaws.{run-writes, run-length}
+use Rattle.sets.proofs.StoredLaws.{words-few}
+use Rattle.step.specs.Index.{indexOf, Indexable}
+use Rattle.nodes.specs.Nodes.{markedFrom, Workable}
+use Rattle.nodes.specs.Marking.{AtNodes}
+use Rattle.nodes.proofs.WorkedLaws.{workedFrom, worked-is}
+use Rattle.nodes.proofs.MarkLaws.{holding-stored, markedFrom-rows}
+use Rattle.nodes.proofs.WorkableLaws.{workable-size, table-few}
+use Rattle.nodes.proofs.NodesLaws.{nothing-prepared, held-none}
+use Rattle.refusals.proofs.AnswerLaws.{answer-refused, answer-accepted, exit-refused, exit-accepted}
+use Rattle.matcher.proofs.AcceptedCallLaws.{run-workable}
+
+-- ---- all nodes, with nothing remembered at first
+
+pub tree-index : {a table ch : List ℕ} {marksLength : ℕ} → Workable a table ch marksLength → Indexable table (replicate 3328 0)
+tree-index g = record { few = table-few g; zeros = refl }
+
+pub tree-nodes : {a table ch marks : List ℕ} → Workable a table ch (length marks) → {index : List ℕ} → index ≡ indexOf table
+    → AtNodes a table index ch 0 (length ch) marks (replicate 4100 0) 4 (replicate 1024 0) (replicate 1024 0) (replicate 1021 0) (replicate 64 0) (replicate 2048 0) (replicate 1024 0)
+tree-nodes {a} {ch = ch} g e =
+    record {
+      workable = g;
+      indexed = e;
+      order = omega arith;
+      inside = omega arith;
+      prepared = nothing-prepared (length-replicate {A = ℕ} 4100 0) (omega arith) (held-none a ch);
+    }
+
+pub tree-marked : (a table ch marks marks′ : List ℕ) → marks′ ≡ markedFrom a table ch 0 (length ch - 0) marks → marks′ ≡ markedFrom a table ch 0 (length ch) marks
+tree-marked a table ch marks marks′ e = let z : length ch - 0 ≡ length ch = omega arith in e ∙ ap (λ (n : ℕ). markedFrom a table ch 0 n marks) z
+
+-- the nodes one after the other leave what the definition says
+marked-run : (a table ch marks : List ℕ) → length ch * sizeOf table ≤ length marks
+    → markedFrom a table ch 0 (length ch) marks ≡ runMarks a table ch marks
+unfolding runMarks nodeSets stackGivenBy
+marked-run a table ch marks h =
+    let size = sizeOf table in
+    let n = length ch in
+    let old = listFrom (storedSet size marks) 0 n in
+    let rest = drop (n * size) marks in
+    let m : length old ≡ n = length-listFrom (storedSet size marks) n 0 in
+    let z : 0 + n ≡ n = zero-add n in
+    let w : Recomputing a table ch old 0 [] n (workedFrom a table ch 0 n old) = worked-is a table ch old 0 [] n (omega arith) (omega arith) refl in
+    markedFrom-rows a table ch marks old rest 0 n (holding-stored size marks n h) (omega arith) (omega arith) .words
+    ∙ ap (λ (rows : List StateSet). flatten rows ++ rest)
+    (w .sets-are
+    ∙ ap₂ (λ (l : List ℕ) (r : List StateSet). values a (nodeSet table) l [] ++ r)
+    (ap (λ (i : ℕ). take i ch) z ∙ take-length ch)
+    (ap (λ (i : ℕ). drop i old) z ∙ drop-of-length-le old {i = n} (omega arith))
+    ∙ append-nil (values a (nodeSet table) ch []))
+
+module _ (a table ch marks : List ℕ) (h : runFault a table ch (length marks) ≡ 0) where
+  pub workable : Workable a table ch (length marks)
+  workable = run-workable a table ch (length marks) h
+
+  module _ (marks′ : List ℕ) (e : marks′ ≡ markedFrom a table ch 0 (length ch) marks) where
+    pub run-left : marks′ ≡ runMarks a table ch marks
+    run-left = e ∙ marked-run a table ch marks (workable .marks-fit)
+
+    module _ (size : ℕ) (s : size ≡ sizeOf table) where
+      pub run-fits : length ch * size ≤ length marks′
+      run-fits = rw (run-left, run-length a table ch marks (workable .marks-fit), s) (workable .marks-fit)
+
+      pub run-few : length ch * size ≤ 131072
+      run-few = words-few (length ch) size (workable .tree .few) (rw s (workable-size workable))
+
+      pub run-part : length (take (length ch * size) marks′) ≡ length ch * size
+      run-part = length-take-le (length ch * size) marks′ run-fits
+
+      pub run-cells : (r : ℕ) → r ≡ cellsIn (take (length ch * size) marks′) → r ≡ cellsIn (flatten (nodeSets a table ch))
+      run-cells r q =
+          q ∙ ap (λ (n : ℕ). cellsIn (take (length ch * n) marks′)) s
+          ∙ ap (λ (m : List ℕ). cellsIn (take (length ch * sizeOf table) m)) run-left ∙ ap cellsIn (run-writes a table ch marks)
+
+-- ---- the answer and the marks at exit
+
+module _ (a table ch marks : List ℕ) (f : ℕ) (e : f ≡ runFault a table ch (length marks)) where
+  pub run-refused : (f ≡ 0 → ⊥) → (refused f ≡ runAnswer a table ch marks) × (marks ≡ runExit a table ch marks)
+  unfolding runAnswer runExit
+  run-refused h = (answer-refused f (runFault a table ch (length marks)) e _ h, exit-refused f (runFault a table ch (length marks)) e _ marks h)
+
+  pub run-accepts : f ≡ 0 → (cells : ℕ) (marks′ : List ℕ) → cells ≡ cellsIn (flatten (nodeSets a table ch)) → marks′ ≡ runMarks a table ch marks
+      → (accepted (length ch ∷ cells ∷ []) ≡ runAnswer a table ch marks) × (marks′ ≡ runExit a table ch marks)
+  unfolding runAnswer runExit
+  run-accepts h cells marks′ c m = (
+    ap (λ (n : ℕ). accepted (length ch ∷ n ∷ [])) c ∙ answer-accepted f (runFault a table ch (length marks)) e _ h,
+    m ∙ exit-accepted f (runFault a table ch (length marks)) e _ marks h,
+  )

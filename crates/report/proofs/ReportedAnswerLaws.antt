@@ -1,0 +1,185 @@
+-- What Compile, Run and List answer on slices of 2,048, 8,192 and 256 words is what the output is made of: 7, 8, 12 and 13
+-- cannot arise.
+use mathlib.Core.Path.{_≡_, refl, ap, _∙_, sym}
+use mathlib.Core.Bool.{false}
+use mathlib.Core.List.{List, [], _∷_, _++_, head-eq-of-cons-eq}
+use Prim.Native.Nat.{ℕ, zero, suc, _*_, _<_, _≤_}
+use native.Mathlib.Omega.{arith}
+use native.Mathlib.Nat.{mul-le-mul}
+use lib.ListN.{length, take, drop}
+use lib.Seq.{take-at}
+use borrow.Author.Tests.{lt-ltb, le-ltb, ne-eqb}
+use Rattle.words.specs.Refusal.{refusal}
+use Rattle.words.proofs.RefusalLaws.{none, next, number, found, refuses, passes}
+use Rattle.automaton.specs.Transition.{Automaton, automatonOf}
+use Rattle.automaton.specs.StateSet.{sizeFor}
+use Rattle.automaton.specs.Numbering.{compiled}
+use Rattle.automaton.proofs.CompiledTable.{table-most}
+use Rattle.words.specs.Answer.{refused, accepted}
+use Rattle.operations.specs.Compile.{compiledTable, tableTooLong, ruleRefusals, compileRefusals, compileFault, compileAnswer}
+use Rattle.operations.specs.Marks.{sizeOf, finalOf, nodeSets}
+use Rattle.operations.specs.Run.{wrongCount, marksTooShort, runFault, runMarks, runAnswer, runExit}
+use Rattle.operations.specs.Listing.{listFault, matchesIn, matchesOf, listAnswer, listExit}
+use Rattle.operations.proofs.AcceptedLaws.{accepted-values, RuleAccepted, rule-accepted, rule-alphabet, rule-expression, run-accepted, accepted-list}
+use Rattle.operations.proofs.RunLaws.{run-exit, run-writes, run-length, matches-nodeSets}
+use Rattle.operations.proofs.CompileLaws.{CompileAccepted, compile-accepted}
+use Rattle.operations.proofs.Demand1.{refused-by}
+use Rattle.lines.specs.Line.{refusedLine, headLine, hitLines}
+use Rattle.report.specs.Output.{wrongChapter, chapterRefusals, marklistRefusals, marklistFault, hitsOf, marklistOutput}
+use Rattle.report.proofs.KeptLaws.{refused-output, accepted-output}
+
+-- ---- Compile, with a table slice of 2,048 words
+
+module _ (a e : List ℕ) where
+  -- 7 cannot arise
+  table-enough : refusal (ruleRefusals a e) ≡ 0 → tableTooLong a e 2048 ≡ false
+  unfolding tableTooLong
+  table-enough h =
+      let f = rule-accepted a e h in
+      let l = table-most a e (rule-alphabet f) (rule-expression f) (f .states) in
+      le-ltb 2048 (length (compiledTable a e)) (omega arith)
+
+  compile-rule : compileFault a e 2048 ≡ refusal (ruleRefusals a e)
+  compile-rule = go (refusal (ruleRefusals a e)) refl
+    where
+      go : (n : ℕ) → refusal (ruleRefusals a e) ≡ n → compileFault a e 2048 ≡ refusal (ruleRefusals a e)
+      go (suc n) h =
+          sym (number (compileRefusals a e 2048) (refuses (ruleRefusals a e) _ refl (λ z. omega arith)))
+      go zero h = sym (number (compileRefusals a e 2048) (passes (ruleRefusals a e) refl refl h (next (table-enough h) none))) ∙ sym h
+
+  -- a refused Compile: its number is printed
+  pub compile-refused : (ch slice : List ℕ) (n : ℕ) → length slice ≡ 2048 → refused n ≡ compileAnswer a e slice → marklistOutput a e ch ≡ refusedLine n
+  unfolding compileAnswer
+  compile-refused ch slice n l h =
+      let q = refused-by (length (compiledTable a e) ∷ []) (compileFault a e (length slice)) n (sym h) in
+      let f : n ≡ refusal (ruleRefusals a e) = sym (q .1) ∙ ap (compileFault a e) l ∙ compile-rule in
+      let some = q .0 in
+      refused-output a e ch n (sym (number (marklistRefusals a e ch) (refuses (ruleRefusals a e) _ f (λ z. omega arith)))) (q .0)
+
+  -- ---- an accepted Compile, and Run with marks of 8,192 words
+
+  module _ (ch slice : List ℕ) (k : ℕ) (l : length slice ≡ 2048) (h : accepted (k ∷ []) ≡ compileAnswer a e slice) where
+    rule-none : refusal (ruleRefusals a e) ≡ 0
+    unfolding compileAnswer
+    rule-none =
+        sym compile-rule ∙ ap (compileFault a e) (sym l)
+        ∙ accepted-values (compileFault a e (length slice)) (length (compiledTable a e) ∷ []) (k ∷ []) (sym h) .0
+
+    rule : RuleAccepted a e
+    rule = rule-accepted a e rule-none
+
+    known : CompileAccepted a e slice k
+    known = compile-accepted a e slice k (sym h)
+
+    -- the refusals that are left
+    pub left-fault : marklistFault a e ch ≡ refusal (chapterRefusals a ch)
+    left-fault = sym (number (marklistRefusals a e ch) (passes (ruleRefusals a e) refl refl rule-none (found (chapterRefusals a ch) refl)))
+
+    -- "Over 256 elements it says 9"
+    pub chapter-over : 256 < length ch → marklistOutput a e ch ≡ refusedLine 9
+    unfolding wrongChapter
+    chapter-over g =
+        refused-output a e ch 9 (left-fault ∙ rw (ne-eqb (length ch) 0 (λ z. omega arith), lt-ltb 256 (length ch) g)) (omega arith)
+
+    -- the state count of the head
+    pub compiled-states : automatonOf (compiledTable a e) .states ≡ compiled a e .states
+    compiled-states = ap (λ A. A .states) (known .automaton)
+
+    size-few : sizeOf (compiledTable a e) ≤ 32
+    unfolding sizeOf sizeFor
+    size-few = let s = rule .states in rw compiled-states (omega arith)
+
+    module _ (few : length ch ≤ 256) where
+      marks-enough : marksTooShort (compiledTable a e) (length ch) 8192 ≡ false
+      unfolding marksTooShort
+      marks-enough =
+          let p : length ch * sizeOf (compiledTable a e) ≤ 256 * 32 = mul-le-mul few size-few in
+          le-ltb 8192 (length ch * sizeOf (compiledTable a e)) p
+
+      -- 9 is judged alike
+      same-count : wrongCount (length ch) ≡ wrongChapter ch
+      unfolding wrongCount wrongChapter
+      same-count = rw (le-ltb 4096 (length ch) (omega arith), le-ltb 256 (length ch) few)
+
+      -- 8 and 12 cannot arise
+      run-fault : runFault a (compiledTable a e) ch 8192 ≡ marklistFault a e ch
+      run-fault =
+          let q : runFault a (compiledTable a e) ch 8192 ≡ refusal (chapterRefusals a ch) =
+          rw (rule .alphabet, rule .constants, known .passes, same-count, marks-enough) in
+          q ∙ sym left-fault
+
+      -- a refused Run: its number is printed
+      pub run-refusal : (marks : List ℕ) (n : ℕ) → length marks ≡ 8192 → refused n ≡ runAnswer a (compiledTable a e) ch marks
+          → marklistOutput a e ch ≡ refusedLine n
+      unfolding runAnswer
+      run-refusal marks n m g =
+          let q = refused-by _ (runFault a (compiledTable a e) ch (length marks)) n (sym g) in
+          refused-output a e ch n (sym run-fault ∙ ap (runFault a (compiledTable a e) ch) (sym m) ∙ q .1) (q .0)
+
+      -- ---- an accepted Run, and List with a slice of 256 words
+
+      module _ (marks list : List ℕ) (m : length marks ≡ 8192) (r : length list ≡ 256) (n cells : ℕ)
+          (runs : accepted (n ∷ cells ∷ []) ≡ runAnswer a (compiledTable a e) ch marks) where
+        abbrev left : List ℕ
+        left = runExit a (compiledTable a e) ch marks
+
+        run-none : runFault a (compiledTable a e) ch (length marks) ≡ 0
+        unfolding runAnswer
+        run-none = accepted-values (runFault a (compiledTable a e) ch (length marks)) _ (n ∷ cells ∷ []) (sym runs) .0
+
+        none-left : marklistFault a e ch ≡ 0
+        none-left = sym run-fault ∙ ap (runFault a (compiledTable a e) ch) (sym m) ∙ run-none
+
+        left-long : length left ≡ 8192
+        left-long =
+            ap length (run-exit a (compiledTable a e) ch marks run-none)
+            ∙ run-length a (compiledTable a e) ch marks (run-accepted a (compiledTable a e) ch (length marks) run-none .marks) ∙ m
+
+        -- 13 cannot arise either
+        list-none : listFault a (compiledTable a e) (length ch) (length left) (length list) ≡ 0
+        list-none =
+            let g = run-accepted a (compiledTable a e) ch (length marks) run-none in
+            accepted-list a (compiledTable a e) (length ch) (length left) (length list)
+            (record {
+              alphabet = g .alphabet;
+              constants = g .constants;
+              automaton = g .automaton;
+              counted = g .counted;
+              marks = rw (left-long, ← m) (g .marks);
+              list = rw r few;
+            })
+
+        pub list-not-refused : (f : ℕ) → refused f ≡ listAnswer a (compiledTable a e) (length ch) left list → ⊥
+        unfolding listAnswer
+        list-not-refused f g = let z : _≡_ {A = ℕ} 0 1 = let k : refused f ≡ accepted _ = rw list-none at g in cc in omega arith
+
+        module _ (hits : ℕ) (lists : accepted (hits ∷ []) ≡ listAnswer a (compiledTable a e) (length ch) left list) where
+          matches-are : matchesOf (compiledTable a e) (length ch) left ≡ hitsOf a e ch
+          unfolding hitsOf finalOf
+          matches-are =
+              ap (matchesOf (compiledTable a e) (length ch)) (run-exit a (compiledTable a e) ch marks run-none)
+              ∙ matches-nodeSets a (compiledTable a e) ch (runMarks a (compiledTable a e) ch marks) (run-writes a (compiledTable a e) ch marks)
+              ∙ ap (λ (A : Automaton). matchesIn (A .final) 0 (nodeSets a (compiledTable a e) ch)) (known .automaton)
+
+          hit-count : length (matchesOf (compiledTable a e) (length ch) left) ≡ hits
+          unfolding listAnswer
+          hit-count =
+              let v = accepted-values (listFault a (compiledTable a e) (length ch) (length left) (length list)) _ (hits ∷ []) (sym lists) in
+              head-eq-of-cons-eq (v .1)
+
+          listed : take hits (listExit a (compiledTable a e) (length ch) left list) ≡ matchesOf (compiledTable a e) (length ch) left
+          unfolding listExit
+          listed =
+              let ms = matchesOf (compiledTable a e) (length ch) left in
+              rw list-none (take-at ms (drop (length ms) list) hits hit-count)
+
+          pub listed-long : hits ≡ length (take hits (listExit a (compiledTable a e) (length ch) left list))
+          listed-long = sym (ap length listed ∙ hit-count)
+
+          -- the head line and the hit lines of what List wrote
+          pub listed-output : marklistOutput a e ch
+              ≡ headLine (length ch) (automatonOf (compiledTable a e) .states) hits
+              ++ hitLines a ch (take hits (listExit a (compiledTable a e) (length ch) left list))
+          listed-output =
+              accepted-output a e ch none-left
+              ∙ rw (listed, ← matches-are, hit-count, compiled-states)

@@ -1,0 +1,96 @@
+-- Where every transition on the symbol is followed, the set is the node's state set: it holds the seeds, is closed under the
+-- epsilon transitions and holds reached states only.
+use mathlib.Core.Path.{_≡_, refl, ap, _∙_, sym, subst}
+use mathlib.Core.Bool.{true, true≢false}
+use mathlib.Core.List.{List, [], _∷_, _++_, List·Memᴰ}
+use Prim.Native.Nat.{ℕ, zero, suc, _-_, _/_}
+use native.Mathlib.Omega.{arith}
+use lib.ListN.{length, getD, replicate, length-append, length-replicate}
+use Rattle.words.proofs.TestLaws.{same-truth}
+use Rattle.automaton.specs.Transition.{Automaton, onSymbol, automatonOf}
+use Rattle.automaton.specs.StateSet.{StateSet, sizeFor, contains, allContained, stateSet}
+use Rattle.automaton.specs.Reached.{Reached}
+use Rattle.automaton.proofs.BitLaws.{Words, words-replicate, contains-replicate, contains-determines}
+use Rattle.automaton.proofs.ClosureLaws.{targets-below, seeded-closed-all, words-stateSet, stateSet-reached}
+use Rattle.automaton.proofs.SetLength.{length-stateSet}
+use Rattle.automaton.proofs.TableLaws.{isTable-automaton, isTable-sizes}
+use Rattle.operations.specs.Marks.{sizeOf}
+use Rattle.step.specs.Ready.{Ready, childSets}
+use Rattle.step.specs.Node.{Growing, Steppable, Seeding, SymbolFollowed}
+use Rattle.step.proofs.TransitionStartLaws.{member-starts, table-transitions}
+use Rattle.step.proofs.KeyedWordLaws.{starts-symbol, starts-target}
+
+-- ---- before the first transition
+
+pub node-seeding : {table index : List ℕ} {f size : ℕ} {marks children owners rows pending : List ℕ} → Steppable table index f marks children owners rows pending
+    → size ≡ sizeOf table → Seeding table index f size marks children owners rows pending (replicate 32 0)
+node-seeding g e =
+    record {
+      steppable = g;
+      size-is = e;
+      growing = record {
+        size = length-replicate {A = ℕ} 32 0;
+        words = words-replicate 32;
+        reached = λ q h. absurd (true≢false (sym h ∙ contains-replicate 32 q));
+        closed = λ p q m h. absurd (true≢false (sym h ∙ contains-replicate 32 p));
+      };
+    }
+
+-- ---- zeros behind a set add no state
+
+zeros-read : (n i : ℕ) → getD {A = ℕ} (replicate n 0) i 0 ≡ 0
+zeros-read zero i = refl
+zeros-read (suc n) zero = refl
+zeros-read (suc n) (suc i) = zeros-read n i
+
+zeros-at : (x : StateSet) (n i : ℕ) → getD (x ++ replicate n 0) i 0 ≡ getD x i 0
+zeros-at [] n i = zeros-read n i
+zeros-at (w ∷ x) n zero = refl
+zeros-at (w ∷ x) n (suc i) = zeros-at x n i
+
+contains-zeros : (x : StateSet) (n q : ℕ) → contains (x ++ replicate n 0) q ≡ contains x q
+unfolding contains
+contains-zeros x n q = rw (zeros-at x n (q / 32))
+
+words-zeros : (x : StateSet) (n : ℕ) → Words x → Words (x ++ replicate n 0)
+words-zeros x n w i = rw (zeros-at x n i) (w i)
+
+-- ---- the node's state set
+
+module _ {table : List ℕ} {f : ℕ} {marks children : List ℕ} (ready : Ready table f marks children) (rs : List StateSet) (r : StateSet)
+    (owners rows : List ℕ) (g : SymbolFollowed table f rs r owners rows) where
+  A : Automaton
+  A = automatonOf table
+
+  seeded : (ps : List ℕ) (q : ℕ) → List·Memᴰ (onSymbol f ps q) (A .transitions) → allContained ps rs ≡ true → contains r q ≡ true
+  unfolding A
+  seeded ps q m e =
+      let s = member-starts table (onSymbol f ps q) (subst (List·Memᴰ (onSymbol f ps q)) (sym (table-transitions (ready .alphabet) table (ready .checked))) m) in
+      let t = starts-target table (s .index) (s .member) in
+      rw (t .1) (g .satisfied (s .index) (s .inside) (starts-symbol table (s .index) (s .member)) (rw (t .0) at e))
+
+  has-reached : {q : ℕ} → Reached (A .transitions) f rs q → contains r q ≡ true
+  unfolding A
+  has-reached = seeded-closed-all (A .transitions) f rs (λ q. contains r q ≡ true) seeded (g .growing .closed)
+
+  whole : r ≡ stateSet (automatonOf table) f rs ++ replicate (32 - sizeOf table) 0
+  unfolding A sizeOf
+  whole =
+      let x = stateSet A f rs in
+      let most = isTable-sizes (ready .alphabet) table (ready .checked) .size-most in
+      let short = ready .short in
+      let below = targets-below (isTable-automaton (ready .alphabet) (omega arith) table (ready .checked)) in
+      let long : length (x ++ replicate (32 - sizeFor (A .states)) 0) ≡ 32 = rw (length-append, length-stateSet A f rs, length-replicate {A = ℕ}) (omega arith) in
+      contains-determines r (x ++ replicate (32 - sizeFor (A .states)) 0) (g .growing .size ∙ sym long) (g .growing .words)
+      (words-zeros x (32 - sizeFor (A .states)) (words-stateSet A f rs))
+      (λ q.
+      same-truth (contains r q) (contains (x ++ replicate (32 - sizeFor (A .states)) 0) q)
+      (λ e. contains-zeros x (32 - sizeFor (A .states)) q ∙ stateSet-reached A f rs below q .1 (g .growing .reached q e))
+      (λ e. has-reached (stateSet-reached A f rs below q .0 (sym (contains-zeros x (32 - sizeFor (A .states)) q) ∙ e))))
+
+pub node-end : {table : List ℕ} {f size : ℕ} {marks children owners rows : List ℕ} → Ready table f marks children → size ≡ sizeOf table
+    → {r : StateSet} → SymbolFollowed table f (childSets size marks children) r owners rows
+    → r ≡ stateSet (automatonOf table) f (childSets (sizeOf table) marks children) ++ replicate (32 - sizeOf table) 0
+node-end {table} {f} {size} {marks} {children} {owners} {rows} ready e {r} g =
+    whole ready (childSets size marks children) r owners rows g
+    ∙ ap (λ (k : ℕ). stateSet (automatonOf table) f (childSets k marks children) ++ replicate (32 - sizeOf table) 0) e
