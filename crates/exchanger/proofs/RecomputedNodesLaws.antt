@@ -5,7 +5,7 @@ use mathlib.Core.List.{List, reverse}
 use Prim.Native.Nat.{ℕ, _-_, _≤_}
 use native.Mathlib.Omega.{arith}
 use lib.ListN.{length, replicate, length-replicate}
-use Rattle.step.specs.Index.{indexOf, Indexable}
+use Rattle.index.specs.Index.{indexOf, Indexable}
 use Rattle.nodes.specs.Nodes.{rootsOf, Held, Stackable, markedFrom}
 use Rattle.nodes.specs.Marking.{Maintained, AtNodes}
 use Rattle.nodes.proofs.WorkableLaws.{table-few, workable-long}

@@ -12,10 +12,10 @@ ghost use Rattle.exchanger.specs.Answers.{answerIn};
 use super::Exchanged;
 use super::propagate::propagate;
 use super::replace::move_tail;
+use index::write_index;
 use nodes::marking::mark_nodes;
 use nodes::stack::stack_nodes;
 use slices::moves::copy_words;
-use step::index::write_index;
 use tables::head::set_size;
 use words::postfix::subtree_start;
 

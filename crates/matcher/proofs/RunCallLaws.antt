@@ -17,7 +17,7 @@ use Rattle.operations.specs.Run.{runFault, runMarks, cellsIn, runAnswer, runExi
 use Rattle.nodes.proofs.LoopLaws.{Recomputing}
 use Rattle.operations.proofs.RunLaws.{run-writes, run-length}
 use Rattle.sets.proofs.StoredLaws.{words-few}
-use Rattle.step.specs.Index.{indexOf, Indexable}
+use Rattle.index.specs.Index.{indexOf, Indexable}
 use Rattle.nodes.specs.Nodes.{markedFrom, Workable}
 use Rattle.nodes.specs.Marking.{AtNodes}
 use Rattle.nodes.proofs.WorkedLaws.{workedFrom, worked-is}

@@ -5,10 +5,10 @@ ghost use lib.ListN.{length};
 ghost use Rattle.operations.specs.Marks.{nodeSets};
 ghost use Rattle.operations.specs.Run.{runFault, runMarks, cellsIn};
 ghost use Rattle.nodes.specs.Nodes.{markedFrom, Workable};
+use index::write_index;
 use nodes::marking::mark_nodes;
 use nodes::stack::STACK_BASE;
 use sets::whole::count_cells;
-use step::index::write_index;
 use tables::head::set_size;
 
 // Marks all nodes of a tree. The arrays that this takes are made here, all zero: a memo of zeros is empty.

@@ -12,7 +12,7 @@ use Rattle.automaton.specs.Table.{AllBelow}
 use Rattle.automaton.specs.Transition.{automatonOf}
 use Rattle.automaton.specs.StateSet.{StateSet, stateSet}
 use Rattle.operations.specs.Marks.{sizeOf, storedSet}
-use Rattle.step.specs.Closure.{Closures}
+use Rattle.closures.specs.Closure.{Closures}
 use Rattle.sets.specs.Copyable.{Copyable}
 use Rattle.sets.proofs.StoredLaws.{row-inside, stored-before}
 use Rattle.memo.specs.Key.{packed, stepKey}

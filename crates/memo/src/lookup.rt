@@ -3,7 +3,7 @@ ghost use mathlib.Core.Path.{_≡_};
 ghost use Prim.Native.Nat.{_-_, _*_};
 ghost use lib.ListN.{take, drop};
 ghost use lib.Seq.{paste};
-ghost use Rattle.step.specs.Closure.{Closures};
+ghost use Rattle.closures.specs.Closure.{Closures};
 ghost use Rattle.sets.specs.Copyable.{Copyable};
 ghost use Rattle.memo.specs.Memo.{AtNew, MarkedNew, AtNext, MarkedNext};
 use super::key::slot_of;
@@ -11,7 +11,7 @@ use super::key::step_key;
 use super::representative::representative;
 use sets::whole::copy_set;
 use sets::whole::write_set_at;
-use step::node::node_set;
+use step::node_set;
 use tables::head::set_size;
 
 // Works out node i's state set and writes it; answers the node's representative.

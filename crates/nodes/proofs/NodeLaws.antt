@@ -16,7 +16,7 @@ use Rattle.automaton.specs.Transition.{automatonOf}
 use Rattle.automaton.specs.StateSet.{StateSet, stateSet}
 use Rattle.operations.specs.Marks.{sizeOf, nodeSet, storedSet}
 use Rattle.step.specs.Ready.{RowsInside, Prepared}
-use Rattle.step.proofs.FollowLaws.{states-most}
+use Rattle.closures.proofs.FollowLaws.{states-most}
 use Rattle.step.proofs.SymbolLaws.{prepared-checked}
 use Rattle.slices.proofs.RefitLaws.{take-drop}
 use Rattle.sets.proofs.StoredLaws.{row-inside, stored-written}

@@ -5,7 +5,7 @@ use mathlib.Core.List.{List, reverse, map}
 use lib.ListN.{length}
 use Rattle.automaton.specs.Table.{AllBelow}
 use Rattle.operations.specs.Marks.{sizeOf, storedSet}
-use Rattle.step.specs.Index.{indexOf}
+use Rattle.index.specs.Index.{indexOf}
 use Rattle.memo.specs.Memo.{Remembered}
 use Rattle.nodes.specs.Nodes.{rootsOf, Held, Workable}
 

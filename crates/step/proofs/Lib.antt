@@ -1,12 +1,3 @@
 pub mod SourceSetLaws
-pub mod KeyedWordLaws
-pub mod PendingStackLaws
-pub mod SearchLaws
-pub mod FollowLaws
-pub mod EpsilonLaws
-pub mod KeptClosureLaws
 pub mod SymbolLaws
 pub mod NodeStepLaws
-pub mod TransitionStartLaws
-pub mod ChainLaws
-pub mod IndexLaws

@@ -17,8 +17,8 @@ use Rattle.automaton.proofs.TableLaws.{isTable-automaton, isTable-sizes}
 use Rattle.operations.specs.Marks.{sizeOf}
 use Rattle.step.specs.Ready.{Ready, childSets}
 use Rattle.step.specs.Node.{Growing, Steppable, Seeding, SymbolFollowed}
-use Rattle.step.proofs.TransitionStartLaws.{member-starts, table-transitions}
-use Rattle.step.proofs.KeyedWordLaws.{starts-symbol, starts-target}
+use Rattle.closures.proofs.TransitionStartLaws.{member-starts, table-transitions}
+use Rattle.closures.proofs.KeyedWordLaws.{starts-symbol, starts-target}
 
 -- ---- before the first transition
 

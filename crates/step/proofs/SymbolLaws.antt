@@ -14,13 +14,14 @@ use Rattle.automaton.specs.StateSet.{StateSet, contains, allContained}
 use Rattle.automaton.specs.Reached.{Reached, byEpsilon}
 use Rattle.automaton.proofs.ClosureLaws.{targets-below, reached-below}
 use Rattle.automaton.proofs.TableLaws.{isTable-automaton}
-use Rattle.step.specs.Index.{keyOf}
-use Rattle.step.specs.Ready.{Prepared, IndexedTable, RowsInside, childSets}
-use Rattle.step.specs.Closure.{ReachedFrom, itself, onward, Closures, Joinable, JoinedClosure}
+use Rattle.index.specs.Index.{keyOf}
+use Rattle.index.specs.Index.{IndexedTable}
+use Rattle.step.specs.Ready.{Prepared, RowsInside, childSets}
+use Rattle.closures.specs.Closure.{ReachedFrom, itself, onward, Closures, Joinable, JoinedClosure}
 use Rattle.step.specs.Node.{Sources, Growing, Satisfied, Steppable, Seeding, SeedingAt, Joined, SymbolFollowed}
-use Rattle.step.proofs.ChainLaws.{FirstWith, SymbolWord, nextWith, next-some, next-none, keyed-symbol}
-use Rattle.step.proofs.KeyedWordLaws.{symbol-below, symbol-reached, symbol-sources}
-use Rattle.step.proofs.FollowLaws.{InChain, left, states-most, keyed, chain-first, in-chain, chain-next, left-less}
+use Rattle.index.proofs.ChainLaws.{FirstWith, SymbolWord, nextWith, next-some, next-none, keyed-symbol}
+use Rattle.closures.proofs.KeyedWordLaws.{symbol-below, symbol-reached, symbol-sources}
+use Rattle.closures.proofs.FollowLaws.{InChain, left, states-most, keyed, chain-first, in-chain, chain-next, left-less}
 
 pub prepared-checked : {table index : List ℕ} {f : ℕ} {marks children : List ℕ} → Prepared table index f marks children → IndexedTable table index
 prepared-checked p =

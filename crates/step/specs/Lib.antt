@@ -1,4 +1,2 @@
 pub mod Ready
-pub mod Index
-pub mod Closure
 pub mod Node

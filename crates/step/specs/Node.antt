@@ -10,9 +10,9 @@ use Rattle.automaton.specs.Transition.{sourcesAt, automatonOf}
 use Rattle.automaton.specs.StateSet.{StateSet, contains, allContained}
 use Rattle.automaton.specs.Reached.{Reached}
 use Rattle.operations.specs.Marks.{sizeOf}
-use Rattle.step.specs.Index.{keyOf}
+use Rattle.index.specs.Index.{keyOf}
 use Rattle.step.specs.Ready.{RowsInside, Prepared, childSets}
-use Rattle.step.specs.Closure.{Closed, Closures}
+use Rattle.closures.specs.Closure.{Closed, Closures}
 
 -- the part states at an index are as many as the children
 pub record Sources (table : List ℕ) (at size : ℕ) (marks children : List ℕ) : Type 0 where

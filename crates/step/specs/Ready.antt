@@ -9,7 +9,7 @@ use Rattle.words.specs.Alphabet.{rankOf}
 use Rattle.automaton.specs.Table.{isTable}
 use Rattle.automaton.specs.StateSet.{StateSet}
 use Rattle.operations.specs.Marks.{sizeOf, storedSet}
-use Rattle.step.specs.Index.{indexOf}
+use Rattle.index.specs.Index.{indexOf}
 
 -- each child's words lie inside the marks; the children are node numbers
 abbrev pub RowsInside : ℕ → List ℕ → List ℕ → Type 0
@@ -22,13 +22,6 @@ pub record Ready (table : List ℕ) (symbol : ℕ) (marks children : List ℕ) :
   pub symbol-below : symbol < 256
   pub rank : rankOf alphabet symbol ≡ length children
   pub rows : RowsInside (sizeOf table) marks children
-
--- a checked table with its index
-pub record IndexedTable (table index : List ℕ) : Type 0 where
-  pub alphabet : List ℕ
-  pub short : length alphabet ≤ 64
-  pub checked : isTable alphabet table ≡ true
-  pub indexed : index ≡ indexOf table
 
 -- what the node step asks, and the table's index
 pub record Prepared (table index : List ℕ) (symbol : ℕ) (marks children : List ℕ) : Type 0 where
