@@ -27,10 +27,10 @@ use Rattle.exchanger.proofs.UpwardLoop.{upwards}
 use Rattle.exchanger.proofs.ExchangeLoops.{movedSets, replacedSets, exchangedSets, exchangedSets-outcomes, length-movedSets, length-replacedSets, words-behind}
 use Rattle.nodes.specs.Nodes.{setFrom, markedFrom}
 use Rattle.nodes.proofs.MarkLaws.{MarksHolding, holding-set, setFrom-rows, markedAt-rows}
-use Rattle.exchanger.specs.declared.propagate.Progress.{Progress}
-use Rattle.exchanger.specs.Propagation.{propagateStep, propagateFrom, initial}
+use Rattle.propagation.specs.declared.Progress.{Progress}
+use Rattle.propagation.specs.Propagation.{propagateStep, propagateFrom, initial}
 use Rattle.exchanger.specs.Exchanging.{exchangedFrom}
-use Rattle.exchanger.proofs.PropagationLaws.{recomputed-is, step-ancestor, propagate-continues, propagate-stops}
+use Rattle.propagation.proofs.PropagationLaws.{recomputed-is, step-ancestor, propagate-continues, propagate-stops}
 use Rattle.exchanger.proofs.UpwardLaws.{Upward, Same, propagate-upwards}
 use Rattle.exchanger.proofs.TailLaws.{tail-filled}
 use Rattle.exchanger.proofs.CallNumberLaws.{CallNumbers, call-numbers, accepted-call, length-used, chapter-fits}

@@ -1,8 +1,6 @@
 pub mod UpwardLoop
 pub mod ExchangeLoops
 pub mod TailLaws
-pub mod PropagationLaws
-pub mod ProgressLaws
 pub mod UpwardLaws
 pub mod CallNumberLaws
 pub mod MovedLaws

@@ -10,7 +10,7 @@ use Rattle.nodes.specs.Nodes.{rootsOf, Held, Stackable, markedFrom}
 use Rattle.nodes.specs.Marking.{Maintained, AtNodes}
 use Rattle.nodes.proofs.WorkableLaws.{table-few, workable-long}
 use Rattle.nodes.proofs.NodesLaws.{nothing-prepared}
-use Rattle.exchanger.specs.Propagation.{propagateFrom, initial, PropagationStart}
+use Rattle.propagation.specs.Propagation.{propagateFrom, initial, PropagationStart}
 use Rattle.exchanger.specs.Exchanging.{exchangedFrom, Exchangeable}
 
 module _ {a table ch : List ℕ} {start root : ℕ} {marks : List ℕ} (g : Exchangeable a table ch start root marks) where

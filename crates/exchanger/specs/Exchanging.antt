@@ -3,7 +3,7 @@ use Prim.Native.Nat.{ℕ, _-_, _<_, _≤_}
 use mathlib.Core.List.{List}
 use lib.ListN.{length}
 use Rattle.nodes.specs.Nodes.{markedFrom, Workable}
-use Rattle.exchanger.specs.Propagation.{propagateFrom, initial}
+use Rattle.propagation.specs.Propagation.{propagateFrom, initial}
 
 -- The nodes from `start` up to `root` are the replacement's: they are worked out. At the root's place are the old element's
 -- words: if the root's are the same, that is all; otherwise the ancestors follow. The count is that of the nodes worked out.

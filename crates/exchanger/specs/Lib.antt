@@ -1,4 +1,3 @@
 pub mod Tail
-pub mod Propagation
 pub mod Exchanging
 pub mod Answers

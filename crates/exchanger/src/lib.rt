@@ -5,7 +5,6 @@ ghost use Rattle.exchanger.specs.Answers.{answerIn};
 use refusals::exchange::exchange_fault;
 use subtree::replace_subtree;
 
-mod propagate;
 mod replace;
 mod subtree;
 

@@ -10,11 +10,11 @@ ghost use Rattle.operations.specs.Exchange.{setIn, recomputedIn, fault as Excha
 ghost use Rattle.exchanger.specs.Exchanging.{exchangedFrom, Exchangeable};
 ghost use Rattle.exchanger.specs.Answers.{answerIn};
 use super::Exchanged;
-use super::propagate::propagate;
 use super::replace::move_tail;
 use index::write_index;
 use nodes::marking::mark_nodes;
 use nodes::stack::stack_nodes;
+use propagation::propagate;
 use slices::moves::copy_words;
 use tables::head::set_size;
 use words::postfix::subtree_start;

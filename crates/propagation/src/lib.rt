@@ -3,7 +3,7 @@ ghost use mathlib.Core.Path.{_≡_};
 ghost use Prim.Native.Nat.{_+_, _-_};
 ghost use lib.ListN.{length};
 ghost use Rattle.nodes.specs.Marking.{Maintained, AtNode};
-ghost use Rattle.exchanger.specs.Propagation.{recomputeAt, propagateStep, propagateFrom, initial, Propagable, PropagationStart};
+ghost use Rattle.propagation.specs.Propagation.{recomputeAt, propagateStep, propagateFrom, initial, Propagable, PropagationStart};
 use nodes::marking::mark_node;
 use nodes::stack::push_node;
 use sets::whole::same_words;
@@ -160,7 +160,7 @@ fn propagate_node(
 
 // Passes the nodes from `root` on, the replacement's root, until one that is recomputed keeps its words or the nodes end.
 // Answers how many nodes were recomputed; `count` of them before.
-pub(crate) fn propagate(
+pub fn propagate(
     alphabet: &[u32],
     table: &[u32],
     index: &[u32],

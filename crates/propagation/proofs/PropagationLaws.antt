@@ -22,8 +22,8 @@ use Rattle.nodes.specs.Marking.{AtNode, Maintained}
 use Rattle.nodes.proofs.WorkableLaws.{workable-size, node-arity}
 use Rattle.nodes.proofs.RootStackLaws.{stack-pushable, represented-more}
 use Rattle.nodes.proofs.MarkLaws.{length-setFrom}
-use Rattle.exchanger.specs.declared.propagate.Progress.{Progress}
-use Rattle.exchanger.specs.Propagation.{recomputeAt, propagateStep, propagateFrom}
+use Rattle.propagation.specs.declared.Progress.{Progress}
+use Rattle.propagation.specs.Propagation.{recomputeAt, propagateStep, propagateFrom}
 
 -- ---- one node is recomputed
 

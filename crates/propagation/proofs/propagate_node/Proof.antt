@@ -1,9 +1,9 @@
 -- `propagate::propagate_node` meets its contract: the rank tells whether the node is an ancestor.
 use native.Mathlib.Omega.{arith}
-use Rattle.exchanger.proofs.PropagationLaws.{node-rank, node-pushable, node-passed, step-beside, step-ancestor}
+use Rattle.propagation.proofs.PropagationLaws.{node-rank, node-pushable, node-passed, step-beside, step-ancestor}
 use borrow.Author.Needs.{needs}
-use Rattle.exchanger.proofs.propagate.propagate_node.Statement.{statement}
-use Rattle.exchanger.proofs.propagate.propagate_node.Tie as tie
+use Rattle.propagation.proofs.propagate_node.Statement.{statement}
+use Rattle.propagation.proofs.propagate_node.Tie as tie
 
 mul-rank : tie.Need-mul-rank
 mul-rank c = search needs

@@ -2,10 +2,10 @@
 use native.Mathlib.Omega.{arith}
 use Prim.Native.Nat.{ℕ}
 use lib.ListN.{length-replicate}
-use Rattle.exchanger.proofs.PropagationLaws.{row-fits, row-small, row-few, row-part, before-length, node-recomputed}
+use Rattle.propagation.proofs.PropagationLaws.{row-fits, row-small, row-few, row-part, before-length, node-recomputed}
 use borrow.Author.Needs.{needs}
-use Rattle.exchanger.proofs.propagate.recompute.Statement.{statement}
-use Rattle.exchanger.proofs.propagate.recompute.Tie as tie
+use Rattle.propagation.proofs.recompute.Statement.{statement}
+use Rattle.propagation.proofs.recompute.Tie as tie
 
 abbrev start : tie.After-set-size → tie.Start
 start s = s .before .before .before .before .before .before .before .before .before .before .before .before .before

@@ -9,7 +9,7 @@ use Rattle.words.specs.Postfix.{arity}
 use Rattle.operations.specs.Marks.{sizeOf, storedSet, sameWords}
 use Rattle.nodes.specs.Nodes.{setFrom, markedAt}
 use Rattle.nodes.specs.Marking.{AtNode, AtNodes}
-use Rattle.exchanger.specs.declared.propagate.Progress.{Progress}
+use Rattle.propagation.specs.declared.Progress.{Progress}
 
 -- Node i is recomputed: its words are written, and whether they differ from those that stood there.
 unfoldable pub recomputeAt : List ℕ → List ℕ → List ℕ → ℕ → List ℕ → List ℕ × Bool

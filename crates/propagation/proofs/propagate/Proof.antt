@@ -5,9 +5,9 @@ use mathlib.Core.Path.{sym, _∙_}
 use native.Mathlib.Omega.{arith}
 use lib.ListN.{length}
 use borrow.Author.Tests.{not-true, not-false}
-use Rattle.exchanger.proofs.ProgressLaws.{Propagating, propagating-none, propagating-at, propagating-stops, propagating-more, propagating-end}
-use Rattle.exchanger.proofs.propagate.propagate.Statement.{statement}
-use Rattle.exchanger.proofs.propagate.propagate.Tie as tie
+use Rattle.propagation.proofs.ProgressLaws.{Propagating, propagating-none, propagating-at, propagating-stops, propagating-more, propagating-end}
+use Rattle.propagation.proofs.propagate.Statement.{statement}
+use Rattle.propagation.proofs.propagate.Tie as tie
 
 abbrev Inv-loop : tie.InvT-loop
 Inv-loop alphabet table index nodes root marks₀ stack₀ height count keys₀ known₀ places₀ owners₀ rows₀ pending₀ progress₀ top₀ i₀ marks stack keys known places owners rows pending progress top i = Propagating alphabet table nodes root count marks₀ marks stack progress top keys known places owners rows pending i

@@ -1,0 +1,2 @@
+pub mod PropagationLaws
+pub mod ProgressLaws
