@@ -50,7 +50,8 @@ bits-determine : (n a b : ℕ) → a < 2 ^ n → b < 2 ^ n → ((k : ℕ) → k 
 bits-determine zero a b la lb h = omega arith
 bits-determine (suc n) a b la lb h =
     let below : (x : ℕ) → x < 2 ^ suc n → x / 2 < 2 ^ n = λ x l. half (pow-suc 2 n) l in
-    let higher : a / 2 ≡ b / 2 = bits-determine n (a / 2) (b / 2) (below a la) (below b lb) (λ k l. shifted a k ∙ h (suc k) (omega arith) ∙ sym (shifted b k)) in
+    let higher : a / 2 ≡ b / 2 =
+    bits-determine n (a / 2) (b / 2) (below a la) (below b lb) (λ k l. shifted a k ∙ h (suc k) (omega arith) ∙ sym (shifted b k)) in
     let lowest = h 0 (omega arith) in
     omega arith
   where
@@ -94,7 +95,8 @@ insert-other r s q h = ap (λ (x : ℕ). eqb x 1) (go (ℕ-discrete (q / 32) (s 
     keeps-bit : (w j k : ℕ) → k ≢ j → bitOr w (2 ^ j) / 2 ^ k % 2 ≡ w / 2 ^ k % 2
     keeps-bit w j k n = or-bit w (2 ^ j) k ∙ rw (one-bit-other j k n) (none (w / 2 ^ k % 2))
 
-    go : Dec (q / 32 ≡ s / 32) → Dec (s / 32 < length r) → getD (set r (s / 32) v) (q / 32) 0 / 2 ^ (q % 32) % 2 ≡ getD r (q / 32) 0 / 2 ^ (q % 32) % 2
+    go : Dec (q / 32 ≡ s / 32) → Dec (s / 32 < length r)
+        → getD (set r (s / 32) v) (q / 32) 0 / 2 ^ (q % 32) % 2 ≡ getD r (q / 32) 0 / 2 ^ (q % 32) % 2
     go (no n) d = ap (λ (x : ℕ). x / 2 ^ (q % 32) % 2) (getD-set-other r (s / 32) (q / 32) v 0 n)
     go (yes e) (no l) = ap (λ (x : List ℕ). getD x (q / 32) 0 / 2 ^ (q % 32) % 2) (set-out r (s / 32) v (omega arith))
     go (yes e) (yes l) =
@@ -150,7 +152,8 @@ words-insert r s w i = go (ℕ-discrete i (s / 32)) (decLt (s / 32) (length r))
     go : Dec (i ≡ s / 32) → Dec (s / 32 < length r) → getD (set r (s / 32) v) i 0 < 2 ^ 32
     go (no n) d = rw (getD-set-other r (s / 32) i v 0 n) (w i)
     go (yes e) (no l) = rw (set-out r (s / 32) v (omega arith)) (w i)
-    go (yes e) (yes l) = rw (e, getD-set-same r (s / 32) v 0 l) (or-lt 32 (getD r (s / 32) 0) (2 ^ (s % 32)) (w (s / 32)) (pow-lt {j = 32} (omega arith)))
+    go (yes e) (yes l) =
+        rw (e, getD-set-same r (s / 32) v 0 l) (or-lt 32 (getD r (s / 32) 0) (2 ^ (s % 32)) (w (s / 32)) (pow-lt {j = 32} (omega arith)))
 
 -- ---- extensionality
 

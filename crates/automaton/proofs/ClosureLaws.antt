@@ -14,7 +14,8 @@ use Rattle.automaton.specs.Table.{TransitionOver, TransitionsOver, Autom
 use Rattle.automaton.proofs.BitLaws.{Words, words-replicate, words-insert, contains-replicate, contains-determines}
 use Rattle.automaton.proofs.KeepLaws.{symbolPass-keeps, epsilonClosure-keeps}
 use Rattle.automaton.proofs.SetLength.{length-symbolPass, length-stateSet}
-use Rattle.automaton.proofs.PassLaws.{Seeded, ClosedUnder, Within, In, epsilonClosure-grows, symbolPass-adds, symbolPass-within, epsilonClosure-within, epsilonClosure-closed}
+use Rattle.automaton.proofs.PassLaws.{Seeded, ClosedUnder, Within, In, epsilonClosure-grows, symbolPass-adds}
+use Rattle.automaton.proofs.PassLaws.{symbolPass-within, epsilonClosure-within, epsilonClosure-closed}
 
 -- ---- targets
 
@@ -26,7 +27,8 @@ targetOf (epsilon p q) = q
 abbrev pub TargetsBelow : ℕ → List Transition → Type 0
 TargetsBelow n ts = (t : Transition) → List·Memᴰ t ts → targetOf t < n
 
-pub transition-over : (a : List ℕ) (n : ℕ) (ts : List Transition) → TransitionsOver a n ts → {t : Transition} → List·Memᴰ t ts → TransitionOver a n t
+pub transition-over : (a : List ℕ) (n : ℕ) (ts : List Transition) → TransitionsOver a n ts → {t : Transition} → List·Memᴰ t ts
+    → TransitionOver a n t
 transition-over a n (u ∷ ts) o (List·Memᴰ·head e) = rw e (o .0)
 transition-over a n (u ∷ ts) o (List·Memᴰ·tail m) = transition-over a n ts (o .1) m
 
@@ -82,7 +84,8 @@ module _ (A : Automaton) (f : ℕ) (rs : List StateSet) where
       let r = emptySet (A .states) in
       let P = Reached (A .transitions) f rs in
       epsilonClosure-within P _ (A .transitions) (symbolPass f rs (A .transitions) r) (λ p q m. byEpsilon m)
-      (symbolPass-within P f rs (A .transitions) r (λ ps q m. bySymbol m) (λ q e. absurd (true≢false (sym e ∙ contains-replicate (sizeFor (A .states)) q))))
+      (symbolPass-within P f rs (A .transitions) r (λ ps q m. bySymbol m)
+      (λ q e. absurd (true≢false (sym e ∙ contains-replicate (sizeFor (A .states)) q))))
 
   module _ (below : TargetsBelow (A .states) (A .transitions)) where
     stateSet-seeded : Seeded (A .transitions) f rs (In (stateSet A f rs))
@@ -101,7 +104,13 @@ module _ (A : Automaton) (f : ℕ) (rs : List StateSet) where
         (rw (length-symbolPass f rs (A .transitions) r, length-replicate {A = ℕ} (sizeFor (A .states)) 0) (omega arith))
 
     pub stateSet-is : IsStateSet A f rs (stateSet A f rs)
-    stateSet-is = record { size = length-stateSet A f rs; words = words-stateSet; seeded = stateSet-seeded; closed = stateSet-closed; reached = stateSet-within }
+    stateSet-is = record {
+      size = length-stateSet A f rs;
+      words = words-stateSet;
+      seeded = stateSet-seeded;
+      closed = stateSet-closed;
+      reached = stateSet-within;
+    }
 
     -- "for every state s, bit s mod 32 of word s / 32 is set exactly if s is reached"
     pub stateSet-reached : (q : ℕ) → (contains (stateSet A f rs) q ≡ true) ↔ Reached (A .transitions) f rs q

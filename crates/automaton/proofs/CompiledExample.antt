@@ -30,7 +30,8 @@ table =
     ∷ 0xa0004c17 ∷ 0xa0004c18 ∷ 0xa0006414 ∷ 0xa0006815 ∷ 0xa0006c16 ∷ 0xa0007017 ∷ 0xa0007018 ∷ []
 
 pub example-table : tableWords (compiled alphabet rule) ≡ table
-unfolding kindAt rankOf constantsFrom constantsOf arity hasEntries statesOf portOf ownTransitions portsFrom statesAfter transitionsFrom compiled flatMap
+unfolding kindAt rankOf constantsFrom constantsOf arity hasEntries statesOf portOf ownTransitions portsFrom statesAfter transitionsFrom
+    compiled flatMap
 example-table = refl
 
 -- c of rank 0 and f of rank 2
@@ -41,12 +42,14 @@ smallAlphabet = 0x10000000 ∷ 0x10000002 ∷ []
 pub twice-table :
     tableWords (compiled smallAlphabet (0x20000000 ∷ 0x20000000 ∷ 0x20000001 ∷ []))
     ≡ 0x80001002 ∷ 0x90000003 ∷ 0x90000402 ∷ 0xb0000000 ∷ 0xb0000001 ∷ 0xa0000c00 ∷ 0xa0000c01 ∷ []
-unfolding kindAt rankOf constantsFrom constantsOf arity hasEntries statesOf portOf ownTransitions portsFrom statesAfter transitionsFrom compiled flatMap
+unfolding kindAt rankOf constantsFrom constantsOf arity hasEntries statesOf portOf ownTransitions portsFrom statesAfter transitionsFrom
+    compiled flatMap
 twice-table = refl
 
 -- the closure over c of the empty language, which has no entry
 pub empty-table :
     tableWords (compiled smallAlphabet (0x30000000 ∷ 0x60000000 ∷ []))
     ≡ 0x80000c01 ∷ 0x90000002 ∷ 0xa0000001 ∷ 0xa0000801 ∷ []
-unfolding kindAt rankOf constantsFrom constantsOf arity hasEntries statesOf portOf ownTransitions portsFrom statesAfter transitionsFrom compiled flatMap
+unfolding kindAt rankOf constantsFrom constantsOf arity hasEntries statesOf portOf ownTransitions portsFrom statesAfter transitionsFrom
+    compiled flatMap
 empty-table = refl

@@ -15,7 +15,9 @@ use Rattle.words.proofs.AllLaws.{All, all-append, all-map, all-both, all-self}
 use Rattle.words.proofs.AlphabetLaws.{constantsOf-isConstant, isConstant-zero}
 use Rattle.words.proofs.Ascending.{Ascending, end, next, ascending-le, ascending-append, ascending-one}
 use Rattle.automaton.specs.Transition.{Transition, onSymbol, epsilon}
-use Rattle.automaton.specs.Numbering.{Port, statesOf, portOf, entryFor, epsilons, entryEpsilons, statesAfter, ownTransitions, transitionsFrom, constantTransitions, lastPort, compiled, symbolTargets, unionTargets, productTargets, closureTargets}
+use Rattle.automaton.specs.Numbering.{Port, statesOf, portOf, entryFor, epsilons, entryEpsilons, statesAfter}
+use Rattle.automaton.specs.Numbering.{ownTransitions, transitionsFrom, constantTransitions, lastPort}
+use Rattle.automaton.specs.Numbering.{compiled, symbolTargets, unionTargets, productTargets, closureTargets}
 use Rattle.automaton.specs.Table.{AllBelow, TransitionOver, TransitionsOver, AutomatonOver}
 use Rattle.automaton.proofs.EveryEntryLaws.{to-epsilons, to-entryEpsilons, to-constants, numbered-all}
 use Rattle.automaton.proofs.PortStates.{statesIn, Entries, every, own, missing, PortIn, Children, noChild, child, children-le}
@@ -55,14 +57,16 @@ module _ (a : List ℕ) where
 
   epsilons-over : {lo hi : ℕ} (n p : ℕ) {qs : List ℕ} → p < n → Ascending lo hi qs → hi ≤ n → All (TransitionOver a n) (epsilons p qs)
   epsilons-over n p {qs} l s h =
-      to-epsilons (TransitionOver a n) p qs (all-map (λ q. q < n) (λ q. TransitionOver a n (epsilon p q)) (λ q k. (l, k)) qs (below-of n s h))
+      to-epsilons (TransitionOver a n) p qs
+      (all-map (λ q. q < n) (λ q. TransitionOver a n (epsilon p q)) (λ q k. (l, k)) qs (below-of n s h))
 
   entryEpsilons-over : {lo hi l h : ℕ} (targets : ℕ → List ℕ) (es : List (ℕ × ℕ)) → Ascending lo hi (statesIn es)
       → ((c : ℕ) → Ascending l h (targets c)) → h ≤ hi → All (TransitionOver a hi) (entryEpsilons es targets)
   entryEpsilons-over {hi} targets es s t k =
       to-entryEpsilons (TransitionOver a hi) targets es
       (all-map (λ e. e .1 < hi) (λ e. All (λ p. TransitionOver a hi (epsilon (e .1) p)) (targets (e .0)))
-      (λ e m. all-map (λ q. q < hi) (λ q. (e .1 < hi) × (q < hi)) (λ q j. (m, j)) (targets (e .0)) (below-of hi (t (e .0)) k)) es (entries-below es s))
+      (λ e m. all-map (λ q. q < hi) (λ q. (e .1 < hi) × (q < hi)) (λ q j. (m, j)) (targets (e .0)) (below-of hi (t (e .0)) k)) es
+      (entries-below es s))
 
   own-over : {hi w lo n : ℕ} {E : Port} {Ps : List Port} {ts : List Transition} → PortIn a n hi E → Children a lo n Ps
       → Own a hi w E Ps ts → All (TransitionOver a hi) ts
@@ -78,14 +82,19 @@ module _ (a : List ℕ) where
   own-over {hi} {w} {E} x (child p (child q (noChild l))) (ofProduct {F} {G} i) =
       let c = lowByte w in
       let us = epsilons-over hi (G .exit) (omega arith) (entryFor-ascending c F p) (omega arith) in
-      let ts = entryEpsilons-over (productTargets c F G) (E .entries) (i .states) (product-ascending c p q) (omega arith) in
-      ((omega arith, x .below), all-append (TransitionOver a hi) (epsilons (G .exit) (entryFor F c)) (entryEpsilons (E .entries) (productTargets c F G)) us ts)
+      let ts = entryEpsilons-over (productTargets c F G) (E .entries) (i .states) (product-ascending c p q) (omega arith) in (
+        (omega arith, x .below),
+        all-append (TransitionOver a hi) (epsilons (G .exit) (entryFor F c)) (entryEpsilons (E .entries) (productTargets c F G)) us ts,
+      )
   own-over {hi} {w} {E} x (child p (noChild l)) (ofClosure {F} i) =
       let c = lowByte w in
       let qs = ascending-append (entryFor-ascending c F p) (ascending-one (le-trans l (x .from)) (x .below)) in
       let us = epsilons-over hi (F .exit) (omega arith) qs (le-refl hi) in
-      let ts = entryEpsilons-over (closureTargets c (E .exit) F) (E .entries) (i .states) (closure-ascending c p (le-trans l (x .from))) (x .below) in
-      all-append (TransitionOver a hi) (epsilons (F .exit) (entryFor F c ++ (E .exit ∷ []))) (entryEpsilons (E .entries) (closureTargets c (E .exit) F)) us ts
+      let ts =
+      entryEpsilons-over (closureTargets c (E .exit) F) (E .entries) (i .states) (closure-ascending c p (le-trans l (x .from)))
+      (x .below) in
+      all-append (TransitionOver a hi) (epsilons (F .exit) (entryFor F c ++ (E .exit ∷ [])))
+      (entryEpsilons (E .entries) (closureTargets c (E .exit) F)) us ts
 
   -- ---- every word
 
@@ -98,7 +107,8 @@ module _ (a : List ℕ) where
       let N = statesAfter a m ws in
       let ts = ownTransitions w (portOf a n w) (childrenOn a w stack) in
       all-append (TransitionOver a N) ts (transitionsFrom a m ws (portOf a n w ∷ drop (arity a w) stack))
-      (all-map (TransitionOver a m) (TransitionOver a N) (over-more m N (statesAfter-le a ws m)) ts (own-over (d .port) (d .children) (d .own)))
+      (all-map (TransitionOver a m) (TransitionOver a N) (over-more m N (statesAfter-le a ws m)) ts
+      (own-over (d .port) (d .children) (d .own)))
       (reading-over r)
 
   -- ---- the transitions on constants
@@ -106,7 +116,8 @@ module _ (a : List ℕ) where
   entries-constants : {x : ℕ} {es : List (ℕ × ℕ)} → Entries a x es → All (λ e. isConstant a (e .0) ≡ true) es
   entries-constants {x} every =
       numbered-all (λ c. isConstant a c ≡ true) (suc x) (constantsOf a)
-      (all-map (λ c. List·Memᴰ c (constantsOf a)) (λ c. isConstant a c ≡ true) (λ c m. constantsOf-isConstant a c .0 m) (constantsOf a) (all-self (constantsOf a)))
+      (all-map (λ c. List·Memᴰ c (constantsOf a)) (λ c. isConstant a c ≡ true) (λ c m. constantsOf-isConstant a c .0 m) (constantsOf a)
+      (all-self (constantsOf a)))
   entries-constants (own c h) = (h, tt)
   entries-constants missing = tt
 
@@ -115,7 +126,8 @@ module _ (a : List ℕ) where
       to-constants (TransitionOver a n) (P .entries)
       (all-map (λ e. (isConstant a (e .0) ≡ true) × (e .1 < n)) (λ e. TransitionOver a n (onSymbol (e .0) [] (e .1)))
       (λ e h. let z = isConstant-zero a (e .0) (h .0) in (z .0, z .1, tt, h .1)) (P .entries)
-      (all-both (λ e. isConstant a (e .0) ≡ true) (λ e. e .1 < n) (P .entries) (entries-constants (p .shape)) (entries-below (P .entries) (p .states))))
+      (all-both (λ e. isConstant a (e .0) ≡ true) (λ e. e .1 < n) (P .entries) (entries-constants (p .shape))
+      (entries-below (P .entries) (p .states))))
 
   pub compiled-over : (e : List ℕ) → expressionFault a e ≡ 0 → compiled a e .states ≤ 1024 → AutomatonOver a (compiled a e)
   unfolding compiled
@@ -128,5 +140,6 @@ module _ (a : List ℕ) where
         some = omega arith;
         most = m;
         final = p .below;
-        transitions = over-all a N (cs ++ ts) (all-append (TransitionOver a N) cs ts (constants-over p) (reading-over (expression-reading a e f)));
+        transitions =
+            over-all a N (cs ++ ts) (all-append (TransitionOver a N) cs ts (constants-over p) (reading-over (expression-reading a e f)));
       }

@@ -48,7 +48,8 @@ module _ (a : List ℕ) (h : AcceptedAlphabet a) where
   leaves-branching [] d t k = omega (arith, eqb-true d t k)
   leaves-branching (w ∷ ws) d t k =
       let p = picked (leb (arity a w) d) (trees a (d - arity a w + 1) ws t) k in
-      go (eqb (arity a w) 0) (leb 2 (arity a w)) refl refl (leb-true (arity a w) d (p .0)) (leaves-branching ws (d - arity a w + 1) t (p .1))
+      go (eqb (arity a w) 0) (leb 2 (arity a w)) refl refl (leb-true (arity a w) d (p .0))
+      (leaves-branching ws (d - arity a w + 1) t (p .1))
     where
       r : ℕ
       r = arity a w
@@ -82,7 +83,8 @@ unfolding notOneTree
 table-most a e g f m =
     let h = alphabet-accepted a g in
     let o = not-false (oneTree a e) (none-applies (expressionRefusals a e) refl f 5) in
-    few-words (length (tableWords (compiled a e))) (branchingWords a e) (compiled a e .states) (length e) (innerWords a e) (leafWords a e) (length (constantsOf a))
+    few-words (length (tableWords (compiled a e))) (branchingWords a e) (compiled a e .states) (length e) (innerWords a e) (leafWords a e)
+    (length (constantsOf a))
     (table-length a e f) (states-counted a e) (inner-leaf a e) (expression-length a e f .1)
     (omega (arith, leaves-some a e 0 1 o)) (omega (arith, leaves-branching a h e 0 1 o)) (h .fewConstants) m
 

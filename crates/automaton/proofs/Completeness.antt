@@ -10,19 +10,23 @@ use borrow.Author.Tests.{eqb-false}
 use Rattle.words.specs.Tree.{Tree, Trees, node, more}
 use Rattle.words.proofs.AllLaws.{All, all-append, all-left, all-right, all-map, all-both}
 use Rattle.language.specs.Expression.{Expression, Expressions, symbol, empty, union, product, closure, noneᵉ, moreᵉ}
-use Rattle.language.specs.Membership.{Language, Assignment, Substitution, Substitutions, atConstant, atSymbol, atNone, atMore, Product, Step, Member, Members}
+use Rattle.language.specs.Membership.{Language, Assignment, Substitution, Substitutions, atConstant}
+use Rattle.language.specs.Membership.{atSymbol, atNone, atMore, Product, Step, Member, Members}
 use Rattle.language.proofs.SubstitutionLaws.{assigned, Under, at-constant, constant-under, product-in}
 use Rattle.automaton.specs.Transition.{Transition}
 use Rattle.automaton.specs.Numbering.{numbered, epsilons, entryEpsilons}
 use Rattle.automaton.specs.Reached.{Reaches, ReachesAll, onNode, onEpsilon, onNone, onMore}
-use Rattle.automaton.proofs.TreeNumbering.{next, nextAll, exitState, entryStates, entry, exits, childEntries, own, transitionsOf, transitionsOfAll, ConstantsListed, ConstantsListedAll}
-use Rattle.automaton.proofs.ReachedBy.{Present, ReachedBy, AllReachedBy, Entered, smaller, along, from-entries, entered, entered-assigned}
+use Rattle.automaton.proofs.TreeNumbering.{next, nextAll, exitState, entryStates, entry, exits, childEntries, own}
+use Rattle.automaton.proofs.TreeNumbering.{transitionsOf, transitionsOfAll, ConstantsListed, ConstantsListedAll}
+use Rattle.automaton.proofs.ReachedBy.{Present, ReachedBy, AllReachedBy, Entered, smaller}
+use Rattle.automaton.proofs.ReachedBy.{along, from-entries, entered, entered-assigned}
 
 module _ (cs : List ℕ) (ts : List Transition) where
   abbrev Complete : Expression → ℕ → Type 1
   Complete E n = (σ : Assignment) → Entered ts σ (entryStates cs E n) → ReachedBy ts (Under (Member E) σ) (exitState cs E n)
 
-  complete-union : (F G : Expression) (n : ℕ) → ConstantsListed cs F → ConstantsListed cs G → Complete F n → Complete G (next cs F n) → All (Present ts) (own cs (union F G) n) → Complete (union F G) n
+  complete-union : (F G : Expression) (n : ℕ) → ConstantsListed cs F → ConstantsListed cs G → Complete F n → Complete G (next cs F n)
+      → All (Present ts) (own cs (union F G) n) → Complete (union F G) n
   complete-union F G n kF kG iF iG h σ f t (u, m, p) = go m
     where
       g : ℕ
@@ -32,12 +36,20 @@ module _ (cs : List ℕ) (ts : List Transition) where
       each = from-entries cs ts σ (suc (next cs G g)) (λ a. entry cs F n a ++ entry cs G g a) f (h .1 .1)
 
       go : Member F u ⊎ Member G u → Reaches ts (next cs G g) t
-      go (inl x) = onEpsilon (h .0) (iF σ (entered cs ts F n kF σ (λ a k. all-left (ReachedBy ts (σ a)) (entry cs F n a) (entry cs G g a) (each a k))) t (u, x, p))
-      go (inr x) = onEpsilon (h .1 .0) (iG σ (entered cs ts G g kG σ (λ a k. all-right (ReachedBy ts (σ a)) (entry cs F n a) (entry cs G g a) (each a k))) t (u, x, p))
+      go (inl x) =
+          onEpsilon (h .0)
+          (iF σ (entered cs ts F n kF σ (λ a k. all-left (ReachedBy ts (σ a)) (entry cs F n a) (entry cs G g a) (each a k))) t (u, x, p))
+      go (inr x) =
+          onEpsilon (h .1 .0)
+          (iG σ (entered cs ts G g kG σ (λ a k. all-right (ReachedBy ts (σ a)) (entry cs F n a) (entry cs G g a) (each a k))) t (u, x, p))
 
-  complete-product : (c : ℕ) (F G : Expression) (n : ℕ) → ConstantsListed cs F → ConstantsListed cs G → Complete F n → Complete G (next cs F n) → All (Present ts) (own cs (product c F G) n) → Complete (product c F G) n
+  complete-product : (c : ℕ) (F G : Expression) (n : ℕ) → ConstantsListed cs F → ConstantsListed cs G → Complete F n
+      → Complete G (next cs F n) → All (Present ts) (own cs (product c F G) n) → Complete (product c F G) n
   complete-product c F G n kF kG iF iG h σ f t d =
-      onEpsilon (h .0) (iF (assigned σ c L) (entered-assigned cs ts F n kF σ c L into-F (λ a k. all-left (ReachedBy ts (σ a)) (but-c a) (entry cs G g a) (each a k))) t (product-in c (Member F) (Member G) σ t d))
+      onEpsilon (h .0)
+      (iF (assigned σ c L)
+      (entered-assigned cs ts F n kF σ c L into-F (λ a k. all-left (ReachedBy ts (σ a)) (but-c a) (entry cs G g a) (each a k))) t
+      (product-in c (Member F) (Member G) σ t d))
     where
       g : ℕ
       g = next cs F n
@@ -52,16 +64,22 @@ module _ (cs : List ℕ) (ts : List Transition) where
       entriesWritten = entryEpsilons (numbered (suc (next cs G g)) cs) (λ a. but-c a ++ entry cs G g a)
 
       each : (a : ℕ) → List·Memᴰ a cs → AllReachedBy ts (σ a) (but-c a ++ entry cs G g a)
-      each = from-entries cs ts σ (suc (next cs G g)) (λ a. but-c a ++ entry cs G g a) f (all-right (Present ts) (epsilons (exitState cs G g) (entry cs F n c)) entriesWritten (h .1))
+      each =
+          from-entries cs ts σ (suc (next cs G g)) (λ a. but-c a ++ entry cs G g a) f
+          (all-right (Present ts) (epsilons (exitState cs G g) (entry cs F n c)) entriesWritten (h .1))
 
       out-of-G : ReachedBy ts L (exitState cs G g)
       out-of-G = iG σ (entered cs ts G g kG σ (λ a k. all-right (ReachedBy ts (σ a)) (but-c a) (entry cs G g a) (each a k)))
 
       into-F : AllReachedBy ts L (entry cs F n c)
-      into-F = along ts L (exitState cs G g) out-of-G (entry cs F n c) (all-left (Present ts) (epsilons (exitState cs G g) (entry cs F n c)) entriesWritten (h .1))
+      into-F =
+          along ts L (exitState cs G g) out-of-G (entry cs F n c)
+          (all-left (Present ts) (epsilons (exitState cs G g) (entry cs F n c)) entriesWritten (h .1))
 
-  complete-closure : (c : ℕ) (F : Expression) (n : ℕ) → List·Memᴰ c cs → ConstantsListed cs F → Complete F n → All (Present ts) (own cs (closure c F) n) → Complete (closure c F) n
-  complete-closure c F n kc kF iF h σ f t (u, (k, s), p) = all-right (ReachedBy ts (steps k)) (entry cs F n c) (x ∷ []) (every-step k) .0 t (u, s, p)
+  complete-closure : (c : ℕ) (F : Expression) (n : ℕ) → List·Memᴰ c cs → ConstantsListed cs F → Complete F n
+      → All (Present ts) (own cs (closure c F) n) → Complete (closure c F) n
+  complete-closure c F n kc kF iF h σ f t (u, (k, s), p) =
+      all-right (ReachedBy ts (steps k)) (entry cs F n c) (x ∷ []) (every-step k) .0 t (u, s, p)
     where
       x : ℕ
       x = next cs F n
@@ -83,7 +101,9 @@ module _ (cs : List ℕ) (ts : List Transition) where
       turn k = Under (Product c (Member F) (Step c (Member F) k)) σ
 
       each : (a : ℕ) → List·Memᴰ a cs → AllReachedBy ts (σ a) (entry cs F n a ++ straight a)
-      each = from-entries cs ts σ (suc x) (λ a. entry cs F n a ++ straight a) f (all-right (Present ts) (epsilons (exitState cs F n) loop) entriesWritten h)
+      each =
+          from-entries cs ts σ (suc x) (λ a. entry cs F n a ++ straight a) f
+          (all-right (Present ts) (epsilons (exitState cs F n) loop) entriesWritten h)
 
       each-F : (a : ℕ) → List·Memᴰ a cs → AllReachedBy ts (σ a) (entry cs F n a)
       each-F a k = all-left (ReachedBy ts (σ a)) (entry cs F n a) (straight a) (each a k)
@@ -103,7 +123,8 @@ module _ (cs : List ℕ) (ts : List Transition) where
       turned : (k : ℕ) → AllReachedBy ts (steps k) (entry cs F n c) → AllReachedBy ts (turn k) loop
       turned k g =
           along ts (turn k) (exitState cs F n)
-          (λ r d. iF (assigned σ c (steps k)) (entered-assigned cs ts F n kF σ c (steps k) g (λ a m. but-c a (eqb a c) (each-F a m))) r (product-in c (Member F) (Step c (Member F) k) σ r d))
+          (λ r d. iF (assigned σ c (steps k)) (entered-assigned cs ts F n kF σ c (steps k) g (λ a m. but-c a (eqb a c) (each-F a m))) r
+          (product-in c (Member F) (Step c (Member F) k) σ r d))
           loop (all-left (Present ts) (epsilons (exitState cs F n) loop) entriesWritten h)
 
       either : (k q : ℕ) → ReachedBy ts (steps k) q × ReachedBy ts (turn k) q → ReachedBy ts (steps (suc k)) q
@@ -122,9 +143,12 @@ module _ (cs : List ℕ) (ts : List Transition) where
 
   -- the same of a row of parts
   CompleteAll : Expressions → ℕ → Type 1
-  CompleteAll es n = (σ : Assignment) → ((a : ℕ) → List·Memᴰ a cs → AllReachedBy ts (σ a) (childEntries cs es n a)) → (us vs : Trees) → Members es us → Substitutions σ us vs → ReachesAll ts (exits cs es n) vs
+  CompleteAll es n =
+      (σ : Assignment) → ((a : ℕ) → List·Memᴰ a cs → AllReachedBy ts (σ a) (childEntries cs es n a)) → (us vs : Trees) → Members es us
+      → Substitutions σ us vs → ReachesAll ts (exits cs es n) vs
 
-  complete-symbol : (f : ℕ) (es : Expressions) (n : ℕ) → CompleteAll es n → All (Present ts) (own cs (symbol f es) n) → Complete (symbol f es) n
+  complete-symbol : (f : ℕ) (es : Expressions) (n : ℕ) → CompleteAll es n → All (Present ts) (own cs (symbol f es) n)
+      → Complete (symbol f es) n
   unfolding CompleteAll
   complete-symbol f noneᵉ n i h σ g t d = g .0 t (constant-under f σ t d)
   complete-symbol f (moreᵉ e es) n i h σ g t (u, m, p) = go u t m p
@@ -136,14 +160,17 @@ module _ (cs : List ℕ) (ts : List Transition) where
       go u t m (atConstant s) = absurd (m .1)
       go u t m (atSymbol {u = v} {t = w} {us = vs} {ts = ws} p ps) =
           subst (λ y. Reaches ts x (node y (more w ws))) (m .0)
-          (onNode (h .0) (i σ (from-entries cs ts σ (suc x) (childEntries cs (moreᵉ e es) n) g (h .1)) (more v vs) (more w ws) (m .1) (atMore p ps)))
+          (onNode (h .0)
+          (i σ (from-entries cs ts σ (suc x) (childEntries cs (moreᵉ e es) n) g (h .1)) (more v vs) (more w ws) (m .1) (atMore p ps)))
 
-  complete-more : (e : Expression) (es : Expressions) (n : ℕ) → ConstantsListed cs e → Complete e n → CompleteAll es (next cs e n) → CompleteAll (moreᵉ e es) n
+  complete-more : (e : Expression) (es : Expressions) (n : ℕ) → ConstantsListed cs e → Complete e n → CompleteAll es (next cs e n)
+      → CompleteAll (moreᵉ e es) n
   unfolding CompleteAll flatMap
   complete-more e es n k i is σ g us ws m atNone = absurd m
   complete-more e es n k i is σ g us′ ws′ m (atMore {u = v} {t = w} {us = vs} {ts = ws} p ps) =
       onMore
-      (i σ (entered cs ts e n k σ (λ a l. all-left (ReachedBy ts (σ a)) (entry cs e n a) (childEntries cs es (next cs e n) a) (g a l))) w (v, m .0, p))
+      (i σ (entered cs ts e n k σ (λ a l. all-left (ReachedBy ts (σ a)) (entry cs e n a) (childEntries cs es (next cs e n) a) (g a l))) w
+      (v, m .0, p))
       (is σ (λ a l. all-right (ReachedBy ts (σ a)) (entry cs e n a) (childEntries cs es (next cs e n) a) (g a l)) vs ws (m .1) ps)
 
   complete-none : (n : ℕ) → CompleteAll noneᵉ n
@@ -172,11 +199,13 @@ module _ (cs : List ℕ) (ts : List Transition) where
         (complete-expression G g (k .2) (all-left (Present ts) (transitionsOf cs G g) (own cs (product c F G) n) hG))
         (all-right (Present ts) (transitionsOf cs G g) (own cs (product c F G) n) hG)
     complete-expression (closure c F) n k h =
-        complete-closure c F n (k .0) (k .1) (complete-expression F n (k .1) (all-left (Present ts) (transitionsOf cs F n) (own cs (closure c F) n) h))
+        complete-closure c F n (k .0) (k .1)
+        (complete-expression F n (k .1) (all-left (Present ts) (transitionsOf cs F n) (own cs (closure c F) n) h))
         (all-right (Present ts) (transitionsOf cs F n) (own cs (closure c F) n) h)
 
     complete-all : (es : Expressions) (n : ℕ) → ConstantsListedAll cs es → All (Present ts) (transitionsOfAll cs es n) → CompleteAll es n
     complete-all noneᵉ n k h = complete-none n
     complete-all (moreᵉ e es) n k h =
-        complete-more e es n (k .0) (complete-expression e n (k .0) (all-left (Present ts) (transitionsOf cs e n) (transitionsOfAll cs es (next cs e n)) h))
+        complete-more e es n (k .0)
+        (complete-expression e n (k .0) (all-left (Present ts) (transitionsOf cs e n) (transitionsOfAll cs es (next cs e n)) h))
         (complete-all es (next cs e n) (k .1) (all-right (Present ts) (transitionsOf cs e n) (transitionsOfAll cs es (next cs e n)) h))

@@ -6,8 +6,10 @@ use Prim.Native.Nat.{ℕ, _+_, _*_, _<_, _≤_}
 use native.Mathlib.Omega.{arith}
 use lib.ListN.{length}
 use borrow.Author.Tests.{eq-eqb, ne-eqb}
-use Rattle.words.specs.Word.{transitionKind, epsilonKind, sourceKind, numberOf, hasKind, wordOf, symbolAbove, countAbove, stateAbove, stateBelow, kindNumber}
-use Rattle.automaton.specs.Transition.{Transition, Automaton, onSymbol, epsilon, sourceWords, transitionsWords, headWord, tableWords, sourcesAt, transitionsAt, automatonOf}
+use Rattle.words.specs.Word.{transitionKind, epsilonKind, sourceKind, numberOf, hasKind}
+use Rattle.words.specs.Word.{wordOf, symbolAbove, countAbove, stateAbove, stateBelow, kindNumber}
+use Rattle.automaton.specs.Transition.{Transition, Automaton, onSymbol, epsilon, sourceWords, transitionsWords}
+use Rattle.automaton.specs.Transition.{headWord, tableWords, sourcesAt, transitionsAt, automatonOf}
 use Rattle.automaton.specs.Table.{AllBelow, TransitionsOver, AutomatonOver}
 
 -- ---- one word
@@ -71,10 +73,12 @@ module _ (a : List ℕ) (n : ℕ) (few : length a ≤ 256) (most : n ≤ 1024) w
 
   sources-end : (ts : List Transition) → TransitionsOver a n ts → sourcesAt (transitionsWords ts) ≡ []
   sources-end [] o = refl
-  sources-end (onSymbol f ps q ∷ ts) o = no-source-symbol f q (sourceWords ps ++ transitionsWords ts) (omega (arith, o .0 .0)) (omega (arith, o .0 .3))
+  sources-end (onSymbol f ps q ∷ ts) o =
+      no-source-symbol f q (sourceWords ps ++ transitionsWords ts) (omega (arith, o .0 .0)) (omega (arith, o .0 .3))
   sources-end (epsilon p q ∷ ts) o = no-source-epsilon p q (transitionsWords ts) (omega (arith, o .0 .0)) (omega (arith, o .0 .1))
 
-  sources-read : (ps : List ℕ) (ts : List Transition) → AllBelow n ps → TransitionsOver a n ts → sourcesAt (sourceWords ps ++ transitionsWords ts) ≡ ps
+  sources-read : (ps : List ℕ) (ts : List Transition) → AllBelow n ps → TransitionsOver a n ts
+      → sourcesAt (sourceWords ps ++ transitionsWords ts) ≡ ps
   sources-read [] ts b o = sources-end ts o
   sources-read (p ∷ ps) ts b o =
       source-source p (sourceWords ps ++ transitionsWords ts) (omega (arith, b .0)) ∙ ap (λ l. p ∷ l) (sources-read ps ts (b .1) o)
@@ -86,7 +90,8 @@ module _ (a : List ℕ) (n : ℕ) (few : length a ≤ 256) (most : n ≤ 1024) w
       at-symbol f q (sourceWords ps ++ transitionsWords ts) (omega (arith, o .0 .0)) (omega (arith, o .0 .3))
       ∙ rw (sources-read ps ts (o .0 .2) (o .1), sources-skipped ps (transitionsWords ts) (o .0 .2), transitionsAt-words ts (o .1))
   transitionsAt-words (epsilon p q ∷ ts) o =
-      at-epsilon p q (transitionsWords ts) (omega (arith, o .0 .0)) (omega (arith, o .0 .1)) ∙ ap (λ l. epsilon p q ∷ l) (transitionsAt-words ts (o .1))
+      at-epsilon p q (transitionsWords ts) (omega (arith, o .0 .0)) (omega (arith, o .0 .1))
+      ∙ ap (λ l. epsilon p q ∷ l) (transitionsAt-words ts (o .1))
 
 -- an automaton is the one that its table gives back
 pub automatonOf-words : (a : List ℕ) → length a ≤ 256 → {A : Automaton} → AutomatonOver a A → automatonOf (tableWords A) ≡ A

@@ -11,7 +11,8 @@ use Rattle.words.proofs.AllLaws.{All, all-append, all-map}
 use Rattle.words.proofs.Ascending.{Ascending, next}
 use Rattle.words.proofs.DistinctLaws.{Distinct, distinct-append}
 use Rattle.automaton.specs.Transition.{Transition, onSymbol, epsilon}
-use Rattle.automaton.specs.Numbering.{Port, statesOf, portOf, ownTransitions, transitionsFrom, constantTransitions, lastPort, compiled}
+use Rattle.automaton.specs.Numbering.{Port, statesOf, portOf, ownTransitions, transitionsFrom}
+use Rattle.automaton.specs.Numbering.{constantTransitions, lastPort, compiled}
 use Rattle.automaton.proofs.PortStates.{statesIn}
 use Rattle.automaton.proofs.PortReading.{Reading, ended, word, childrenOn, expression-reading}
 use Rattle.automaton.proofs.TransitionOrder.{own-ordered}
@@ -36,8 +37,12 @@ reading-apart {a} (word {n} {w} {ws} {stack} d r) =
     let i = reading-apart r in
     let o = own-of (d .port) (d .own) in
     record {
-      rest = all-append (OfRest n stack) ts us (all-map _ (OfRest n stack) (word-rest d) ts o) (all-map (OfRest m stack′) (OfRest n stack) (rest-rest d) us (i .rest));
-      distinct = distinct-append (OfWord (portOf a n w .exit) m Ps) (OfRest m stack′) (word-apart d) ts us o (i .rest) (inOrder-distinct (own-ordered (d .port .from) (d .children) (d .own))) (i .distinct);
+      rest =
+          all-append (OfRest n stack) ts us (all-map _ (OfRest n stack) (word-rest d) ts o)
+          (all-map (OfRest m stack′) (OfRest n stack) (rest-rest d) us (i .rest));
+      distinct =
+          distinct-append (OfWord (portOf a n w .exit) m Ps) (OfRest m stack′) (word-apart d) ts us o (i .rest)
+          (inOrder-distinct (own-ordered (d .port .from) (d .children) (d .own))) (i .distinct);
     }
 
 -- ---- the constants, and the whole
@@ -51,7 +56,8 @@ constants-of : (es : List (ℕ × ℕ)) → All OfConstants (constantTransitions
 constants-of [] = tt
 constants-of (e ∷ es) = (refl, constants-of es)
 
-constants-behind : {lo hi f q : ℕ} {ps : List ℕ} (es : List (ℕ × ℕ)) → Ascending lo hi (statesIn es) → List·Memᴰ (onSymbol f ps q) (constantTransitions es) → lo ≤ q
+constants-behind : {lo hi f q : ℕ} {ps : List ℕ} (es : List (ℕ × ℕ)) → Ascending lo hi (statesIn es)
+    → List·Memᴰ (onSymbol f ps q) (constantTransitions es) → lo ≤ q
 constants-behind {q} (e ∷ es) (next h s) (List·Memᴰ·head g) = let k : q ≡ e .1 = cc in omega arith
 constants-behind (e ∷ es) (next h s) (List·Memᴰ·tail m) = let k = constants-behind es s m in omega arith
 
@@ -68,5 +74,6 @@ unfolding compiled
 compiled-distinct a e f =
     let es = lastPort a e .entries in
     let i = reading-apart (expression-reading a e f) in
-    distinct-append OfConstants (OfRest 0 []) (constants-apart 0 []) (constantTransitions es) (transitionsFrom a 0 e []) (constants-of es) (i .rest)
+    distinct-append OfConstants (OfRest 0 []) (constants-apart 0 []) (constantTransitions es) (transitionsFrom a 0 e [])
+    (constants-of es) (i .rest)
     (constants-distinct es (lastPort-in a e f .states)) (i .distinct)

@@ -58,13 +58,15 @@ module _ (C : Transition → Type 0) where
   of-epsilons q [] h = tt
   of-epsilons q (p ∷ ps) h = (h .0, of-epsilons q ps (h .1))
 
-  pub to-entryEpsilons : (targets : ℕ → List ℕ) (es : List (ℕ × ℕ)) → All (λ e. All (λ p. C (epsilon (e .1) p)) (targets (e .0))) es → All C (entryEpsilons es targets)
+  pub to-entryEpsilons : (targets : ℕ → List ℕ) (es : List (ℕ × ℕ)) → All (λ e. All (λ p. C (epsilon (e .1) p)) (targets (e .0))) es
+      → All C (entryEpsilons es targets)
   to-entryEpsilons targets [] h = tt
   to-entryEpsilons targets (e ∷ es) h =
       all-append C (epsilons (e .1) (targets (e .0))) (entryEpsilons es targets)
       (to-epsilons (e .1) (targets (e .0)) (h .0)) (to-entryEpsilons targets es (h .1))
 
-  pub of-entryEpsilons : (targets : ℕ → List ℕ) (es : List (ℕ × ℕ)) → All C (entryEpsilons es targets) → All (λ e. All (λ p. C (epsilon (e .1) p)) (targets (e .0))) es
+  pub of-entryEpsilons : (targets : ℕ → List ℕ) (es : List (ℕ × ℕ)) → All C (entryEpsilons es targets)
+      → All (λ e. All (λ p. C (epsilon (e .1) p)) (targets (e .0))) es
   of-entryEpsilons targets [] h = tt
   of-entryEpsilons targets (e ∷ es) h = (
     of-epsilons (e .1) (targets (e .0)) (all-left C (epsilons (e .1) (targets (e .0))) (entryEpsilons es targets) h),

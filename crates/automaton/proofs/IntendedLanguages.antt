@@ -53,7 +53,8 @@ module _ (I : Intended) where
   has-right : (n k : ℕ) (ls ks : List Language) → past n ls ≡ k → Has I n (ls ++ ks) → Has I k ks
   has-right n k ls ks e h = subst (λ j. Has I j ks) e (has-past n ls ks h)
 
-  has-numbered : (σ : Assignment) (n : ℕ) (cs : List ℕ) → Has I n (map σ cs) → EveryEntry (λ c q. (t : Tree) → I q t ↔ σ c t) (numbered n cs)
+  has-numbered : (σ : Assignment) (n : ℕ) (cs : List ℕ) → Has I n (map σ cs)
+      → EveryEntry (λ c q. (t : Tree) → I q t ↔ σ c t) (numbered n cs)
   has-numbered σ n [] h = tt
   has-numbered σ n (c ∷ cs) h = (h .0, has-numbered σ (suc n) cs (h .1))
 
@@ -103,42 +104,51 @@ module _ (cs : List ℕ) where
   symbolBlock-past (moreᵉ e es) f x σ = past-map σ (suc x) cs
 
   -- two parts, and then a block
-  past-two : (n g x : ℕ) (ls ks : List Language) (L : Language) (σ : Assignment) → past n ls ≡ g → past g ks ≡ x → past n (ls ++ (ks ++ block L σ)) ≡ suc x + length cs
+  past-two : (n g x : ℕ) (ls ks : List Language) (L : Language) (σ : Assignment) → past n ls ≡ g → past g ks ≡ x
+      → past n (ls ++ (ks ++ block L σ)) ≡ suc x + length cs
   past-two n g x ls ks L σ e f =
       past-then n g (suc x + length cs) ls (ks ++ block L σ) e (past-then g x (suc x + length cs) ks (block L σ) f (past-map σ (suc x) cs))
 
   mutual
     languages-past : (E : Expression) (n : ℕ) (σ : Assignment) → past n (languages E σ) ≡ next cs E n
     languages-past (symbol f es) n σ =
-        past-then n (nextAll cs es n) (next cs (symbol f es) n) (languagesAll es σ) (symbolBlock es f σ) (languagesAll-past es n σ) (symbolBlock-past es f (nextAll cs es n) σ)
+        past-then n (nextAll cs es n) (next cs (symbol f es) n) (languagesAll es σ) (symbolBlock es f σ) (languagesAll-past es n σ)
+        (symbolBlock-past es f (nextAll cs es n) σ)
     languages-past empty n σ = refl
     languages-past (union F G) n σ =
         let g = next cs F n in
-        past-two n g (next cs G g) (languages F σ) (languages G σ) (Under (Member (union F G)) σ) σ (languages-past F n σ) (languages-past G g σ)
+        past-two n g (next cs G g) (languages F σ) (languages G σ) (Under (Member (union F G)) σ) σ (languages-past F n σ)
+        (languages-past G g σ)
     languages-past (product c F G) n σ =
         let g = next cs F n in
         let τ : Assignment = assigned σ c (Under (Member G) σ) in
-        past-two n g (next cs G g) (languages F τ) (languages G σ) (Under (Member (product c F G)) σ) σ (languages-past F n τ) (languages-past G g σ)
+        past-two n g (next cs G g) (languages F τ) (languages G σ) (Under (Member (product c F G)) σ) σ (languages-past F n τ)
+        (languages-past G g σ)
     languages-past (closure c F) n σ =
         let x = next cs F n in
         let τ : Assignment = assigned σ c (Under (Member (closure c F)) σ) in
-        past-then n x (suc x + length cs) (languages F τ) (block (Under (Member (closure c F)) σ) σ) (languages-past F n τ) (past-map σ (suc x) cs)
+        past-then n x (suc x + length cs) (languages F τ) (block (Under (Member (closure c F)) σ) σ) (languages-past F n τ)
+        (past-map σ (suc x) cs)
 
     languagesAll-past : (es : Expressions) (n : ℕ) (σ : Assignment) → past n (languagesAll es σ) ≡ nextAll cs es n
     languagesAll-past noneᵉ n σ = refl
     languagesAll-past (moreᵉ e es) n σ =
-        past-then n (next cs e n) (nextAll cs es (next cs e n)) (languages e σ) (languagesAll es σ) (languages-past e n σ) (languagesAll-past es (next cs e n) σ)
+        past-then n (next cs e n) (nextAll cs es (next cs e n)) (languages e σ) (languagesAll es σ) (languages-past e n σ)
+        (languagesAll-past es (next cs e n) σ)
 
   -- ---- what I then has behind a part, at the exit and at the entries
 
   module _ (I : Intended) where
-    pub behind-part : (F : Expression) (n : ℕ) (σ : Assignment) (ls : List Language) → Has I n (languages F σ ++ ls) → Has I (next cs F n) ls
+    pub behind-part : (F : Expression) (n : ℕ) (σ : Assignment) (ls : List Language) → Has I n (languages F σ ++ ls)
+        → Has I (next cs F n) ls
     behind-part F n σ ls h = has-right I n (next cs F n) (languages F σ) ls (languages-past F n σ) h
 
-    behind-parts : (es : Expressions) (n : ℕ) (σ : Assignment) (ls : List Language) → Has I n (languagesAll es σ ++ ls) → Has I (nextAll cs es n) ls
+    behind-parts : (es : Expressions) (n : ℕ) (σ : Assignment) (ls : List Language) → Has I n (languagesAll es σ ++ ls)
+        → Has I (nextAll cs es n) ls
     behind-parts es n σ ls h = has-right I n (nextAll cs es n) (languagesAll es σ) ls (languagesAll-past es n σ) h
 
-    behind-two : (F G : Expression) (n : ℕ) (τ σ : Assignment) (ls : List Language) → Has I n (languages F τ ++ (languages G σ ++ ls)) → Has I (next cs G (next cs F n)) ls
+    behind-two : (F G : Expression) (n : ℕ) (τ σ : Assignment) (ls : List Language) → Has I n (languages F τ ++ (languages G σ ++ ls))
+        → Has I (next cs G (next cs F n)) ls
     behind-two F G n τ σ ls h = behind-part G (next cs F n) σ ls (behind-part F n τ (languages G σ ++ ls) h)
 
     -- a word with entries has its block where its own states begin
@@ -157,11 +167,13 @@ module _ (cs : List ℕ) where
     unfolding block-at
     has-closure c F n σ h = behind-part F n (assigned σ c (Under (Member (closure c F)) σ)) (block (Under (Member (closure c F)) σ) σ) h
 
-    has-symbol : (f : ℕ) (e : Expression) (es : Expressions) (n : ℕ) (σ : Assignment) → Has I n (languages (symbol f (moreᵉ e es)) σ) → block-at (symbol f (moreᵉ e es)) n σ
+    has-symbol : (f : ℕ) (e : Expression) (es : Expressions) (n : ℕ) (σ : Assignment) → Has I n (languages (symbol f (moreᵉ e es)) σ)
+        → block-at (symbol f (moreᵉ e es)) n σ
     unfolding block-at
     has-symbol f e es n σ h = behind-parts (moreᵉ e es) n σ (symbolBlock (moreᵉ e es) f σ) h
 
-    pub exit-is : (E : Expression) (n : ℕ) (σ : Assignment) → Has I n (languages E σ) → (t : Tree) → I (exitState cs E n) t ↔ Under (Member E) σ t
+    pub exit-is : (E : Expression) (n : ℕ) (σ : Assignment) → Has I n (languages E σ) → (t : Tree)
+        → I (exitState cs E n) t ↔ Under (Member E) σ t
     unfolding block-at
     exit-is (symbol c noneᵉ) n σ h t = (λ i. (constant c, (refl, tt), atConstant (h .0 t .0 i)), λ d. h .0 t .1 (constant-under c σ t d))
     exit-is (symbol f (moreᵉ e es)) n σ h t = has-symbol f e es n σ h .0 t

@@ -11,7 +11,8 @@ use Rattle.automaton.specs.Numbering.{entryEpsilons}
 use Rattle.automaton.specs.Reached.{Reaches, ReachesAll, onNode, onEpsilon, onNone, onMore}
 use Rattle.automaton.proofs.EveryEntryLaws.{every-found, to-entryEpsilons}
 use Rattle.automaton.proofs.TreeNumbering.{next, entryStates, entry, childEntries}
-use Rattle.automaton.proofs.IntendedLanguages.{Intended, Has, has-left, languages, languagesAll, behind-part, EntriesAre, entries-are}
+use Rattle.automaton.proofs.IntendedLanguages.{Intended, Has, has-left, languages, languagesAll}
+use Rattle.automaton.proofs.IntendedLanguages.{behind-part, EntriesAre, entries-are}
 
 -- each child belongs to its state's language
 abbrev pub Intend : Intended → List ℕ → Trees → Type 0
@@ -44,12 +45,14 @@ module _ (I : Intended) where
   into-append q ps rs = all-append (λ p. (t : Tree) → I q t → I p t) ps rs
 
 module _ (cs : List ℕ) (I : Intended) where
-  pub into-entry : (E : Expression) (n : ℕ) (σ : Assignment) → Has I n (languages cs E σ) → (c q : ℕ) → ((t : Tree) → I q t → σ c t) → Into I q (entry cs E n c)
+  pub into-entry : (E : Expression) (n : ℕ) (σ : Assignment) → Has I n (languages cs E σ) → (c q : ℕ) → ((t : Tree) → I q t → σ c t)
+      → Into I q (entry cs E n c)
   into-entry E n σ h c q f =
       all-map (λ p. (t : Tree) → I p t ↔ σ c t) (λ p. (t : Tree) → I q t → I p t) (λ p e t i. e t .1 (f t i)) (entry cs E n c)
       (every-found (λ b p. (t : Tree) → I p t ↔ σ b t) c (entryStates cs E n) (entries-are cs I E n σ h))
 
-  pub into-children : (es : Expressions) (n : ℕ) (σ : Assignment) → Has I n (languagesAll cs es σ) → (c q : ℕ) → ((t : Tree) → I q t → σ c t) → Into I q (childEntries cs es n c)
+  pub into-children : (es : Expressions) (n : ℕ) (σ : Assignment) → Has I n (languagesAll cs es σ) → (c q : ℕ)
+      → ((t : Tree) → I q t → σ c t) → Into I q (childEntries cs es n c)
   unfolding flatMap
   into-children noneᵉ n σ h c q f = tt
   into-children (moreᵉ e es) n σ h c q f =
@@ -57,7 +60,9 @@ module _ (cs : List ℕ) (I : Intended) where
       (into-entry e n σ (has-left I n (languages cs e σ) (languagesAll cs es σ) h) c q f)
       (into-children es (next cs e n) σ (behind-part cs I e n σ (languagesAll cs es σ) h) c q f)
 
-  pub keeps-entryEpsilons : (σ : Assignment) (es : List (ℕ × ℕ)) (targets : ℕ → List ℕ) → EntriesAre cs I σ es → ((c q : ℕ) → ((t : Tree) → I q t → σ c t) → Into I q (targets c)) → All (Keeps I) (entryEpsilons es targets)
+  pub keeps-entryEpsilons : (σ : Assignment) (es : List (ℕ × ℕ)) (targets : ℕ → List ℕ) → EntriesAre cs I σ es
+      → ((c q : ℕ) → ((t : Tree) → I q t → σ c t) → Into I q (targets c)) → All (Keeps I) (entryEpsilons es targets)
   keeps-entryEpsilons σ es targets h f =
       to-entryEpsilons (Keeps I) targets es
-      (all-map (λ e. (t : Tree) → I (e .1) t ↔ σ (e .0) t) (λ e. Into I (e .1) (targets (e .0))) (λ e x. f (e .0) (e .1) (λ t i. x t .0 i)) es h)
+      (all-map (λ e. (t : Tree) → I (e .1) t ↔ σ (e .0) t) (λ e. Into I (e .1) (targets (e .0)))
+      (λ e x. f (e .0) (e .1) (λ t i. x t .0 i)) es h)

@@ -4,7 +4,8 @@ use mathlib.Core.List.{List, [], _∷_}
 use Prim.Native.Nat.{ℕ, zero, suc}
 use lib.Dec.{eqb}
 use Rattle.automaton.specs.Transition.{Transition, onSymbol, epsilon}
-use Rattle.automaton.specs.StateSet.{StateSet, contains, insert, allContained, symbolStep, epsilonStep, symbolPass, epsilonPass, isClosed, epsilonClosure}
+use Rattle.automaton.specs.StateSet.{StateSet, contains, insert, allContained, symbolStep}
+use Rattle.automaton.specs.StateSet.{epsilonStep, symbolPass, epsilonPass, isClosed, epsilonClosure}
 
 module _ (Q : StateSet → Type 0) (kept : (r : StateSet) (q : ℕ) → Q r → Q (insert r q)) where
   kept-either : (b : Bool) (r s : StateSet) → Q r → Q s → Q (cond b r s)
@@ -31,7 +32,8 @@ module _ (Q : StateSet → Type 0) (kept : (r : StateSet) (q : ℕ) → Q r → 
   unfolding epsilonClosure
   epsilonClosure-keeps zero ts r h = h
   epsilonClosure-keeps (suc n) ts r h =
-      kept-either (isClosed ts r) r (epsilonClosure n ts (epsilonPass ts r)) h (epsilonClosure-keeps n ts (epsilonPass ts r) (epsilonPass-keeps ts r h))
+      kept-either (isClosed ts r) r (epsilonClosure n ts (epsilonPass ts r)) h
+      (epsilonClosure-keeps n ts (epsilonPass ts r) (epsilonPass-keeps ts r h))
 
   pub symbolPass-keeps : (f : ℕ) (rs : List StateSet) (ts : List Transition) (r : StateSet) → Q r → Q (symbolPass f rs ts r)
   unfolding symbolPass

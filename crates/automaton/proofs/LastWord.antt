@@ -14,8 +14,10 @@ use Rattle.words.specs.Alphabet.{rankOf, constantsOf}
 use Rattle.words.specs.Postfix.{arity, arityAt}
 use Rattle.words.proofs.KindLaws.{numberOf-wordOf, kindOf-wordOf, lowByte-wordOf}
 use Rattle.words.proofs.AlphabetLaws.{isConstant-zero}
-use Rattle.language.specs.Expression.{Expression, Expressions, symbol, empty, union, product, closure, noneᵉ, moreᵉ, numberᵉ, ExpressionOver}
-use Rattle.automaton.specs.Numbering.{Port, numbered, hasEntries, statesOf, ownEntry, portOf, symbolTransitions, productTransitions, closureTransitions, childPort, ownTransitions}
+use Rattle.language.specs.Expression.{Expression, Expressions, symbol, empty, union, product}
+use Rattle.language.specs.Expression.{closure, noneᵉ, moreᵉ, numberᵉ, ExpressionOver}
+use Rattle.automaton.specs.Numbering.{Port, numbered, hasEntries, statesOf, ownEntry, portOf, symbolTransitions}
+use Rattle.automaton.specs.Numbering.{productTransitions, closureTransitions, childPort, ownTransitions}
 use Rattle.automaton.proofs.TreeNumbering.{next, exitState, port, ports, own}
 
 abbrev pub lastWord : Expression → ℕ
@@ -98,12 +100,23 @@ module _ (a : List ℕ) where
     own-product : ownTransitions (wordOf productKind b) E (P ∷ Ps) ≡ productTransitions b E P (childPort Ps 0)
     unfolding ownTransitions
     own-product =
-        rw (hasKind-other productKind b h symbolKind, hasKind-other productKind b h unionKind, hasKind-other productKind b h productKind, lowByte-word productKind b h)
+        rw (
+          hasKind-other productKind b h symbolKind,
+          hasKind-other productKind b h unionKind,
+          hasKind-other productKind b h productKind,
+          lowByte-word productKind b h,
+        )
 
     own-closure : ownTransitions (wordOf closureKind b) E (P ∷ Ps) ≡ closureTransitions b E P
     unfolding ownTransitions
     own-closure =
-        rw (hasKind-other closureKind b h symbolKind, hasKind-other closureKind b h unionKind, hasKind-other closureKind b h productKind, hasKind-other closureKind b h closureKind, lowByte-word closureKind b h)
+        rw (
+          hasKind-other closureKind b h symbolKind,
+          hasKind-other closureKind b h unionKind,
+          hasKind-other closureKind b h productKind,
+          hasKind-other closureKind b h closureKind,
+          lowByte-word closureKind b h,
+        )
 
   pub last-word : length a ≤ 64 → (E : Expression) (n : ℕ) → ExpressionOver a E → LastWord E n
   unfolding ownTransitions

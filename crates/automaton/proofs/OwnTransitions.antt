@@ -16,7 +16,8 @@ use Rattle.words.proofs.KindLaws.{kindOf-hasKind, kindOf-hasNot}
 use Rattle.words.proofs.Ascending.{Ascending}
 use Rattle.words.proofs.ExpressionWordLaws.{ExpressionWord, symbolWord, emptyWord, unionWord, productWord, closureWord, expressionWord}
 use Rattle.automaton.specs.Transition.{Transition}
-use Rattle.automaton.specs.Numbering.{Port, hasEntries, statesOf, portOf, symbolTransitions, unionTransitions, productTransitions, closureTransitions, childPort, ownTransitions}
+use Rattle.automaton.specs.Numbering.{Port, hasEntries, statesOf, portOf, symbolTransitions, unionTransitions}
+use Rattle.automaton.specs.Numbering.{productTransitions, closureTransitions, childPort, ownTransitions}
 use Rattle.automaton.proofs.PortStates.{constantsIn, statesIn, numbered-constants, numbered-states, length-numbered}
 
 -- a constant or the empty language, with all its states below hi

@@ -14,7 +14,8 @@ use Rattle.words.proofs.TestLaws.{Tested, holds, fails, tested, and-true, true-
 use Rattle.words.proofs.ListLaws.{length-listFrom}
 use Rattle.words.proofs.CountLaws.{count-all, count-more, listFrom-member}
 use Rattle.automaton.specs.Transition.{Transition, onSymbol, epsilon}
-use Rattle.automaton.specs.StateSet.{StateSet, contains, insert, allContained, symbolStep, epsilonStep, symbolPass, epsilonPass, closedUnder, isClosed, epsilonClosure}
+use Rattle.automaton.specs.StateSet.{StateSet, contains, insert, allContained, symbolStep, epsilonStep}
+use Rattle.automaton.specs.StateSet.{symbolPass, epsilonPass, closedUnder, isClosed, epsilonClosure}
 use Rattle.automaton.proofs.BitLaws.{insert-same, insert-other, insert-keeps}
 use Rattle.automaton.proofs.KeepLaws.{epsilonStep-keeps, epsilonPass-keeps, epsilonClosure-keeps, symbolPass-keeps}
 use Rattle.automaton.proofs.SetLength.{length-epsilonStep, length-epsilonPass, length-symbolStep}
@@ -51,7 +52,8 @@ symbolPass-grows f rs ts r q = symbolPass-keeps (λ x. In x q) (λ x s. insert-k
 added : (b : Bool) (r : StateSet) (q : ℕ) → q / 32 < length r → b ≡ true → In (cond b (insert r q) r) q
 added b r q l e = rw e (insert-same r q l)
 
-pub epsilonPass-adds : (ts : List Transition) (r : StateSet) (p q : ℕ) → List·Memᴰ (epsilon p q) ts → q / 32 < length r → In r p → In (epsilonPass ts r) q
+pub epsilonPass-adds : (ts : List Transition) (r : StateSet) (p q : ℕ) → List·Memᴰ (epsilon p q) ts → q / 32 < length r → In r p
+    → In (epsilonPass ts r) q
 unfolding epsilonPass
 epsilonPass-adds (t ∷ ts) r p q (List·Memᴰ·head e) l h =
     epsilonPass-grows ts (epsilonStep t r) q (rw (sym e) (added (contains r p) r q l h))
@@ -90,13 +92,16 @@ module _ (P : ℕ → Type 0) where
   unfolding epsilonPass
   epsilonPass-within [] r c w = w
   epsilonPass-within (t ∷ ts) r c w =
-      epsilonPass-within ts (epsilonStep t r) (λ p q m. c p q (List·Memᴰ·tail m)) (epsilonStep-within t r (λ p q e. c p q (List·Memᴰ·head e)) w)
+      epsilonPass-within ts (epsilonStep t r) (λ p q m. c p q (List·Memᴰ·tail m))
+      (epsilonStep-within t r (λ p q e. c p q (List·Memᴰ·head e)) w)
 
-  pub epsilonClosure-within : (n : ℕ) (ts : List Transition) (r : StateSet) → ClosedUnder ts P → Within P r → Within P (epsilonClosure n ts r)
+  pub epsilonClosure-within : (n : ℕ) (ts : List Transition) (r : StateSet) → ClosedUnder ts P → Within P r
+      → Within P (epsilonClosure n ts r)
   unfolding epsilonClosure
   epsilonClosure-within zero ts r c w = w
   epsilonClosure-within (suc n) ts r c w =
-      within-either (isClosed ts r) r (epsilonClosure n ts (epsilonPass ts r)) w (epsilonClosure-within n ts (epsilonPass ts r) c (epsilonPass-within ts r c w))
+      within-either (isClosed ts r) r (epsilonClosure n ts (epsilonPass ts r)) w
+      (epsilonClosure-within n ts (epsilonPass ts r) c (epsilonPass-within ts r c w))
 
   symbolStep-within : (f : ℕ) (rs : List StateSet) (t : Transition) (r : StateSet)
       → ((ps : List ℕ) (q : ℕ) → onSymbol f ps q ≡ t → allContained ps rs ≡ true → P q) → Within P r → Within P (symbolStep f rs t r)
@@ -105,7 +110,8 @@ module _ (P : ℕ → Type 0) where
       within-if (eqb g f && allContained ps rs) r q
       (λ e. let b = and-true (eqb g f) (allContained ps rs) e in c ps q (ap (λ x. onSymbol x ps q) (sym (eqb-true g f (b .0)))) (b .1)) w
 
-  pub symbolPass-within : (f : ℕ) (rs : List StateSet) (ts : List Transition) (r : StateSet) → Seeded ts f rs P → Within P r → Within P (symbolPass f rs ts r)
+  pub symbolPass-within : (f : ℕ) (rs : List StateSet) (ts : List Transition) (r : StateSet) → Seeded ts f rs P → Within P r
+      → Within P (symbolPass f rs ts r)
   unfolding symbolPass
   symbolPass-within f rs [] r c w = w
   symbolPass-within f rs (t ∷ ts) r c w =
@@ -137,7 +143,9 @@ module _ (n : ℕ) (ts : List Transition) (below : (p q : ℕ) → List·Memᴰ 
       go : Tested (contains r q) → q < n → In r q
       go (holds i) l = i
       go (fails i) l =
-          let more = count-more (contains r) (contains (epsilonPass ts r)) (epsilonPass-grows ts r) (listFrom (λ q. q) 0 n) (listFrom-member 0 n q (omega arith) (omega arith)) i
+          let more =
+          count-more (contains r) (contains (epsilonPass ts r)) (epsilonPass-grows ts r) (listFrom (λ q. q) 0 n)
+          (listFrom-member 0 n q (omega arith) (omega arith)) i
           (epsilonPass-adds ts r p q m (omega arith) e) in
           absurd (omega arith)
 
@@ -145,7 +153,8 @@ module _ (n : ℕ) (ts : List Transition) (below : (p q : ℕ) → List·Memᴰ 
   unfolding present
   full-closed r h p q m e =
       let l = below p q m in
-      count-all (contains r) (listFrom (λ q. q) 0 n) (rw (length-listFrom (λ q. q) n 0) h) (listFrom-member 0 n q (omega arith) (omega arith))
+      count-all (contains r) (listFrom (λ q. q) 0 n) (rw (length-listFrom (λ q. q) n 0) h)
+      (listFrom-member 0 n q (omega arith) (omega arith))
 
   closed-stays : (k : ℕ) (r : StateSet) → ClosedUnder ts (In r) → ClosedUnder ts (In (epsilonClosure k ts r))
   closed-stays k r c p q m e = epsilonClosure-grows k ts r q (c p q m (epsilonClosure-within (In r) k ts r c (λ s i. i) p e))

@@ -40,7 +40,8 @@ pub data Reading (a : List ℕ) : ℕ → List ℕ → List Port → Type 0 wher
       → Reading a (n + statesOf a w) ws (portOf a n w ∷ drop (arity a w) stack) → Reading a n (w ∷ ws) stack
 
 module _ (a : List ℕ) where
-  word-read : (n w : ℕ) (stack : List Port) → isExpressionWord a w ≡ true → arity a w ≤ length stack → Stack a n stack → WordRead a n w stack
+  word-read : (n w : ℕ) (stack : List Port) → isExpressionWord a w ≡ true → arity a w ≤ length stack → Stack a n stack
+      → WordRead a n w stack
   word-read n w stack h r s =
       let t = taken a (arity a w) n stack s in
       let l : length (childrenOn a w stack) ≡ arity a w = length-reverse (take (arity a w) stack) ∙ length-take-le (arity a w) stack r in
@@ -61,9 +62,11 @@ module _ (a : List ℕ) where
       let p = and-true (isExpressionWord a w) (all (isExpressionWord a) ws) h in
       let q = picked (leb (arity a w) (length stack)) (trees a (length stack - arity a w + 1) ws t) r in
       let d = word-read n w stack (p .0) (leb-true (arity a w) (length stack) (q .0)) s in
-      let l : length stack - arity a w + 1 ≡ suc (length (drop (arity a w) stack)) = rw (length-drop (arity a w) stack) (add-one (length stack - arity a w)) in
+      let l : length stack - arity a w + 1 ≡ suc (length (drop (arity a w) stack)) =
+      rw (length-drop (arity a w) stack) (add-one (length stack - arity a w)) in
       let s′ = push (portIn-from (children-le a (d .children)) (d .port)) (d .rest) in
-      word d (reading ws (n + statesOf a w) t (portOf a n w ∷ drop (arity a w) stack) (p .1) (subst (λ (x : ℕ). trees a x ws t ≡ true) l (q .1)) s′)
+      word d (reading ws (n + statesOf a w) t (portOf a n w ∷ drop (arity a w) stack) (p .1)
+      (subst (λ (x : ℕ). trees a x ws t ≡ true) l (q .1)) s′)
 
   -- the words of an accepted expression
   pub expression-reading : (e : List ℕ) → expressionFault a e ≡ 0 → Reading a 0 e []

@@ -102,7 +102,9 @@ module _ (a : List ℕ) (n w : ℕ) where
   unfolding portOf statesOf
   portOf-in h = go (hasEntries a w) refl
     where
-      go : (b : Bool) → hasEntries a w ≡ b → PortIn a n (n + suc (cond b (length (constantsOf a)) 0)) (record { exit = n; entries = cond b (numbered (suc n) (constantsOf a)) (ownEntry n w) })
+      go : (b : Bool) → hasEntries a w ≡ b
+          → PortIn a n (n + suc (cond b (length (constantsOf a)) 0))
+          (record { exit = n; entries = cond b (numbered (suc n) (constantsOf a)) (ownEntry n w) })
       go true e = every-in
       go false e = own-in (hasKind symbolKind w) (own-constant h (hasEntries-arity e))
 

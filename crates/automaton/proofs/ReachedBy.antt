@@ -56,24 +56,30 @@ module _ (cs : List ℕ) where
   module _ (ts : List Transition) where
     -- along those from the entries of a word
     module _ (σ : Assignment) (n : ℕ) (targets : ℕ → List ℕ) where
-      pub from-entries : Entered ts σ (numbered n cs) → All (Present ts) (entryEpsilons (numbered n cs) targets) → (c : ℕ) → List·Memᴰ c cs → AllReachedBy ts (σ c) (targets c)
+      pub from-entries : Entered ts σ (numbered n cs) → All (Present ts) (entryEpsilons (numbered n cs) targets) → (c : ℕ) → List·Memᴰ c cs
+          → AllReachedBy ts (σ c) (targets c)
       from-entries f h c m = every-numbered (λ d q. AllReachedBy ts (σ d) (targets d)) c n cs m each .1
         where
           each : EveryEntry (λ d q. AllReachedBy ts (σ d) (targets d)) (numbered n cs)
           each =
-              all-map (λ e. ReachedBy ts (σ (e .0)) (e .1) × All (λ p. Present ts (epsilon (e .1) p)) (targets (e .0))) (λ e. AllReachedBy ts (σ (e .0)) (targets (e .0)))
-              (λ e b. all-map (λ p. Present ts (epsilon (e .1) p)) (ReachedBy ts (σ (e .0))) (λ p j t s. onEpsilon j (b .0 t s)) (targets (e .0)) (b .1))
+              all-map (λ e. ReachedBy ts (σ (e .0)) (e .1) × All (λ p. Present ts (epsilon (e .1) p)) (targets (e .0)))
+              (λ e. AllReachedBy ts (σ (e .0)) (targets (e .0)))
+              (λ e b. all-map (λ p. Present ts (epsilon (e .1) p)) (ReachedBy ts (σ (e .0))) (λ p j t s. onEpsilon j (b .0 t s))
+              (targets (e .0)) (b .1))
               (numbered n cs)
-              (all-both (λ e. ReachedBy ts (σ (e .0)) (e .1)) (λ e. All (λ p. Present ts (epsilon (e .1) p)) (targets (e .0))) (numbered n cs) f (of-entryEpsilons (Present ts) targets (numbered n cs) h))
+              (all-both (λ e. ReachedBy ts (σ (e .0)) (e .1)) (λ e. All (λ p. Present ts (epsilon (e .1) p)) (targets (e .0)))
+              (numbered n cs) f (of-entryEpsilons (Present ts) targets (numbered n cs) h))
 
     -- the entries of a part, from the listed constants
     module _ (E : Expression) (n : ℕ) (k : ConstantsListed cs E) where
-      pub entered : (σ : Assignment) → ((c : ℕ) → List·Memᴰ c cs → AllReachedBy ts (σ c) (entry cs E n c)) → Entered ts σ (entryStates cs E n)
+      pub entered : (σ : Assignment) → ((c : ℕ) → List·Memᴰ c cs → AllReachedBy ts (σ c) (entry cs E n c))
+          → Entered ts σ (entryStates cs E n)
       entered σ h = found-every (λ c q. ReachedBy ts (σ c) q) (λ c. List·Memᴰ c cs) (entryStates cs E n) (entries-listed E n k) h
 
       -- where c has L
       pub entered-assigned : (σ : Assignment) (c : ℕ) (L : Language) → AllReachedBy ts L (entry cs E n c)
-          → ((a : ℕ) → List·Memᴰ a cs → AllReachedBy ts (σ a) (cond (eqb a c) [] (entry cs E n a))) → Entered ts (assigned σ c L) (entryStates cs E n)
+          → ((a : ℕ) → List·Memᴰ a cs → AllReachedBy ts (σ a) (cond (eqb a c) [] (entry cs E n a)))
+          → Entered ts (assigned σ c L) (entryStates cs E n)
       entered-assigned σ c L l h = entered (assigned σ c L) (λ a m. go a (eqb a c) refl (h a m))
         where
           at-c : (a : ℕ) → a ≡ c → (t : Tree) → assigned σ c L a t → L t
@@ -84,7 +90,8 @@ module _ (cs : List ℕ) where
           elsewhere a m t (inl (p, x)) = absurd (m p)
           elsewhere a m t (inr (p, x)) = x
 
-          go : (a : ℕ) (b : Bool) → eqb a c ≡ b → AllReachedBy ts (σ a) (cond b [] (entry cs E n a)) → AllReachedBy ts (assigned σ c L a) (entry cs E n a)
+          go : (a : ℕ) (b : Bool) → eqb a c ≡ b → AllReachedBy ts (σ a) (cond b [] (entry cs E n a))
+              → AllReachedBy ts (assigned σ c L a) (entry cs E n a)
           go a true e g =
               let p = eqb-true a c e in
               smaller ts (assigned σ c L a) L (at-c a p) (entry cs E n a) (subst (λ x. AllReachedBy ts L (entry cs E n x)) (sym p) l)

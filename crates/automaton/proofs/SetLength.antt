@@ -4,7 +4,8 @@ use mathlib.Core.List.{List}
 use Prim.Native.Nat.{ℕ}
 use lib.ListN.{length, length-replicate}
 use Rattle.automaton.specs.Transition.{Transition, Automaton}
-use Rattle.automaton.specs.StateSet.{StateSet, sizeFor, insert, symbolStep, epsilonStep, symbolPass, epsilonPass, epsilonClosure, stateSet}
+use Rattle.automaton.specs.StateSet.{StateSet, sizeFor, insert, symbolStep, epsilonStep}
+use Rattle.automaton.specs.StateSet.{symbolPass, epsilonPass, epsilonClosure, stateSet}
 use Rattle.automaton.proofs.BitLaws.{length-insert}
 use Rattle.automaton.proofs.KeepLaws.{epsilonStep-keeps, symbolStep-keeps, epsilonPass-keeps, epsilonClosure-keeps, symbolPass-keeps}
 

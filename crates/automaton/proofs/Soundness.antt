@@ -17,9 +17,12 @@ use Rattle.automaton.specs.Transition.{Transition, onSymbol}
 use Rattle.automaton.specs.Numbering.{epsilons, entryEpsilons, constantTransitions}
 use Rattle.automaton.specs.Reached.{Reaches}
 use Rattle.automaton.proofs.EveryEntryLaws.{to-epsilons, to-constants}
-use Rattle.automaton.proofs.TreeNumbering.{next, exitState, entryStates, entry, exits, childEntries, own, transitionsOf, transitionsOfAll, treeTransitions}
-use Rattle.automaton.proofs.IntendedLanguages.{Intended, Has, has-left, nth, has-nth, block, symbolBlock, languages, languagesAll, behind-part, exit-is, entries-are}
-use Rattle.automaton.proofs.IntendedTransitions.{Intend, Keeps, intended, Into, into-append, into-entry, into-children, keeps-entryEpsilons}
+use Rattle.automaton.proofs.TreeNumbering.{next, exitState, entryStates, entry, exits, childEntries}
+use Rattle.automaton.proofs.TreeNumbering.{own, transitionsOf, transitionsOfAll, treeTransitions}
+use Rattle.automaton.proofs.IntendedLanguages.{Intended, Has, has-left, nth, has-nth, block, symbolBlock}
+use Rattle.automaton.proofs.IntendedLanguages.{languages, languagesAll, behind-part, exit-is, entries-are}
+use Rattle.automaton.proofs.IntendedTransitions.{Intend, Keeps, intended, Into, into-append}
+use Rattle.automaton.proofs.IntendedTransitions.{into-entry, into-children, keeps-entryEpsilons}
 
 module _ (cs : List ℕ) (I : Intended) where
   -- ---- the own transitions of each word
@@ -49,12 +52,16 @@ module _ (cs : List ℕ) (I : Intended) where
       out : (t : Tree) → Under (Member (union F G)) σ t → I (next cs G g) t
       out t = exit-is cs I (union F G) n σ h t .1
 
-  keeps-product : (c : ℕ) (F G : Expression) (n : ℕ) (σ : Assignment) → Has I n (languages cs (product c F G) σ) → All (Keeps I) (own cs (product c F G) n)
+  keeps-product : (c : ℕ) (F G : Expression) (n : ℕ) (σ : Assignment) → Has I n (languages cs (product c F G) σ)
+      → All (Keeps I) (own cs (product c F G) n)
   keeps-product c F G n σ h = (
     λ t i. exit-is cs I (product c F G) n σ h t .1 (product-out c (Member F) (Member G) σ t (exit-is cs I F n τ hF t .0 i)),
-    all-append (Keeps I) (epsilons (exitState cs G g) (entry cs F n c)) (entryEpsilons (entryStates cs (product c F G) n) (λ a. but-c a (eqb a c) ++ entry cs G g a))
-        (to-epsilons (Keeps I) (exitState cs G g) (entry cs F n c) (into-entry cs I F n τ hF c (exitState cs G g) (λ t i. inl (refl, exit-is cs I G g σ hG t .0 i))))
-        (keeps-entryEpsilons cs I σ (entryStates cs (product c F G) n) (λ a. but-c a (eqb a c) ++ entry cs G g a) (entries-are cs I (product c F G) n σ h)
+    all-append (Keeps I) (epsilons (exitState cs G g) (entry cs F n c))
+        (entryEpsilons (entryStates cs (product c F G) n) (λ a. but-c a (eqb a c) ++ entry cs G g a))
+        (to-epsilons (Keeps I) (exitState cs G g) (entry cs F n c)
+        (into-entry cs I F n τ hF c (exitState cs G g) (λ t i. inl (refl, exit-is cs I G g σ hG t .0 i))))
+        (keeps-entryEpsilons cs I σ (entryStates cs (product c F G) n) (λ a. but-c a (eqb a c) ++ entry cs G g a)
+        (entries-are cs I (product c F G) n σ h)
         (λ a q f. into-append I q (but-c a (eqb a c)) (entry cs G g a) (into-F a q f (eqb a c) refl) (into-entry cs I G g σ hG a q f))),
   )
     where
@@ -80,13 +87,18 @@ module _ (cs : List ℕ) (I : Intended) where
       into-F a q f true e = tt
       into-F a q f false e = into-entry cs I F n τ hF a q (λ t i. inr (eqb-false a c e, f t i))
 
-  keeps-closure : (c : ℕ) (F : Expression) (n : ℕ) (σ : Assignment) → Has I n (languages cs (closure c F) σ) → All (Keeps I) (own cs (closure c F) n)
+  keeps-closure : (c : ℕ) (F : Expression) (n : ℕ) (σ : Assignment) → Has I n (languages cs (closure c F) σ)
+      → All (Keeps I) (own cs (closure c F) n)
   keeps-closure c F n σ h =
-      all-append (Keeps I) (epsilons (exitState cs F n) (entry cs F n c ++ (x ∷ []))) (entryEpsilons (entryStates cs (closure c F) n) (λ a. entry cs F n a ++ straight (eqb a c)))
+      all-append (Keeps I) (epsilons (exitState cs F n) (entry cs F n c ++ (x ∷ [])))
+      (entryEpsilons (entryStates cs (closure c F) n) (λ a. entry cs F n a ++ straight (eqb a c)))
       (to-epsilons (Keeps I) (exitState cs F n) (entry cs F n c ++ (x ∷ []))
-      (into-append I (exitState cs F n) (entry cs F n c) (x ∷ []) (into-entry cs I F n τ hF c (exitState cs F n) (λ t i. inl (refl, turn t i))) (λ t i. out t (turn t i), tt)))
-      (keeps-entryEpsilons cs I σ (entryStates cs (closure c F) n) (λ a. entry cs F n a ++ straight (eqb a c)) (entries-are cs I (closure c F) n σ h)
-      (λ a q f. into-append I q (entry cs F n a) (straight (eqb a c)) (into-entry cs I F n τ hF a q (λ t i. widen a t (ℕ-discrete a c) (f t i))) (into-exit a q f (eqb a c) refl)))
+      (into-append I (exitState cs F n) (entry cs F n c) (x ∷ [])
+      (into-entry cs I F n τ hF c (exitState cs F n) (λ t i. inl (refl, turn t i))) (λ t i. out t (turn t i), tt)))
+      (keeps-entryEpsilons cs I σ (entryStates cs (closure c F) n) (λ a. entry cs F n a ++ straight (eqb a c))
+      (entries-are cs I (closure c F) n σ h)
+      (λ a q f. into-append I q (entry cs F n a) (straight (eqb a c))
+      (into-entry cs I F n τ hF a q (λ t i. widen a t (ℕ-discrete a c) (f t i))) (into-exit a q f (eqb a c) refl)))
     where
       x : ℕ
       x = next cs F n
@@ -121,7 +133,8 @@ module _ (cs : List ℕ) (I : Intended) where
       into-exit a q f false e = tt
 
   -- children that belong to the exits' languages are members with substituted constants
-  children-members : (es : Expressions) (n : ℕ) (σ : Assignment) → Has I n (languagesAll cs es σ) → (ts : Trees) → Intend I (exits cs es n) ts → (us : Trees) × Members es us × Substitutions σ us ts
+  children-members : (es : Expressions) (n : ℕ) (σ : Assignment) → Has I n (languagesAll cs es σ) → (ts : Trees)
+      → Intend I (exits cs es n) ts → (us : Trees) × Members es us × Substitutions σ us ts
   children-members noneᵉ n σ h none k = (none, tt, atNone)
   children-members noneᵉ n σ h (more t ts) k = absurd k
   children-members (moreᵉ e es) n σ h none k = absurd k
@@ -130,11 +143,13 @@ module _ (cs : List ℕ) (I : Intended) where
       let r = children-members es (next cs e n) σ (behind-part cs I e n σ (languagesAll cs es σ) h) ts (k .1) in
       (more (d .0) (r .0), (d .1, r .1), atMore (d .2) (r .2))
 
-  keeps-symbol : (f : ℕ) (es : Expressions) (n : ℕ) (σ : Assignment) → Has I n (languages cs (symbol f es) σ) → All (Keeps I) (own cs (symbol f es) n)
+  keeps-symbol : (f : ℕ) (es : Expressions) (n : ℕ) (σ : Assignment) → Has I n (languages cs (symbol f es) σ)
+      → All (Keeps I) (own cs (symbol f es) n)
   keeps-symbol f noneᵉ n σ h = tt
   keeps-symbol f (moreᵉ e es) n σ h = (
     λ ts k. let d = children-members ds n σ hs ts k in exit-is cs I (symbol f ds) n σ h (node f ts) .1 (whole ts (d .0) (d .1) (d .2)),
-    keeps-entryEpsilons cs I σ (entryStates cs (symbol f ds) n) (childEntries cs ds n) (entries-are cs I (symbol f ds) n σ h) (λ c q g. into-children cs I ds n σ hs c q g),
+    keeps-entryEpsilons cs I σ (entryStates cs (symbol f ds) n) (childEntries cs ds n) (entries-are cs I (symbol f ds) n σ h)
+        (λ c q g. into-children cs I ds n σ hs c q g),
   )
     where
       ds : Expressions
@@ -203,5 +218,6 @@ sound cs E t r = exit-is cs I E 0 itself h t .0 (intended I (treeTransitions cs 
     all =
         all-append (Keeps I) (constantTransitions (entryStates cs E 0)) (transitionsOf cs E 0)
         (to-constants (Keeps I) (entryStates cs E 0)
-        (all-map (λ e. (s : Tree) → I (e .1) s ↔ itself (e .0) s) (λ e. Keeps I (onSymbol (e .0) [] (e .1))) (λ e x. keeps-constant (e .0) (e .1) x) (entryStates cs E 0) (entries-are cs I E 0 itself h)))
+        (all-map (λ e. (s : Tree) → I (e .1) s ↔ itself (e .0) s) (λ e. Keeps I (onSymbol (e .0) [] (e .1)))
+        (λ e x. keeps-constant (e .0) (e .1) x) (entryStates cs E 0) (entries-are cs I E 0 itself h)))
         (keeps cs I E 0 itself h)

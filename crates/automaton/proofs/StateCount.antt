@@ -22,7 +22,8 @@ module _ (a : List ℕ) where
   inner-leaf [] = refl
   inner-leaf (w ∷ ws) = go (hasEntries a w) (inner-leaf ws)
     where
-      go : (b : Bool) → innerWords a ws + leafWords a ws ≡ length ws → cond b 1 0 + innerWords a ws + (cond (not b) 1 0 + leafWords a ws) ≡ suc (length ws)
+      go : (b : Bool) → innerWords a ws + leafWords a ws ≡ length ws
+          → cond b 1 0 + innerWords a ws + (cond (not b) 1 0 + leafWords a ws) ≡ suc (length ws)
       go true e = omega arith
       go false e = omega arith
 
@@ -34,7 +35,9 @@ module _ (a : List ℕ) where
       k : ℕ
       k = length (constantsOf a)
 
-      go : (b : Bool) → n + suc (cond b k 0) + (innerWords a ws * suc k + leafWords a ws) ≡ n + ((cond b 1 0 + innerWords a ws) * suc k + (cond (not b) 1 0 + leafWords a ws))
+      go : (b : Bool)
+          → n + suc (cond b k 0) + (innerWords a ws * suc k + leafWords a ws)
+          ≡ n + ((cond b 1 0 + innerWords a ws) * suc k + (cond (not b) 1 0 + leafWords a ws))
       go true = omega arith
       go false = omega arith
 

@@ -47,7 +47,12 @@ head-passes n f some most final =
     let s : 0 < countAbove w = omega arith in
     let m : countAbove w ≤ 1024 = omega arith in
     let t : stateBelow w < countAbove w = omega arith in
-    rw (isOf-wordOf headKind (n * 1024 + f) lw, lt-ltb 0 (countAbove w) s, le-leb (countAbove w) 1024 m, lt-ltb (stateBelow w) (countAbove w) t)
+    rw (
+      isOf-wordOf headKind (n * 1024 + f) lw,
+      lt-ltb 0 (countAbove w) s,
+      le-leb (countAbove w) 1024 m,
+      lt-ltb (stateBelow w) (countAbove w) t,
+    )
 
 -- ---- tables
 
@@ -80,7 +85,8 @@ module _ (a : List ℕ) (few : length a ≤ 256) where
       let most = o .most in
       let final = o .final in
       let s : countAbove (headWord A) ≡ A .states = omega arith in
-      true-and (leb (length (tableWords A)) 2048 && isHead (headWord A)) (areTransitions a (countAbove (headWord A)) 0 (transitionsWords (A .transitions)))
+      true-and (leb (length (tableWords A)) 2048 && isHead (headWord A))
+      (areTransitions a (countAbove (headWord A)) 0 (transitionsWords (A .transitions)))
       (true-and (leb (length (tableWords A)) 2048) (isHead (headWord A)) (le-leb (length (tableWords A)) 2048 l)
       (head-passes (A .states) (A .final) (o .some) (o .most) (o .final)))
       (rw s (transitions-pass a (A .states) few (o .most) (A .transitions) (o .transitions)))

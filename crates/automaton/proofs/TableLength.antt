@@ -13,7 +13,9 @@ use Rattle.words.specs.Lists.{count}
 use Rattle.words.specs.Postfix.{arity}
 use Rattle.words.specs.Expression.{expressionFault}
 use Rattle.automaton.specs.Transition.{Transition, onSymbol, transitionWords, transitionsWords, tableWords}
-use Rattle.automaton.specs.Numbering.{Port, hasEntries, statesOf, portOf, entryFor, epsilons, entryEpsilons, statesAfter, ownTransitions, transitionsFrom, constantTransitions, lastPort, compiled, symbolTargets, unionTargets, productTargets, closureTargets}
+use Rattle.automaton.specs.Numbering.{Port, hasEntries, statesOf, portOf, entryFor, epsilons, entryEpsilons}
+use Rattle.automaton.specs.Numbering.{statesAfter, ownTransitions, transitionsFrom, constantTransitions, lastPort}
+use Rattle.automaton.specs.Numbering.{compiled, symbolTargets, unionTargets, productTargets, closureTargets}
 use Rattle.automaton.proofs.PortStates.{constantsIn, PortIn, Children, child}
 use Rattle.automaton.proofs.OwnTransitions.{Own, leaf, ofSymbol, ofUnion, ofProduct, ofClosure}
 use Rattle.automaton.proofs.PortReading.{WordRead, Reading, word, childrenOn, expression-reading, expression-length}
@@ -29,7 +31,12 @@ wordCount ts = length (transitionsWords ts)
 wordCount-append : (xs ys : List Transition) → wordCount (xs ++ ys) ≡ wordCount xs + wordCount ys
 wordCount-append [] ys = omega arith
 wordCount-append (t ∷ xs) ys =
-    omega (arith, length-append (transitionWords t) (transitionsWords (xs ++ ys)), length-append (transitionWords t) (transitionsWords xs), wordCount-append xs ys)
+    omega (
+      arith,
+      length-append (transitionWords t) (transitionsWords (xs ++ ys)),
+      length-append (transitionWords t) (transitionsWords xs),
+      wordCount-append xs ys,
+    )
 
 count-epsilons : (p : ℕ) (qs : List ℕ) → wordCount (epsilons p qs) ≡ length qs
 count-epsilons p [] = refl
@@ -38,7 +45,12 @@ count-epsilons p (q ∷ qs) = ap suc (count-epsilons p qs)
 count-entryEpsilons : (targets : ℕ → List ℕ) (es : List (ℕ × ℕ)) → wordCount (entryEpsilons es targets) ≡ total targets (constantsIn es)
 count-entryEpsilons targets [] = refl
 count-entryEpsilons targets (e ∷ es) =
-    omega (arith, wordCount-append (epsilons (e .1) (targets (e .0))) (entryEpsilons es targets), count-epsilons (e .1) (targets (e .0)), count-entryEpsilons targets es)
+    omega (
+      arith,
+      wordCount-append (epsilons (e .1) (targets (e .0))) (entryEpsilons es targets),
+      count-epsilons (e .1) (targets (e .0)),
+      count-entryEpsilons targets es,
+    )
 
 count-symbol : (f q : ℕ) (ps : List ℕ) (ts : List Transition) → wordCount (onSymbol f ps q ∷ ts) ≡ suc (length ps + wordCount ts)
 count-symbol f q ps ts =
@@ -65,7 +77,16 @@ own-length : {a : List ℕ} {hi w lo n : ℕ} {E : Port} {Ps : List Port} {ts : 
 own-length x c (leaf l) = omega (arith, x .from, l .states, l .entries)
 own-length {w} {E} x c (ofSymbol {P} {Ps} i f r) =
     let e = count-symbol (lowByte w) (E .exit) (map (λ Q. Q .exit) (P ∷ Ps)) (entryEpsilons (E .entries) (symbolTargets (P ∷ Ps))) in
-    omega (arith, e, length-map (P ∷ Ps) (λ Q. Q .exit), go Ps, x .from, i .last, count-entryEpsilons (symbolTargets (P ∷ Ps)) (E .entries), total-symbol (x .constants) (P ∷ Ps))
+    omega (
+      arith,
+      e,
+      length-map (P ∷ Ps) (λ Q. Q .exit),
+      go Ps,
+      x .from,
+      i .last,
+      count-entryEpsilons (symbolTargets (P ∷ Ps)) (E .entries),
+      total-symbol (x .constants) (P ∷ Ps),
+    )
   where
     go : (Ps : List Port) → branch (P ∷ Ps) ≤ 1
     go [] = omega arith
@@ -76,16 +97,35 @@ own-length {w} {E} x (child p q) (ofProduct {F} {G} i) =
     let c = lowByte w in
     let e = wordCount-append (epsilons (G .exit) (entryFor F c)) (entryEpsilons (E .entries) (productTargets c F G)) in
     let o = lookup-once (F .entries) c (p .constants) in
-    omega (arith, e, count-epsilons (G .exit) (entryFor F c), x .from, i .last, count-entryEpsilons (productTargets c F G) (E .entries), total-product (x .constants) c F G)
+    omega (
+      arith,
+      e,
+      count-epsilons (G .exit) (entryFor F c),
+      x .from,
+      i .last,
+      count-entryEpsilons (productTargets c F G) (E .entries),
+      total-product (x .constants) c F G,
+    )
 own-length {w} {E} x (child p q) (ofClosure {F} i) =
     let c = lowByte w in
-    let e = wordCount-append (epsilons (F .exit) (entryFor F c ++ (E .exit ∷ []))) (entryEpsilons (E .entries) (closureTargets c (E .exit) F)) in
+    let e =
+    wordCount-append (epsilons (F .exit) (entryFor F c ++ (E .exit ∷ []))) (entryEpsilons (E .entries) (closureTargets c (E .exit) F)) in
     let o = lookup-once (F .entries) c (p .constants) in
-    omega (arith, e, count-epsilons (F .exit) (entryFor F c ++ (E .exit ∷ [])), length-append (entryFor F c) (E .exit ∷ []), x .from, i .last, count-entryEpsilons (closureTargets c (E .exit) F) (E .entries), total-closure (x .constants) c (E .exit) F)
+    omega (
+      arith,
+      e,
+      count-epsilons (F .exit) (entryFor F c ++ (E .exit ∷ [])),
+      length-append (entryFor F c) (E .exit ∷ []),
+      x .from,
+      i .last,
+      count-entryEpsilons (closureTargets c (E .exit) F) (E .entries),
+      total-closure (x .constants) c (E .exit) F,
+    )
 
 -- ---- every word
 
-weight-taken : (r : ℕ) (stack right : List Port) → weight (reverseAux (take r stack) right) + weight (drop r stack) ≡ weight stack + weight right
+weight-taken : (r : ℕ) (stack right : List Port)
+    → weight (reverseAux (take r stack) right) + weight (drop r stack) ≡ weight stack + weight right
 weight-taken zero stack right = omega arith
 weight-taken (suc r) [] right = omega arith
 weight-taken (suc r) (P ∷ stack) right = omega (arith, weight-taken r stack (P ∷ right))
@@ -107,7 +147,8 @@ module _ (a : List ℕ) where
 
   -- a word takes its children from the stack and puts its own port on it
   word-length : {n w : ℕ} {stack : List Port} → WordRead a n w stack
-      → wordCount (ownTransitions w (portOf a n w) (childrenOn a w stack)) + cond (leb 2 (arity a w)) 1 0 + weight (portOf a n w ∷ drop (arity a w) stack) + n
+      → wordCount (ownTransitions w (portOf a n w) (childrenOn a w stack)) + cond (leb 2 (arity a w)) 1 0 + weight
+      (portOf a n w ∷ drop (arity a w) stack) + n
       ≤ weight stack + (n + statesOf a w) + suc (cond (hasEntries a w) 1 0)
   word-length {w} {stack} d =
       let i = inner-number w (childrenOn a w stack) (d .number) in
@@ -130,9 +171,16 @@ module _ (a : List ℕ) where
   unfolding compiled
   table-length e f = go e (expression-length a e f .0) (expression-reading a e f)
     where
-      go : (e : List ℕ) → 0 < length e → Reading a 0 e [] → length (tableWords (compiled a e)) + branchingWords a e ≤ statesAfter a 0 e + (length e + innerWords a e)
+      go : (e : List ℕ) → 0 < length e → Reading a 0 e []
+          → length (tableWords (compiled a e)) + branchingWords a e ≤ statesAfter a 0 e + (length e + innerWords a e)
       go [] l r = absurd (omega arith)
       go (w ∷ ws) l r =
           let P = lastPort a (w ∷ ws) in
           let p = ap (λ Q. length (Q .entries)) (lastPort-from a w ws) in
-          omega (arith, p, wordCount-append (constantTransitions (P .entries)) (transitionsFrom a 0 (w ∷ ws) []), count-constants (P .entries), reading-length ws r)
+          omega (
+            arith,
+            p,
+            wordCount-append (constantTransitions (P .entries)) (transitionsFrom a 0 (w ∷ ws) []),
+            count-constants (P .entries),
+            reading-length ws r,
+          )

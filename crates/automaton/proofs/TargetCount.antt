@@ -40,7 +40,8 @@ total-tested t x f [] = refl
 total-tested t x f (c ∷ cs) = go (t c) (total-tested t x f cs)
   where
     go : (b : Bool) → total (λ d. cond (t d) (x ∷ f d) (f d)) cs ≡ count t cs + total f cs
-        → length (cond b (x ∷ f c) (f c)) + total (λ d. cond (t d) (x ∷ f d) (f d)) cs ≡ cond b 1 0 + count t cs + (length (f c) + total f cs)
+        → length (cond b (x ∷ f c) (f c)) + total (λ d. cond (t d) (x ∷ f d) (f d)) cs
+        ≡ cond b 1 0 + count t cs + (length (f c) + total f cs)
     go true e = omega arith
     go false e = omega arith
 
@@ -86,7 +87,12 @@ module _ {lo hi : ℕ} {cs : List ℕ} (s : Ascending lo hi cs) where
   pub total-product : (c : ℕ) (F G : Port) → total (productTargets c F G) cs ≤ length (F .entries) + length (G .entries)
   total-product c F G =
       let f = total-some (λ b. eqb b c) (entryFor F) cs in
-      omega (arith, total-append (λ b. cond (eqb b c) [] (entryFor F b)) (entryFor G) cs, total-lookup (F .entries), total-lookup (G .entries))
+      omega (
+        arith,
+        total-append (λ b. cond (eqb b c) [] (entryFor F b)) (entryFor G) cs,
+        total-lookup (F .entries),
+        total-lookup (G .entries),
+      )
 
   pub total-closure : (c x : ℕ) (F : Port) → total (closureTargets c x F) cs ≤ length (F .entries) + 1
   total-closure c x F =

@@ -9,14 +9,16 @@ use Rattle.words.specs.Alphabet.{rankOf, constantsOf}
 use Rattle.words.specs.Tree.{Tree}
 use Rattle.words.proofs.AlphabetLaws.{zero-isConstant, constantsOf-isConstant}
 use Rattle.words.proofs.AllLaws.{all-self, all-left, all-right, all-map}
-use Rattle.language.specs.Expression.{Expression, Expressions, symbol, empty, union, product, closure, noneᵉ, moreᵉ, numberᵉ, expressionWords, ExpressionOver, ExpressionsOver}
+use Rattle.language.specs.Expression.{Expression, Expressions, symbol, empty, union, product, closure, noneᵉ}
+use Rattle.language.specs.Expression.{moreᵉ, numberᵉ, expressionWords, ExpressionOver, ExpressionsOver}
 use Rattle.language.specs.Membership.{Member}
 use Rattle.language.proofs.SubstitutionLaws.{itself, substitution-same, substitution-itself}
 use Rattle.automaton.specs.Transition.{Transition, Automaton, onSymbol}
 use Rattle.automaton.specs.Numbering.{constantTransitions, compiled}
 use Rattle.automaton.specs.Reached.{Reaches, onNode, onNone}
 use Rattle.automaton.proofs.EveryEntryLaws.{of-constants}
-use Rattle.automaton.proofs.TreeNumbering.{exitState, entryStates, transitionsOf, treeTransitions, SymbolListed, ConstantsListed, ConstantsListedAll}
+use Rattle.automaton.proofs.TreeNumbering.{exitState, entryStates, transitionsOf, treeTransitions}
+use Rattle.automaton.proofs.TreeNumbering.{SymbolListed, ConstantsListed, ConstantsListedAll}
 use Rattle.automaton.proofs.ReachedBy.{Present, ReachedBy}
 use Rattle.automaton.proofs.Completeness.{complete-expression}
 use Rattle.automaton.proofs.Soundness.{sound}
@@ -33,7 +35,8 @@ module _ (cs : List ℕ) (E : Expression) where
 
   member-reaches : ConstantsListed cs E → (t : Tree) → Member E t → Reaches ts (exitState cs E 0) t
   member-reaches k t m =
-      complete-expression cs ts E 0 k (all-right (Present ts) (constantTransitions (entryStates cs E 0)) (transitionsOf cs E 0) (all-self ts)) itself
+      complete-expression cs ts E 0 k
+      (all-right (Present ts) (constantTransitions (entryStates cs E 0)) (transitionsOf cs E 0) (all-self ts)) itself
       (all-map (λ e. Present ts (onSymbol (e .0) [] (e .1))) (λ e. ReachedBy ts (itself (e .0)) (e .1))
       (λ e l s p. subst (λ z. Reaches ts (e .1) z) (sym p) (onNode l onNone)) (entryStates cs E 0)
       (of-constants (Present ts) (entryStates cs E 0)
@@ -68,6 +71,7 @@ abbrev pub Accepts : Automaton → Tree → Type 0
 Accepts A t = Reaches (A .transitions) (A .final) t
 
 -- the theorem, of the very automaton that the table of a rule encodes
-pub thompson : (a : List ℕ) (E : Expression) → length a ≤ 64 → ExpressionOver a E → (t : Tree) → Accepts (compiled a (expressionWords E)) t ↔ Member E t
+pub thompson : (a : List ℕ) (E : Expression) → length a ≤ 64 → ExpressionOver a E → (t : Tree)
+    → Accepts (compiled a (expressionWords E)) t ↔ Member E t
 thompson a E l o t =
     subst (λ A. Accepts A t ↔ Member E t) (sym (compiled-tree a l E o)) (thompson-tree (constantsOf a) E (constants-listed a E o) t)

@@ -18,7 +18,8 @@ numbered-append n [] ds = rw (add-zero n)
 numbered-append n (c ∷ cs) ds =
     rw (add-suc, ← suc-add) (ap (λ (l : List (ℕ × ℕ)). (c, n) ∷ l) (numbered-append (suc n) cs ds))
 
-pub entryEpsilons-append : (targets : ℕ → List ℕ) (es fs : List (ℕ × ℕ)) → entryEpsilons (es ++ fs) targets ≡ entryEpsilons es targets ++ entryEpsilons fs targets
+pub entryEpsilons-append : (targets : ℕ → List ℕ) (es fs : List (ℕ × ℕ))
+    → entryEpsilons (es ++ fs) targets ≡ entryEpsilons es targets ++ entryEpsilons fs targets
 entryEpsilons-append targets [] fs = refl
 entryEpsilons-append targets (e ∷ es) fs =
     ap (λ (l : List Transition). epsilons (e .1) (targets (e .0)) ++ l) (entryEpsilons-append targets es fs)

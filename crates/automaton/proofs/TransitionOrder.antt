@@ -12,7 +12,8 @@ use Rattle.words.specs.Postfix.{arity}
 use Rattle.words.specs.Expression.{expressionFault}
 use Rattle.words.proofs.Ascending.{Ascending, end, next, ascending-append, ascending-one}
 use Rattle.automaton.specs.Transition.{Transition, onSymbol, epsilon}
-use Rattle.automaton.specs.Numbering.{Port, statesOf, portOf, epsilons, entryEpsilons, ownTransitions, symbolTargets, unionTargets, productTargets, closureTargets}
+use Rattle.automaton.specs.Numbering.{Port, statesOf, portOf, epsilons, entryEpsilons, ownTransitions}
+use Rattle.automaton.specs.Numbering.{symbolTargets, unionTargets, productTargets, closureTargets}
 use Rattle.automaton.proofs.PortStates.{statesIn, Children, noChild, child}
 use Rattle.automaton.proofs.OwnTransitions.{Own, leaf, ofSymbol, ofUnion, ofProduct, ofClosure}
 use Rattle.automaton.proofs.PortReading.{Reading, ended, word, childrenOn, expression-reading}
@@ -56,7 +57,8 @@ epsilons-ordered (next h a) o = toLater h (epsilons-ordered a o)
 pub entryEpsilons-ordered : {lo hi l h : ℕ} (targets : ℕ → List ℕ) (es : List (ℕ × ℕ)) → Ascending lo hi (statesIn es)
     → ((c : ℕ) → Ascending l h (targets c)) → OrderedFrom lo 0 (entryEpsilons es targets)
 entryEpsilons-ordered targets [] s t = none
-entryEpsilons-ordered {lo} targets (e ∷ es) (next k s) t = from-first lo k (epsilons-ordered (t (e .0)) (entryEpsilons-ordered targets es s t))
+entryEpsilons-ordered {lo} targets (e ∷ es) (next k s) t =
+    from-first lo k (epsilons-ordered (t (e .0)) (entryEpsilons-ordered targets es s t))
 
 -- ---- the own transitions of a word
 

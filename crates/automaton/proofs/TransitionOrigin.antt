@@ -11,7 +11,8 @@ use Rattle.words.specs.Postfix.{arity}
 use Rattle.words.proofs.AllLaws.{All, all-append}
 use Rattle.words.proofs.Ascending.{Ascending, next, ascending-le}
 use Rattle.automaton.specs.Transition.{Transition, onSymbol, epsilon}
-use Rattle.automaton.specs.Numbering.{Port, statesOf, portOf, entryFor, epsilons, entryEpsilons, symbolTargets, unionTargets, productTargets, closureTargets}
+use Rattle.automaton.specs.Numbering.{Port, statesOf, portOf, entryFor, epsilons, entryEpsilons}
+use Rattle.automaton.specs.Numbering.{symbolTargets, unionTargets, productTargets, closureTargets}
 use Rattle.automaton.proofs.EveryEntryLaws.{to-epsilons, to-entryEpsilons}
 use Rattle.automaton.proofs.PortStates.{statesIn, PortIn, Stack, push, Children, child, children-le}
 use Rattle.automaton.proofs.OwnTransitions.{Own, leaf, ofSymbol, ofUnion, ofProduct, ofClosure}
@@ -64,10 +65,12 @@ module _ (x m : ℕ) (Ps : List Port) where
   from-child : (p : ℕ) (qs : List ℕ) → List·Memᴰ p (exitsOf Ps) → All (OfWord x m Ps) (epsilons p qs)
   from-child p qs k = to-epsilons (OfWord x m Ps) p qs (everywhere (λ q. OfWord x m Ps (epsilon p q)) (λ q. inr k) qs)
 
-  from-own : {lo : ℕ} (targets : ℕ → List ℕ) (es : List (ℕ × ℕ)) → x < lo → Ascending lo m (statesIn es) → All (OfWord x m Ps) (entryEpsilons es targets)
+  from-own : {lo : ℕ} (targets : ℕ → List ℕ) (es : List (ℕ × ℕ)) → x < lo → Ascending lo m (statesIn es)
+      → All (OfWord x m Ps) (entryEpsilons es targets)
   from-own targets es h s = to-entryEpsilons (OfWord x m Ps) targets es (go es h s)
     where
-      go : {lo : ℕ} (es : List (ℕ × ℕ)) → x < lo → Ascending lo m (statesIn es) → All (λ e. All (λ q. OfWord x m Ps (epsilon (e .1) q)) (targets (e .0))) es
+      go : {lo : ℕ} (es : List (ℕ × ℕ)) → x < lo → Ascending lo m (statesIn es)
+          → All (λ e. All (λ q. OfWord x m Ps (epsilon (e .1) q)) (targets (e .0))) es
       go [] h s = tt
       go (e ∷ es) h (next k s) =
           let l : x < e .1 = omega arith in
@@ -85,8 +88,10 @@ own-of {hi} {w} {E} x (ofProduct {F} {G} i) =
     let c = lowByte w in
     let Ps = F ∷ G ∷ [] in
     let us = from-child (E .exit) hi Ps (G .exit) (entryFor F c) (List·Memᴰ·tail (List·Memᴰ·head refl)) in
-    let ts = from-own (E .exit) hi Ps (productTargets c F G) (E .entries) (omega arith) (i .states) in
-    (inr (List·Memᴰ·head refl), all-append (OfWord (E .exit) hi Ps) (epsilons (G .exit) (entryFor F c)) (entryEpsilons (E .entries) (productTargets c F G)) us ts)
+    let ts = from-own (E .exit) hi Ps (productTargets c F G) (E .entries) (omega arith) (i .states) in (
+      inr (List·Memᴰ·head refl),
+      all-append (OfWord (E .exit) hi Ps) (epsilons (G .exit) (entryFor F c)) (entryEpsilons (E .entries) (productTargets c F G)) us ts,
+    )
 own-of {hi} {w} {E} x (ofClosure {F} i) =
     let c = lowByte w in
     let Ps = F ∷ [] in
@@ -115,7 +120,8 @@ module _ {a : List ℕ} {n w : ℕ} {stack : List Port} (d : WordRead a n w stac
   word-apart (onSymbol f ps q) h k = omega (arith, h .2, k .1)
   word-apart (epsilon p q) (inl h) (inl k) = omega arith
   word-apart (epsilon p q) (inl h) (inr (List·Memᴰ·head e)) = omega arith
-  word-apart (epsilon p q) (inl h) (inr (List·Memᴰ·tail k)) = omega (arith, exit-stack (d .rest) k, children-le a (d .children), d .port .from)
+  word-apart (epsilon p q) (inl h) (inr (List·Memᴰ·tail k)) =
+      omega (arith, exit-stack (d .rest) k, children-le a (d .children), d .port .from)
   word-apart (epsilon p q) (inr h) (inl k) = omega (arith, exit-child (d .children) h)
   word-apart (epsilon p q) (inr h) (inr (List·Memᴰ·head e)) = omega (arith, exit-child (d .children) h, d .port .from)
   word-apart (epsilon p q) (inr h) (inr (List·Memᴰ·tail k)) = omega (arith, exit-child (d .children) h, exit-stack (d .rest) k)

@@ -65,7 +65,8 @@ module _ (a : List ℕ) (n : ℕ) where
   parsed-epsilon w ws h i =
       let b = and-true (isOf epsilonKind w && ltb (stateAbove w) n) (ltb (stateBelow w) n) h in
       let c = and-true (isOf epsilonKind w) (ltb (stateAbove w) n) (b .0) in
-      let e : sourceWords (i .sources) ++ transitionsWords (i .transitions) ≡ transitionsWords (i .transitions) = rw (no-sources (i .sources) (i .number)) in
+      let e : sourceWords (i .sources) ++ transitionsWords (i .transitions) ≡ transitionsWords (i .transitions) =
+      rw (no-sources (i .sources) (i .number)) in
       record {
         sources = [];
         transitions = epsilon (stateAbove w) (stateBelow w) ∷ i .transitions;
@@ -127,13 +128,15 @@ module _ (a : List ℕ) (n : ℕ) where
   pub transitions-parsed : (ws : List ℕ) → areTransitions a n 0 ws ≡ true → WordsOf ws
   transitions-parsed ws h =
       let i = parsed ws 0 h in
-      let e : sourceWords (i .sources) ++ transitionsWords (i .transitions) ≡ transitionsWords (i .transitions) = rw (no-sources (i .sources) (i .number)) in
+      let e : sourceWords (i .sources) ++ transitionsWords (i .transitions) ≡ transitionsWords (i .transitions) =
+      rw (no-sources (i .sources) (i .number)) in
       record { transitions = i .transitions; words = sym e ∙ i .words; over = i .over }
 
   -- ---- the words of transitions pass
 
   module _ (few : length a ≤ 256) (most : n ≤ 1024) where
-    sources-pass : (ps ws : List ℕ) → AllBelow n ps → areTransitions a n 0 ws ≡ true → areTransitions a n (length ps) (sourceWords ps ++ ws) ≡ true
+    sources-pass : (ps ws : List ℕ) → AllBelow n ps → areTransitions a n 0 ws ≡ true
+        → areTransitions a n (length ps) (sourceWords ps ++ ws) ≡ true
     unfolding areTransitions isTableWord sourcesLeft
     sources-pass [] ws b h = h
     sources-pass (p ∷ ps) ws b h =
@@ -175,5 +178,6 @@ module _ (a : List ℕ) (n : ℕ) where
     transitions-pass (epsilon p q ∷ ts) o =
         let w = wordOf epsilonKind (p * 1024 + q) in
         let e = epsilon-passes p q (o .0 .0) (o .0 .1) in
-        true-and (symbolTest w || epsilonTest w) (areTransitions a n (sourcesLeft a 0 w) (transitionsWords ts)) (rw e (or-right (symbolTest w)))
+        true-and (symbolTest w || epsilonTest w) (areTransitions a n (sourcesLeft a 0 w) (transitionsWords ts))
+        (rw e (or-right (symbolTest w)))
         (rw (left-epsilon w e) (transitions-pass ts (o .1)))

@@ -5,7 +5,8 @@ use mathlib.Core.List.{List, [], _∷_, _++_, map, List·Memᴰ}
 use lib.ListN.{length}
 use Rattle.language.specs.Expression.{Expression, Expressions, symbol, empty, union, product, closure, noneᵉ, moreᵉ}
 use Rattle.automaton.specs.Transition.{Transition}
-use Rattle.automaton.specs.Numbering.{Port, numbered, lookup, symbolTargets, symbolTransitions, unionTransitions, productTransitions, closureTransitions, constantTransitions}
+use Rattle.automaton.specs.Numbering.{Port, numbered, lookup, symbolTargets, symbolTransitions, unionTransitions}
+use Rattle.automaton.specs.Numbering.{productTransitions, closureTransitions, constantTransitions}
 
 module _ (cs : List ℕ) where
   -- ---- states

@@ -9,10 +9,13 @@ use Rattle.words.specs.Alphabet.{constantsOf}
 use Rattle.words.specs.Tree.{postfixAll}
 use Rattle.words.specs.Postfix.{arity}
 use Rattle.words.proofs.ReadingLaws.{take-pushed, drop-pushed}
-use Rattle.language.specs.Expression.{Expression, Expressions, symbol, empty, union, product, closure, noneᵉ, moreᵉ, syntaxTrees, expressionWords, numberᵉ, ExpressionOver, ExpressionsOver}
+use Rattle.language.specs.Expression.{Expression, Expressions, symbol, empty, union, product, closure, noneᵉ, moreᵉ}
+use Rattle.language.specs.Expression.{syntaxTrees, expressionWords, numberᵉ, ExpressionOver, ExpressionsOver}
 use Rattle.automaton.specs.Transition.{Transition, Automaton}
-use Rattle.automaton.specs.Numbering.{Port, statesOf, portOf, childPort, ownTransitions, portsFrom, statesAfter, transitionsFrom, constantTransitions, lastPort, compiled}
-use Rattle.automaton.proofs.TreeNumbering.{next, nextAll, exitState, port, ports, own, transitionsOf, transitionsOfAll, treeTransitions}
+use Rattle.automaton.specs.Numbering.{Port, statesOf, portOf, childPort, ownTransitions, portsFrom}
+use Rattle.automaton.specs.Numbering.{statesAfter, transitionsFrom, constantTransitions, lastPort, compiled}
+use Rattle.automaton.proofs.TreeNumbering.{next, nextAll, exitState, port, ports, own}
+use Rattle.automaton.proofs.TreeNumbering.{transitionsOf, transitionsOfAll, treeTransitions}
 use Rattle.automaton.proofs.LastWord.{lastWord, parts, LastWord, last-word}
 
 module _ (a : List ℕ) where
@@ -69,7 +72,8 @@ module _ (a : List ℕ) where
         ap (λ (l : List ℕ). transitionsFrom a n l stack) (append-assoc (expressionWords e) (postfixAll (syntaxTrees es)) rest)
         ∙ r .transitions (postfixAll (syntaxTrees es) ++ rest) stack
         ∙ ap (λ (ts : List Transition). transitionsOf cs e n ++ ts) (rs .transitions rest (port cs e n ∷ stack))
-        ∙ sym (append-assoc (transitionsOf cs e n) (transitionsOfAll cs es (next cs e n)) (transitionsFrom a (nextAll cs (moreᵉ e es) n) rest (reverseAux (ports cs (moreᵉ e es) n) stack)));
+        ∙ sym (append-assoc (transitionsOf cs e n) (transitionsOfAll cs es (next cs e n))
+        (transitionsFrom a (nextAll cs (moreᵉ e es) n) rest (reverseAux (ports cs (moreᵉ e es) n) stack)));
     states = λ rest.
         ap (statesAfter a n) (append-assoc (expressionWords e) (postfixAll (syntaxTrees es)) rest)
         ∙ r .states (postfixAll (syntaxTrees es) ++ rest)
@@ -104,7 +108,8 @@ module _ (a : List ℕ) where
         ap (λ (l : List ℕ). transitionsFrom a n l stack) (split rest)
         ∙ rs .transitions (lastWord E ∷ rest) stack
         ∙ ap (λ (ts : List Transition). transitionsOfAll cs (parts E) n ++ ts)
-        (ap (λ k. transitionsFrom a k (lastWord E ∷ rest) (reverseAux (ports cs (parts E) n) stack)) (exit-split E n) ∙ transitions-last E n L rest stack)
+        (ap (λ k. transitionsFrom a k (lastWord E ∷ rest) (reverseAux (ports cs (parts E) n) stack)) (exit-split E n)
+        ∙ transitions-last E n L rest stack)
         ∙ sym (append-assoc (transitionsOfAll cs (parts E) n) (own cs E n) (transitionsFrom a (next cs E n) rest (port cs E n ∷ stack)))
         ∙ ap (λ (ts : List Transition). ts ++ transitionsFrom a (next cs E n) rest (port cs E n ∷ stack)) (transitions-split E n);
     states = λ rest.
@@ -118,7 +123,8 @@ module _ (a : List ℕ) where
       split rest = ap (λ (l : List ℕ). l ++ rest) (words-split E) ∙ append-assoc (postfixAll (syntaxTrees (parts E))) (lastWord E ∷ []) rest
 
   module _ (l : length a ≤ 64) where
-    reads-two : (F G : Expression) (n : ℕ) → ExpressionOver a F → ExpressionOver a G → ReadsAll (parts F) n → ReadsAll (parts G) (next cs F n) → ReadsAll (moreᵉ F (moreᵉ G noneᵉ)) n
+    reads-two : (F G : Expression) (n : ℕ) → ExpressionOver a F → ExpressionOver a G → ReadsAll (parts F) n
+        → ReadsAll (parts G) (next cs F n) → ReadsAll (moreᵉ F (moreᵉ G noneᵉ)) n
     reads-two F G n oF oG rF rG =
         let g = next cs F n in
         reads-more F (moreᵉ G noneᵉ) n (reads-word F n (last-word a l F n oF) rF)
@@ -181,7 +187,8 @@ module _ (a : List ℕ) where
         let before = postfixAll (syntaxTrees (parts E)) in
         ap (lastPort a) (words-split E)
         ∙ lastPort-snoc before (lastWord E)
-        ∙ ap (λ n. portOf a n (lastWord E)) (ap (statesAfter a 0) (sym (append-nil before)) ∙ reads-parts l E 0 o .states [] ∙ exit-split E 0)
+        ∙ ap (λ n. portOf a n (lastWord E))
+        (ap (statesAfter a 0) (sym (append-nil before)) ∙ reads-parts l E 0 o .states [] ∙ exit-split E 0)
         ∙ last-word a l E 0 o .port-is
 
     compiled-transitions : transitionsFrom a 0 (expressionWords E) [] ≡ transitionsOf cs E 0

@@ -5,7 +5,8 @@ use mathlib.Core.List.{List, [], _∷_}
 use mathlib.Core.Bool.{Bool, false, not, cond, _&&_, _||_}
 use lib.ListN.{length}
 use lib.Dec.{ltb, leb, eqb}
-use Rattle.words.specs.Word.{headKind, transitionKind, epsilonKind, sourceKind, hasKind, isOf, symbolAbove, countAbove, stateAbove, stateBelow}
+use Rattle.words.specs.Word.{headKind, transitionKind, epsilonKind, sourceKind, hasKind}
+use Rattle.words.specs.Word.{isOf, symbolAbove, countAbove, stateAbove, stateBelow}
 use Rattle.words.specs.Alphabet.{isSymbol, rankOf}
 use Rattle.automaton.specs.Transition.{Transition, Automaton, onSymbol, epsilon}
 

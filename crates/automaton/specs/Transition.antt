@@ -4,7 +4,8 @@ use Prim.Native.Nat.{ℕ, _+_, _*_}
 use mathlib.Core.List.{List, [], _∷_, _++_, map}
 use mathlib.Core.Bool.{cond}
 use lib.ListN.{getD, drop}
-use Rattle.words.specs.Word.{headKind, transitionKind, epsilonKind, sourceKind, hasKind, wordOf, symbolAbove, countAbove, stateAbove, stateBelow}
+use Rattle.words.specs.Word.{headKind, transitionKind, epsilonKind, sourceKind, hasKind}
+use Rattle.words.specs.Word.{wordOf, symbolAbove, countAbove, stateAbove, stateBelow}
 
 -- a symbol move: on this symbol, from these states of the children, to a state; an empty move: from a state to a state
 pub data Transition : Type 0 where

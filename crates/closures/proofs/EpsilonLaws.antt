@@ -19,8 +19,10 @@ use Rattle.closures.proofs.FollowLaws.{InChain, left, states-most, keye
 
 -- ---- the chain of a state
 
--- At word i of state p's chain, or at its end, where i is 0: the words before are followed. Before the first word there were the set, the stack and its height with the sign ₀
-pub record EpsilonsAt (table index : List ℕ) (p : ℕ) (r₀ : StateSet) (pending₀ : List ℕ) (top₀ i : ℕ) (r : StateSet) (pending : List ℕ) (top : ℕ) : Type 0 where
+-- At word i of state p's chain, or at its end, where i is 0: the words before are followed. Before the first word there were
+-- the set, the stack and its height with the sign ₀.
+pub record EpsilonsAt (table index : List ℕ) (p : ℕ) (r₀ : StateSet) (pending₀ : List ℕ) (top₀ i : ℕ) (r : StateSet) (pending : List ℕ)
+    (top : ℕ) : Type 0 where
   pub checked : IndexedTable table index
   pub from : ℕ
   pub at : i ≡ nextWith table (256 + p) from
@@ -28,10 +30,12 @@ pub record EpsilonsAt (table index : List ℕ) (p : ℕ) (r₀ : StateSet) (pend
   pub stack : PendingStack table r pending top
   pub less : work table r top ≤ work table r₀ top₀
   pub present : contains r p ≡ true
-  pub search : (base : StateSet) (o : ℕ) → Closed table base → Search table base o (256 + p) 0 r₀ pending₀ top₀ → Search table base o (256 + p) from r pending top
+  pub search : (base : StateSet) (o : ℕ) → Closed table base → Search table base o (256 + p) 0 r₀ pending₀ top₀
+      → Search table base o (256 + p) from r pending top
 
 -- a state of the set has a chain
-pub key-inside : {table index : List ℕ} {p : ℕ} {r : StateSet} {pending : List ℕ} {top : ℕ} → ClosingAt table index p r pending top → 256 + p < 1280
+pub key-inside : {table index : List ℕ} {p : ℕ} {r : StateSet} {pending : List ℕ} {top : ℕ} → ClosingAt table index p r pending top
+    → 256 + p < 1280
 key-inside {p = p} g = let b = g .closing .stack .below p (g .present) in omega (arith, states-most (g .closing .checked))
 
 pub epsilons-first : {table index : List ℕ} {p : ℕ} {r : StateSet} {pending : List ℕ} {top : ℕ} → ClosingAt table index p r pending top
@@ -109,7 +113,8 @@ module _ {table : List ℕ} {r₀ : StateSet} {pending₀ : List ℕ} {top₀ : 
   pub pending-none : PendingStack table r₀ pending₀ top₀ → Followed table 0 (length table) r₀ pending₀ top₀ r₀ pending₀ top₀
   pending-none stack = record { stack = stack; less = omega arith; settled = λ base o k g. g }
 
-  module _ {r : StateSet} {pending : List ℕ} {top : ℕ} (s : Followed table 0 (length table) r₀ pending₀ top₀ r pending top) (below : ℕ) (e : below + 1 ≡ top) where
+  module _ {r : StateSet} {pending : List ℕ} {top : ℕ} (s : Followed table 0 (length table) r₀ pending₀ top₀ r pending top) (below : ℕ)
+      (e : below + 1 ≡ top) where
     -- without the top state
     pub pending-stack : PendingStack table r pending below
     pending-stack =
@@ -119,7 +124,8 @@ module _ {table : List ℕ} {r₀ : StateSet} {pending₀ : List ℕ} {top₀ : 
     pub pending-present : contains r (getD pending below 0) ≡ true
     pending-present = s .stack .inside below (omega arith)
 
-    module _ {t : StateSet} {pushed : List ℕ} {height : ℕ} (g : Followed table (256 + getD pending below 0) 0 r pending below t pushed height) where
+    module _ {t : StateSet} {pushed : List ℕ} {height : ℕ}
+        (g : Followed table (256 + getD pending below 0) 0 r pending below t pushed height) where
       pub pending-more : Followed table 0 (length table) r₀ pending₀ top₀ t pushed height
       pending-more =
           record {

@@ -15,7 +15,8 @@ use Rattle.operations.specs.Marks.{storedSet}
 use Rattle.sets.proofs.StoredLaws.{stored-written, stored-other}
 use Rattle.sets.specs.Joined.{joined}
 use Rattle.sets.proofs.JoinLaws.{joined-length, words-joined, joined-cases, joined-left, joined-right}
-use Rattle.closures.specs.Closure.{PendingStack, Settled, Puttable, Put, Followed, Closable, ClosureOf, Closures, ClosedSet, Addable, Added, Keepable, Kept, Joinable, JoinedClosure}
+use Rattle.closures.specs.Closure.{PendingStack, Settled, Puttable, Put, Followed, Closable, ClosureOf}
+use Rattle.step.specs.Closure.{Closures, ClosedSet, Addable, Added, Keepable, Kept, Joinable, JoinedClosure}
 use Rattle.closures.proofs.TransitionStartLaws.{member-starts, table-transitions}
 use Rattle.closures.proofs.KeyedWordLaws.{closed-at}
 use Rattle.closures.proofs.PendingStackLaws.{missing-most, stack-puttable, stack-put, put-cases}
@@ -59,14 +60,17 @@ module _ {table index : List ℕ} {s : ℕ} {pending : List ℕ} {r : StateSet} 
           grown = done .grown;
           holds = done .holds;
           closed = λ p q m e.
-              let k = member-starts table (epsilon p q) (subst (List·Memᴰ (epsilon p q)) (sym (table-transitions (c .alphabet) table (c .checked))) m) in
+              let k =
+              member-starts table (epsilon p q)
+              (subst (List·Memᴰ (epsilon p q)) (sym (table-transitions (c .alphabet) table (c .checked))) m) in
               settled-all done (k .index) (k .inside) p q (k .member) e;
           within = done .reached;
         }
 
 -- ---- a set of its own
 
-pub close-empty : {table index : List ℕ} {s : ℕ} {pending : List ℕ} → Closable table index s pending → Addable table index s pending (replicate 32 0)
+pub close-empty : {table index : List ℕ} {s : ℕ} {pending : List ℕ} → Closable table index s pending
+    → Addable table index s pending (replicate 32 0)
 close-empty g =
     record {
       closable = g;
@@ -113,7 +117,9 @@ module _ {table index : List ℕ} {s : ℕ} {owners rows pending : List ℕ} (g 
       record {
         closures = record {
           owners-are = length-set owners (s % 64) (s + 1) ∙ g .closures .owners-are;
-          rows-are = ap length written ∙ length-paste rows (s % 64 * 32) closure 32 (omega (arith, closure-fits)) (omega (arith, c .size)) ∙ g .closures .rows-are;
+          rows-are =
+              ap length written ∙ length-paste rows (s % 64 * 32) closure 32 (omega (arith, closure-fits)) (omega (arith, c .size))
+              ∙ g .closures .rows-are;
           kept = λ k t h o. kept k t h o (ℕ-discrete k (s % 64));
         };
         closure = λ _. here;
@@ -123,11 +129,19 @@ module _ {table index : List ℕ} {s : ℕ} {owners rows pending : List ℕ} (g 
       written = e ∙ ap (paste rows (s % 64 * 32) closure) (c .size)
 
       here : ClosureOf table s (storedSet 32 rows′ (s % 64))
-      here = subst (ClosureOf table s) (sym (ap (λ (l : List ℕ). storedSet 32 l (s % 64)) written ∙ stored-written 32 rows (s % 64) closure (c .size) closure-fits)) c
+      here =
+          subst (ClosureOf table s)
+          (sym (ap (λ (l : List ℕ). storedSet 32 l (s % 64)) written ∙ stored-written 32 rows (s % 64) closure (c .size) closure-fits)) c
 
-      kept : (k t : ℕ) → k < 64 → getD (set owners (s % 64) (s + 1)) k 0 ≡ t + 1 → Dec (k ≡ s % 64) → ClosureOf table t (storedSet 32 rows′ k)
+      kept : (k t : ℕ) → k < 64 → getD (set owners (s % 64) (s + 1)) k 0 ≡ t + 1 → Dec (k ≡ s % 64)
+          → ClosureOf table t (storedSet 32 rows′ k)
       kept k t h o (yes i) =
-          let same : s ≡ t = omega (arith, sym (getD-set-same owners (s % 64) (s + 1) 0 owner-inside) ∙ ap (λ (x : ℕ). getD (set owners (s % 64) (s + 1)) x 0) (sym i) ∙ o) in
+          let same : s ≡ t =
+          omega (
+            arith,
+            sym (getD-set-same owners (s % 64) (s + 1) 0 owner-inside)
+                ∙ ap (λ (x : ℕ). getD (set owners (s % 64) (s + 1)) x 0) (sym i) ∙ o,
+          ) in
           rw (i, ← same) here
       kept k t h o (no i) =
           let other = ap (λ (l : List ℕ). storedSet 32 l k) written ∙ stored-other 32 rows (s % 64) closure (c .size) closure-fits k i in
@@ -144,7 +158,9 @@ added-joined {r = r} {c = c} k d =
       words = words-joined r c same (k .words) (d .words);
       grown = joined-left r c same;
       holds = joined-right r c same _ (d .holds);
-      closed = λ p q m e. ⊎-elim (λ h. joined-left r c same q (k .closed p q m h)) (λ h. joined-right r c same q (d .closed p q m h)) (joined-cases r c same p e);
+      closed =
+          λ p q m e. ⊎-elim (λ h. joined-left r c same q (k .closed p q m h)) (λ h. joined-right r c same q (d .closed p q m h))
+          (joined-cases r c same p e);
       within = λ q e. ⊎-elim inl (λ h. inr (d .within q h)) (joined-cases r c same q e);
     }
 
@@ -156,7 +172,8 @@ add-again g e =
     record { closable = record { checked = k .checked; state = k .state; fits = rw e (k .fits) }; set = g .set }
 
 -- the row as a part of the rows
-pub join-end : {table : List ℕ} {s : ℕ} {b : Bool} {owners rows : List ℕ} → b ≡ true → Kept table s b owners rows → {r t : StateSet} → ClosedSet table r
+pub join-end : {table : List ℕ} {s : ℕ} {b : Bool} {owners rows : List ℕ} → b ≡ true → Kept table s b owners rows → {r t : StateSet}
+    → ClosedSet table r
     → t ≡ joined r (take (s % 64 * 32 + 32 - s % 64 * 32) (drop (s % 64 * 32) rows)) → JoinedClosure table s r t owners rows
 unfolding storedSet
 join-end {table} {s} {rows = rows} y k {r} {t} c e =

@@ -53,7 +53,8 @@ module _ (table : List ℕ) (i : ℕ) where
 
   -- ---- when it adds nothing
 
-  pub closed-epsilon : {p : ℕ} (r : StateSet) → EpsilonWord (getD table i 0) p → contains r (stateBelow (getD table i 0)) ≡ true → ClosedAt table r i
+  pub closed-epsilon : {p : ℕ} (r : StateSet) → EpsilonWord (getD table i 0) p → contains r (stateBelow (getD table i 0)) ≡ true
+      → ClosedAt table r i
   closed-epsilon r s h p q m e = let t = starts-from (s .kind) m in let k : q ≡ stateBelow (getD table i 0) = cc in rw k h
 
   -- a symbol transition that begins there leads to the word's target
@@ -84,21 +85,28 @@ module _ {table index : List ℕ} (c : IndexedTable table index) (i : ℕ) (insi
 
     -- as many part states as the symbol's rank
     pub symbol-sources : rankOf (c .alphabet) f ≡ length (sourcesAt (drop (i + 1) table))
-    symbol-sources = transition-over (c .alphabet) (automatonOf table .states) (automatonOf table .transitions) (over .transitions) symbol-member .1
+    symbol-sources =
+        transition-over (c .alphabet) (automatonOf table .states) (automatonOf table .transitions) (over .transitions) symbol-member .1
 
   module _ {p : ℕ} (s : EpsilonWord (getD table i 0) p) where
     epsilon-member : List·Memᴰ (epsilon p (stateBelow (getD table i 0))) (automatonOf table .transitions)
     epsilon-member =
         rw (← s .from)
-        (member _ (rw (ne-eqb (numberOf (getD table i 0)) 9 (λ n. let k = s .kind in omega arith), eq-eqb (numberOf (getD table i 0)) 10 (s .kind)) (List·Memᴰ·head refl)))
+        (member _
+        (rw (ne-eqb (numberOf (getD table i 0)) 9 (λ n. let k = s .kind in omega arith), eq-eqb (numberOf (getD table i 0)) 10 (s .kind))
+        (List·Memᴰ·head refl)))
 
     pub epsilon-below : stateBelow (getD table i 0) < automatonOf table .states
     epsilon-below = targets-below over _ epsilon-member
 
-    pub epsilon-reached : (base : StateSet) (o : ℕ) → Closed table base → (contains base p ≡ true) ⊎ ReachedFrom (automatonOf table .transitions) o p
-        → (contains base (stateBelow (getD table i 0)) ≡ true) ⊎ ReachedFrom (automatonOf table .transitions) o (stateBelow (getD table i 0))
-    epsilon-reached base o k h = ⊎-elim (λ d. inl (k p (stateBelow (getD table i 0)) epsilon-member d)) (λ d. inr (onward epsilon-member d)) h
+    pub epsilon-reached : (base : StateSet) (o : ℕ) → Closed table base
+        → (contains base p ≡ true) ⊎ ReachedFrom (automatonOf table .transitions) o p
+        → (contains base (stateBelow (getD table i 0)) ≡ true)
+        ⊎ ReachedFrom (automatonOf table .transitions) o (stateBelow (getD table i 0))
+    epsilon-reached base o k h =
+        ⊎-elim (λ d. inl (k p (stateBelow (getD table i 0)) epsilon-member d)) (λ d. inr (onward epsilon-member d)) h
 
 -- a set that is closed is closed at each word
-pub closed-at : {table index : List ℕ} → IndexedTable table index → (r : StateSet) → Closed table r → (i : ℕ) → i < length table → ClosedAt table r i
+pub closed-at : {table index : List ℕ} → IndexedTable table index → (r : StateSet) → Closed table r → (i : ℕ) → i < length table
+    → ClosedAt table r i
 closed-at c r k i l p q m e = k p q (member c i l (epsilon p q) m) e

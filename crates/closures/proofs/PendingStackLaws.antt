@@ -30,7 +30,8 @@ module _ {r : StateSet} {pending : List ℕ} {top s : ℕ} where
       → (contains r s ≡ true → P r pending top) → (contains r s ≡ false → P (insert r s) (set pending top s) (top + 1)) → P t pushed height
   put-cases P p old new = rw (p .states, p .stack, p .answer) (go (tested (contains r s)))
     where
-      go : Tested (contains r s) → P (cond (contains r s) r (insert r s)) (cond (contains r s) pending (set pending top s)) (cond (contains r s) top (top + 1))
+      go : Tested (contains r s)
+          → P (cond (contains r s) r (insert r s)) (cond (contains r s) pending (set pending top s)) (cond (contains r s) top (top + 1))
       go (holds e) = rw e (old e)
       go (fails e) = rw e (new e)
 
@@ -51,7 +52,8 @@ missing-most n r = omega arith
 
 -- ---- the stack
 
-module _ {table : List ℕ} (most : automatonOf table .states ≤ 1024) {r : StateSet} {pending : List ℕ} {top : ℕ} (h : PendingStack table r pending top)
+module _ {table : List ℕ} (most : automatonOf table .states ≤ 1024) {r : StateSet} {pending : List ℕ} {top : ℕ}
+    (h : PendingStack table r pending top)
     {s : ℕ} (below : s < automatonOf table .states) where
   fewer : contains r s ≡ false → missing (automatonOf table .states) (insert r s) < missing (automatonOf table .states) r
   fewer absent = missing-insert (automatonOf table .states) r s below (let z = h .size in omega arith) absent

@@ -13,7 +13,8 @@ use Rattle.automaton.specs.Transition.{automatonOf}
 use Rattle.automaton.specs.StateSet.{StateSet, contains, insert}
 use Rattle.automaton.proofs.BitLaws.{words-insert, insert-same, insert-other, insert-keeps}
 use Rattle.index.specs.Index.{keyOf}
-use Rattle.closures.specs.Closure.{ReachedFrom, itself, ClosedAt, SettledAt, satisfied, waiting, PendingStack, Search, Settled, Put, ClosedSet}
+use Rattle.closures.specs.Closure.{ReachedFrom, itself, ClosedAt, SettledAt, satisfied}
+use Rattle.step.specs.Closure.{waiting, PendingStack, Search, Settled, Put, ClosedSet}
 use Rattle.index.proofs.ChainLaws.{FirstWith}
 use Rattle.closures.proofs.KeyedWordLaws.{starts-epsilon}
 use Rattle.closures.proofs.PendingStackLaws.{put-cases, stack-puttable}
@@ -27,7 +28,8 @@ module _ (table : List ℕ) (r : StateSet) (pending : List ℕ) (top s : ℕ) (f
       insert-keeps r s q (h p q m (sym (insert-other r s p (λ x. n (starts-epsilon table i m ∙ ap (λ (y : ℕ). 256 + y) x))) ∙ e))
 
   settled-insert : SettledAt table r pending top i → SettledAt table (insert r s) (set pending top s) (top + 1) i
-  settled-insert (waiting k l e) = waiting k (omega arith) (e ∙ sym (ap (λ (y : ℕ). 256 + y) (getD-set-other pending top k s 0 (λ x. omega arith))))
+  settled-insert (waiting k l e) =
+      waiting k (omega arith) (e ∙ sym (ap (λ (y : ℕ). 256 + y) (getD-set-other pending top k s 0 (λ x. omega arith))))
   settled-insert (satisfied h) = go (ℕ-discrete (keyOf (getD table i 0)) (256 + s))
     where
       go : Dec (keyOf (getD table i 0) ≡ 256 + s) → SettledAt table (insert r s) (set pending top s) (top + 1) i
@@ -37,11 +39,13 @@ module _ (table : List ℕ) (r : StateSet) (pending : List ℕ) (top s : ℕ) (f
 module _ {table : List ℕ} {base : StateSet} {o : ℕ} where
   module _ {key from : ℕ} {r : StateSet} {pending : List ℕ} {top : ℕ} (g : Search table base o key from r pending top) where
     pub search-put : automatonOf table .states ≤ 1024 → PendingStack table r pending top → {s : ℕ} → s < automatonOf table .states
-        → (contains base s ≡ true) ⊎ ReachedFrom (automatonOf table .transitions) o s → {t : StateSet} {pushed : List ℕ} {height : ℕ} → Put r pending top s t pushed height
+        → (contains base s ≡ true) ⊎ ReachedFrom (automatonOf table .transitions) o s → {t : StateSet} {pushed : List ℕ} {height : ℕ}
+        → Put r pending top s t pushed height
         → Search table base o key from t pushed height
     search-put most stack {s} below reaches p = put-cases (λ t k n. Search table base o key from t k n) p (λ e. g) new
       where
-        reached : (q : ℕ) → contains (insert r s) q ≡ true → Dec (q ≡ s) → (contains base q ≡ true) ⊎ ReachedFrom (automatonOf table .transitions) o q
+        reached : (q : ℕ) → contains (insert r s) q ≡ true → Dec (q ≡ s)
+            → (contains base q ≡ true) ⊎ ReachedFrom (automatonOf table .transitions) o q
         reached q e (yes i) = rw i reaches
         reached q e (no i) = g .reached q (sym (insert-other r s q i) ∙ e)
 
@@ -59,15 +63,29 @@ module _ {table : List ℕ} {base : StateSet} {o : ℕ} where
 
     pub search-word : {i : ℕ} → FirstWith table key from i → ClosedAt table r i → Search table base o key (i + 1) r pending top
     search-word {i} n done =
-        record { words = g .words; grown = g .grown; holds = g .holds; reached = g .reached; settled = λ j l h. go j l h (ℕ-discrete j i) (decLt j from) }
+        record {
+          words = g .words;
+          grown = g .grown;
+          holds = g .holds;
+          reached = g .reached;
+          settled = λ j l h. go j l h (ℕ-discrete j i)
+              (decLt j from);
+        }
       where
-        go : (j : ℕ) → j < length table → (keyOf (getD table j 0) ≡ key → j < i + 1) → Dec (j ≡ i) → Dec (j < from) → SettledAt table r pending top j
+        go : (j : ℕ) → j < length table → (keyOf (getD table j 0) ≡ key → j < i + 1) → Dec (j ≡ i) → Dec (j < from)
+            → SettledAt table r pending top j
         go j l h (yes e) d = rw e (satisfied done)
         go j l h (no e) (yes d) = g .settled j l (λ k. d)
         go j l h (no e) (no d) = g .settled j l (λ k. let u = h k in absurd (n .skipped j (omega arith) (omega arith) k))
 
     pub search-end : ((j : ℕ) → from ≤ j → j < length table → keyOf (getD table j 0) ≡ key → ⊥) → Settled table base o r pending top
-    search-end none = record { words = g .words; grown = g .grown; holds = g .holds; reached = g .reached; settled = λ j l h. g .settled j l (λ k. go j l k (decLt j from)) }
+    search-end none = record {
+      words = g .words;
+      grown = g .grown;
+      holds = g .holds;
+      reached = g .reached;
+      settled = λ j l h. g .settled j l (λ k. go j l k (decLt j from));
+    }
       where
         go : (j : ℕ) → j < length table → keyOf (getD table j 0) ≡ key → Dec (j < from) → j < from
         go j l k (yes d) = d
@@ -78,9 +96,17 @@ module _ {table : List ℕ} {base : StateSet} {o : ℕ} where
   pub search-pop : {r : StateSet} {pending : List ℕ} {top : ℕ} → Settled table base o r pending top → (below : ℕ) → below + 1 ≡ top
       → Search table base o (256 + getD pending below 0) 0 r pending below
   search-pop {r} {pending} {top} g below e =
-      record { words = g .words; grown = g .grown; holds = g .holds; reached = g .reached; settled = λ i l h. go i h (g .settled i l (λ k. l)) }
+      record {
+        words = g .words;
+        grown = g .grown;
+        holds = g .holds;
+        reached = g .reached;
+        settled = λ i l h. go i h
+            (g .settled i l (λ k. l));
+      }
     where
-      go : (i : ℕ) → (keyOf (getD table i 0) ≡ 256 + getD pending below 0 → i < 0) → SettledAt table r pending top i → SettledAt table r pending below i
+      go : (i : ℕ) → (keyOf (getD table i 0) ≡ 256 + getD pending below 0 → i < 0) → SettledAt table r pending top i
+          → SettledAt table r pending below i
       go i h (satisfied d) = satisfied d
       go i h (waiting k l q) = at (ℕ-discrete k below)
         where
@@ -120,6 +146,7 @@ module _ (table : List ℕ) (base : StateSet) (pending : List ℕ) (s : ℕ) (se
         settled = λ i l h. settled-insert table base pending 0 s fits i (satisfied (closed i l));
       }
     where
-      reached : (q : ℕ) → contains (insert base s) q ≡ true → Dec (q ≡ s) → (contains base q ≡ true) ⊎ ReachedFrom (automatonOf table .transitions) s q
+      reached : (q : ℕ) → contains (insert base s) q ≡ true → Dec (q ≡ s)
+          → (contains base q ≡ true) ⊎ ReachedFrom (automatonOf table .transitions) s q
       reached q e (yes i) = inr (rw i itself)
       reached q e (no i) = inl (sym (insert-other base s q i) ∙ e)

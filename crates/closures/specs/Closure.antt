@@ -111,10 +111,12 @@ abbrev pub work : List ℕ → StateSet → ℕ → ℕ
 work table r top = missing (automatonOf table .states) r + missing (automatonOf table .states) r + top
 
 -- Of whatever state the closure is: where only the words with this key from word `from` on were left, none is left now.
-pub record Followed (table : List ℕ) (key from : ℕ) (r : StateSet) (pending : List ℕ) (top : ℕ) (t : StateSet) (pushed : List ℕ) (height : ℕ) : Type 0 where
+pub record Followed (table : List ℕ) (key from : ℕ) (r : StateSet) (pending : List ℕ) (top : ℕ) (t : StateSet) (pushed : List ℕ)
+    (height : ℕ) : Type 0 where
   pub stack : PendingStack table t pushed height
   pub less : work table t height ≤ work table r top
-  pub settled : (base : StateSet) (s : ℕ) → Closed table base → Search table base s key from r pending top → Settled table base s t pushed height
+  pub settled : (base : StateSet) (s : ℕ) → Closed table base → Search table base s key from r pending top
+      → Settled table base s t pushed height
 
 -- a checked table with its index, one of its states, and a stack with room for every state
 pub record Closable (table index : List ℕ) (s : ℕ) (pending : List ℕ) : Type 0 where

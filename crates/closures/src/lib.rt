@@ -1,7 +1,8 @@
 // The epsilon closure of a state, worked out along the index; closures that were worked out are kept for other nodes.
 ghost use Prim.Native.Nat.{_+_};
 ghost use lib.ListN.{length};
-ghost use Rattle.closures.specs.Closure.{Puttable, Put, Closing, ClosingAt, Followed, Closable, ClosureOf, Addable, Added, Keepable, Kept, Joinable, JoinedClosure};
+ghost use Rattle.closures.specs.Closure.{Puttable, Put, Closing, ClosingAt, Followed, Closable, ClosureOf};
+ghost use Rattle.step.specs.Closure.{Addable, Added, Keepable, Kept, Joinable, JoinedClosure};
 use index::KEYS;
 use index::STATE_KEYS;
 use sets::state::contains;
@@ -57,7 +58,8 @@ fn follow_epsilons(
 fn follow_pending(table: &[u32], index: &[u32], set: &mut [u32], pending: &mut [u32], top: usize)
     requires { ⌜ Closing (now table) (now index) (now set) (now pending) top ⌝ }
     ensures { λ _. ⌜
-        Followed (now (table .entry)) 0 (length (now (table .entry))) (now (set .entry)) (now (pending .entry)) top (now (set .exit)) (now (pending .exit)) 0
+        Followed (now (table .entry)) 0 (length (now (table .entry))) (now (set .entry)) (now (pending .entry)) top (now (set .exit))
+        (now (pending .exit)) 0
         ⌝ }
 {
     let mut height = top;
@@ -127,7 +129,9 @@ pub fn join_closure(
     set: &mut [u32],
 )
     requires { ⌜ Joinable (now table) (now index) state (now owners) (now rows) (now pending) (now set) ⌝ }
-    ensures { λ _. ⌜ JoinedClosure (now (table .entry)) state (now (set .entry)) (now (set .exit)) (now (owners .exit)) (now (rows .exit)) ⌝ }
+    ensures { λ _. ⌜
+        JoinedClosure (now (table .entry)) state (now (set .entry)) (now (set .exit)) (now (owners .exit)) (now (rows .exit))
+        ⌝ }
 {
     if !keep_closure(table, index, state, owners, rows, pending) {
         add_closure(table, index, state, set, pending);

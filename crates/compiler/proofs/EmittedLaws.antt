@@ -92,7 +92,8 @@ pub record Emitted (a cs e : List ℕ) (at : ℕ) (out out′ stack : List ℕ) 
   pub wrote : Wrote (85 * i) at (transitionsWords done) out out′ next
   pub left : transitionsFrom a 0 e [] ≡ done ++ transitionsFrom a state (drop i e) (stackIn cs (take height stack))
 
-pub emitted-none : (a cs e : List ℕ) (at : ℕ) (out stack : List ℕ) → all (isExpressionWord a) e ≡ true → trees a 0 e 1 ≡ true → length stack ≡ 64
+pub emitted-none : (a cs e : List ℕ) (at : ℕ) (out stack : List ℕ) → all (isExpressionWord a) e ≡ true → trees a 0 e 1 ≡ true
+    → length stack ≡ 64
     → Emitted a cs e at out out stack 0 0 at 0
 emitted-none a cs e at out stack h t l =
     record {
@@ -130,7 +131,8 @@ module _ {a cs e : List ℕ} {at : ℕ} {out out′ stack : List ℕ} {height st
   emitted-height h q = let b = m .below in let few = expression-length a e q .1 in omega arith
 
   -- what the emitter asks at word i
-  pub emitted-emits : (r base : ℕ) → cs ≡ constantsOf a → AcceptedAlphabet a → i < length e → length e ≤ 64 → at ≤ 1024 → r ≡ arity a (getD e i 0)
+  pub emitted-emits : (r base : ℕ) → cs ≡ constantsOf a → AcceptedAlphabet a → i < length e → length e ≤ 64 → at ≤ 1024
+      → r ≡ arity a (getD e i 0)
       → base ≡ height - r → Emits cs (take (height - base) (drop base stack)) state next 85
   emitted-emits r base known h i< le early q b =
       let few = m .below in
@@ -157,7 +159,8 @@ module _ {a cs e : List ℕ} {at : ℕ} {out out′ stack : List ℕ} {height st
       word-takes a cs known (take (height - base) (drop base stack)) (getD e i 0) (emitted-word h)
       (length-part stack base height (omega arith) (omega arith) ∙ t ∙ q)
 
-  pub emitted-more : (r base p s n : ℕ) (out″ : List ℕ) → cs ≡ constantsOf a → i < length e → length e ≤ 64 → r ≡ arity a (getD e i 0) → base ≡ height - r
+  pub emitted-more : (r base p s n : ℕ) (out″ : List ℕ) → cs ≡ constantsOf a → i < length e → length e ≤ 64 → r ≡ arity a (getD e i 0)
+      → base ≡ height - r
       → Wrote 85 next (transitionsWords (ownTransitions (getD e i 0) (fullPort cs state) (portsIn cs (take (height - base)
       (drop base stack))))) out′ out″ n
       → length out″ ≡ length out′ → portIn cs p ≡ portOf a state (getD e i 0) → s ≡ statesOf a (getD e i 0) → s ≤ 17

@@ -84,7 +84,8 @@ module _ (a : List ℕ) (x w r p : ℕ) (e : r ≡ arity a w) (low : x < 2048) w
   unfolding portOf hasEntries leaf
   portOf-leaf z b h = rw (← e, eq-eqb r 0 z, h)
 
-  pub port-constant : length a ≤ 64 → lowByte w < length a → r ≡ 0 → numberOf w ≡ kindNumber symbolKind → p ≡ x * 128 + lowByte w → portIn (constantsOf a) p ≡ portOf a x w
+  pub port-constant : length a ≤ 64 → lowByte w < length a → r ≡ 0 → numberOf w ≡ kindNumber symbolKind → p ≡ x * 128 + lowByte w
+      → portIn (constantsOf a) p ≡ portOf a x w
   unfolding leaf
   port-constant few l z k q =
       ap (portIn (constantsOf a)) q ∙ port-fields (constantsOf a) x (lowByte w) low (omega arith)

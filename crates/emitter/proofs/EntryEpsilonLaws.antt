@@ -25,7 +25,8 @@ entryEpsilonWords-more x cs targets k h =
     let es = numbered (suc x) (take k cs) in
     let n : suc x + length (take k cs) ≡ x + 1 + k = rw (length-take-le k cs (omega arith)) (omega arith) in
     ap (λ (l : List ℕ). entryEpsilonWords x l targets) (ap (λ (i : ℕ). take i cs) (add-one k) ∙ take-suc cs k 0 h)
-    ∙ ap (λ (l : List (ℕ × ℕ)). transitionsWords (entryEpsilons l targets)) (numbered-append (suc x) (take k cs) (c ∷ []) ∙ ap (λ (i : ℕ). es ++
+    ∙ ap (λ (l : List (ℕ × ℕ)). transitionsWords (entryEpsilons l targets))
+    (numbered-append (suc x) (take k cs) (c ∷ []) ∙ ap (λ (i : ℕ). es ++
     (c, i) ∷ []) n)
     ∙ ap transitionsWords
     (entryEpsilons-append targets es ((c, x + 1 + k) ∷ [])
@@ -41,13 +42,15 @@ pub record EntriesWritten (cs : List ℕ) (targets : ℕ → List ℕ) (x at : �
 pub entriesWritten-none : (cs : List ℕ) (targets : ℕ → List ℕ) (x at : ℕ) (out : List ℕ) → EntriesWritten cs targets x at out out at 0
 entriesWritten-none cs targets x at out = record { within = omega arith; long = refl; wrote = wrote-none at out }
 
-module _ {cs : List ℕ} {targets : ℕ → List ℕ} {x at : ℕ} {out out′ : List ℕ} {next k : ℕ} (w : EntriesWritten cs targets x at out out′ next k) where
+module _ {cs : List ℕ} {targets : ℕ → List ℕ} {x at : ℕ} {out out′ : List ℕ} {next k : ℕ}
+    (w : EntriesWritten cs targets x at out out′ next k) where
   -- there is room for the next constant's transitions
   pub entriesWritten-room : k < length cs → length cs ≤ 16 → at + 80 ≤ lastIndex → next + 5 ≤ lastIndex
   entriesWritten-room h few room = let n = wrote-next _ _ _ _ _ _ (w .wrote) in omega arith
 
   pub entriesWritten-more : (m : ℕ) (out″ : List ℕ) (r : ℕ) → k < length cs → m ≤ 5 → length out″ ≡ length out′
-      → Wrote m next (transitionsWords (epsilons (x + 1 + k) (targets (getD cs k 0)))) out′ out″ r → EntriesWritten cs targets x at out out″ r
+      → Wrote m next (transitionsWords (epsilons (x + 1 + k) (targets (getD cs k 0)))) out′ out″ r
+      → EntriesWritten cs targets x at out out″ r
       (k + 1)
   entriesWritten-more m out″ r h le l q =
       record {

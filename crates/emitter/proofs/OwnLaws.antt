@@ -7,7 +7,8 @@ use native.Mathlib.Omega.{arith}
 use lib.ListN.{length, getD}
 use lib.Dec.{eqb}
 use Rattle.automaton.specs.Transition.{Transition, onSymbol, epsilon, sourceWords, transitionWords, transitionsWords}
-use Rattle.automaton.specs.Numbering.{Port, numbered, entryFor, epsilons, symbolTargets, symbolTransitions, unionTransitions, productTransitions, closureTransitions, fullPort}
+use Rattle.automaton.specs.Numbering.{Port, numbered, entryFor, epsilons, symbolTargets, symbolTransitions}
+use Rattle.automaton.specs.Numbering.{unionTransitions, productTransitions, closureTransitions, fullPort}
 use Rattle.automaton.proofs.TransitionLaws.{transitionsWords-append, entryEpsilons-same}
 use Rattle.emitter.specs.Writing.{Wrote}
 use Rattle.ports.specs.Ports.{exitIn, exitsIn, portIn, portsIn}
@@ -70,14 +71,17 @@ module _ (cs ps : List ℕ) where
 
 -- ---- what the writers leave, kind by kind
 
-pub union-own : (cs ps : List ℕ) (x at : ℕ) (out o₁ o₂ : List ℕ) (n r y z : ℕ) → length ps ≡ 2 → y ≡ exitIn (getD ps 0 0) → z ≡ exitIn (getD ps 1 0)
-    → Wrote 2 at (transitionsWords (epsilon y x ∷ epsilon z x ∷ [])) out o₁ n → Wrote 80 n (entryEpsilonWords x cs (symbolTargets (portsIn cs ps))) o₁ o₂ r
+pub union-own : (cs ps : List ℕ) (x at : ℕ) (out o₁ o₂ : List ℕ) (n r y z : ℕ) → length ps ≡ 2 → y ≡ exitIn (getD ps 0 0)
+    → z ≡ exitIn (getD ps 1 0)
+    → Wrote 2 at (transitionsWords (epsilon y x ∷ epsilon z x ∷ [])) out o₁ n
+    → Wrote 80 n (entryEpsilonWords x cs (symbolTargets (portsIn cs ps))) o₁ o₂ r
     → Wrote 85 at (transitionsWords (unionTransitions (fullPort cs x) (F cs ps) (G cs ps))) out o₂ r
 union-own cs ps x at out o₁ o₂ n r y z h e d p s =
     wrote-same 82 85 at r _ _ out o₂ (wrote-more 2 80 at n r _ _ out o₁ o₂ p s) (omega arith)
     (rw (e, d)
     (ap (λ (l : List Transition). transitionsWords (epsilon (F cs ps .exit) x ∷ epsilon (G cs ps .exit) x ∷ l))
-    (entryEpsilons-same (symbolTargets (portsIn cs ps)) (λ b. entryFor (F cs ps) b ++ entryFor (G cs ps) b) (numbered (suc x) cs) (unionEntries-both cs ps h))))
+    (entryEpsilons-same (symbolTargets (portsIn cs ps)) (λ b. entryFor (F cs ps) b ++ entryFor (G cs ps) b) (numbered (suc x) cs)
+    (unionEntries-both cs ps h))))
 
 module _ (cs ps : List ℕ) (x at : ℕ) (out o₁ o₂ o₃ : List ℕ) (n₁ n₂ r : ℕ) where
   abbrev E : Port
@@ -96,18 +100,21 @@ module _ (cs ps : List ℕ) (x at : ℕ) (out o₁ o₂ o₃ : List ℕ) (n₁ n
       (portsIn cs ps))) out o₃ r
   symbol-own f p q s =
       three 1 4 80 _ _ _ _ p q s (omega arith)
-      (ap (λ (l : List ℕ). transitionWords (onSymbol f [] x) ++ (l ++ entryEpsilonWords x cs (symbolTargets (portsIn cs ps)))) (sources-exits cs ps))
+      (ap (λ (l : List ℕ). transitionWords (onSymbol f [] x) ++ (l ++ entryEpsilonWords x cs (symbolTargets (portsIn cs ps))))
+      (sources-exits cs ps))
 
   pub product-own : (y z c : ℕ) → length ps ≡ 2 → y ≡ exitIn (getD ps 0 0) → z ≡ exitIn (getD ps 1 0)
       → Wrote 1 at (transitionWords (epsilon y x)) out o₁ n₁ → Wrote 1 n₁ (epsilonWords z (entryFor (F cs ps) c)) o₁ o₂ n₂
-      → Wrote 80 n₂ (entryEpsilonWords x cs (productEntries cs ps c)) o₂ o₃ r → Wrote 85 at (transitionsWords (productTransitions c E (F cs ps)
+      → Wrote 80 n₂ (entryEpsilonWords x cs (productEntries cs ps c)) o₂ o₃ r
+      → Wrote 85 at (transitionsWords (productTransitions c E (F cs ps)
       (G cs ps))) out o₃ r
   product-own y z c h e d p q s =
       three 1 1 80 _ _ _ _ p q s (omega arith)
       (rw (e, d)
       (ap (λ (l : List ℕ). transitionWords (epsilon (F cs ps .exit) x) ++ l)
       (ap (λ (l : List Transition). epsilonWords (G cs ps .exit) (entryFor (F cs ps) c) ++ transitionsWords l)
-      (entryEpsilons-same (productEntries cs ps c) (λ b. cond (eqb b c) [] (entryFor (F cs ps) b) ++ entryFor (G cs ps) b) (numbered (suc x) cs)
+      (entryEpsilons-same (productEntries cs ps c) (λ b. cond (eqb b c) [] (entryFor (F cs ps) b) ++ entryFor (G cs ps) b)
+      (numbered (suc x) cs)
       (productEntries-both cs ps h c))
       ∙ sym (transitionsWords-append (epsilons (G cs ps .exit) (entryFor (F cs ps) c)) _))))
 

@@ -37,7 +37,8 @@ bytes-written-more {at} {next} {r} {bs} {cs} {out} {out′} {out″} p q =
         let l : length out′ ≡ length out = ap length (p .bytes (fits-first fits)) ∙ length-sets out at bs in
         omega arith
 
-    bytes : at + length bs ≤ length out → next + length cs ≤ length out′ → at + length (bs ++ cs) ≤ length out → out″ ≡ sets out at (bs ++ cs)
+    bytes : at + length bs ≤ length out → next + length cs ≤ length out′ → at + length (bs ++ cs) ≤ length out
+        → out″ ≡ sets out at (bs ++ cs)
     bytes f t fits = q .bytes t ∙ rw (p .next f, p .bytes f) (sym (sets-append bs cs out at))
 
     end : at + length bs ≤ length out → next + length cs ≤ length out′ → r ≡ at + length (bs ++ cs)
@@ -66,7 +67,8 @@ module _ (text : List ℕ) (at : ℕ) (out₀ : List ℕ) where
   texted-none = record { few = omega arith; long = refl; written = bytes-written-none at out₀ }
 
   pub texted-more : (out : List ℕ) (next i : ℕ) → Texted text at out₀ out next i → i < length text
-      → (out′ : List ℕ) (r : ℕ) → length out′ ≡ length out → BytesWritten next (getD text i 0 ∷ []) out out′ r → Texted text at out₀ out′ r (i + 1)
+      → (out′ : List ℕ) (r : ℕ) → length out′ ≡ length out → BytesWritten next (getD text i 0 ∷ []) out out′ r
+      → Texted text at out₀ out′ r (i + 1)
   texted-more out next i t h out′ r l w =
       record {
         few = omega arith;

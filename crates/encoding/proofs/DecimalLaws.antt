@@ -33,12 +33,14 @@ decimal-one n h = let e : n % 10 ≡ n = omega arith in rw (lt-ltb n 10 h, e)
 -- a number of several digits
 pub decimal-several : (n : ℕ) → 10 ≤ n → decimal n ≡ decimal (n / 10) ++ (digit (n % 10) ∷ [])
 unfolding decimal digitsWithin
-decimal-several n h = rw (le-ltb n 10 h) (ap (λ (ds : List ℕ). ds ++ (digit (n % 10) ∷ [])) (enough n (suc (n / 10)) (n / 10) (omega arith) (omega arith)))
+decimal-several n h =
+    rw (le-ltb n 10 h) (ap (λ (ds : List ℕ). ds ++ (digit (n % 10) ∷ [])) (enough n (suc (n / 10)) (n / 10) (omega arith) (omega arith)))
 
 -- ---- the writer of a number
 
 module _ (n at : ℕ) (out : List ℕ) where
-  pub number-one : (out′ : List ℕ) (r : ℕ) → n < 10 → BytesWritten at (digit (n % 10) ∷ []) out out′ r → BytesWritten at (decimal n) out out′ r
+  pub number-one : (out′ : List ℕ) (r : ℕ) → n < 10 → BytesWritten at (digit (n % 10) ∷ []) out out′ r
+      → BytesWritten at (decimal n) out out′ r
   number-one out′ r h w =
       let e : n % 10 ≡ n = omega arith in
       bytes-written-same w (ap (λ (d : ℕ). digit d ∷ []) e ∙ sym (decimal-one n h))

@@ -148,7 +148,8 @@ module _ (xs ys : List ℕ) (n : ℕ) (whole : length xs ≡ 4 * n) where
               ∙ sym (getD-append-add (wordsIn xs) (wordsIn ys) (i - n) 0) ∙ ap (λ (k : ℕ). getD (wordsIn xs ++ wordsIn ys) k 0) f
           go (no l) =
               let c = count-first in
-              first-word i (omega arith) ∙ sym (getD-wordsIn xs i (omega arith)) ∙ sym (List·getD-append (wordsIn xs) (wordsIn ys) 0 i (omega arith))
+              first-word i (omega arith) ∙ sym (getD-wordsIn xs i (omega arith))
+              ∙ sym (List·getD-append (wordsIn xs) (wordsIn ys) 0 i (omega arith))
 
   -- the program keeps the words of one part after the other; together they are those of all bytes
   pub kept-parts : (slice : List ℕ) → sets (sets slice 0 (wordsIn xs)) n (wordsIn ys) ≡ sets slice 0 (wordsIn (xs ++ ys))

@@ -122,9 +122,11 @@ module _ (a table chapter marks : List ℕ) (n element : ℕ) (xs : List ℕ) (o
       let p = startOf a used element in
       let ends : (i : ℕ) → all (isNode a) (take i used ++ drop i used) ≡ true = λ i. rw (take-append-drop i used) (g .nodes) in
       all-append (isNode a) (take p used) (xs ++ drop (element + 1) used) (all-left (isNode a) (take p used) (drop p used) (ends p))
-      (all-append (isNode a) xs (drop (element + 1) used) (g .replacement .nodes) (all-right (isNode a) (take (element + 1) used) (drop (element + 1) used) (ends (element + 1))))
+      (all-append (isNode a) xs (drop (element + 1) used) (g .replacement .nodes)
+      (all-right (isNode a) (take (element + 1) used) (drop (element + 1) used) (ends (element + 1))))
 
-  pub result-workable : (marks′ : List ℕ) → length marks′ ≡ length marks → Workable a table (splice a (take n chapter) element xs) (length marks′)
+  pub result-workable : (marks′ : List ℕ) → length marks′ ≡ length marks
+      → Workable a table (splice a (take n chapter) element xs) (length marks′)
   result-workable marks′ l =
       let g = accepted-call in
       record {

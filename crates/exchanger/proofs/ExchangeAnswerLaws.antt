@@ -5,7 +5,8 @@ use Prim.Native.Nat.{ℕ, _*_}
 use lib.ListN.{length, take}
 use Rattle.words.specs.Answer.{Answer, refused, accepted}
 use Rattle.operations.specs.Marks.{sizeOf, refit}
-use Rattle.operations.specs.Exchange.{setIn, recomputedIn, exchangeFault, fault, newTree, outcomes, exchangeAnswer, exchangeChapter, exchangeMarks}
+use Rattle.operations.specs.Exchange.{setIn, recomputedIn, exchangeFault, fault, newTree}
+use Rattle.operations.specs.Exchange.{outcomes, exchangeAnswer, exchangeChapter, exchangeMarks}
 use Rattle.refusals.proofs.AnswerLaws.{answer-refused, answer-accepted, exit-refused, exit-accepted}
 
 module _ (a table chapter marks : List ℕ) (n element : ℕ) (xs : List ℕ) where
@@ -25,9 +26,11 @@ module _ (a table chapter marks : List ℕ) (n element : ℕ) (xs : List ℕ) wh
     call-accepted h = sym q ∙ h
 
     pub call-replaced : r ≡ 0 → (answer : Answer) (chapter′ marks′ : List ℕ)
-        → answer ≡ accepted (length (newTree a table chapter marks n element xs) ∷ recomputedIn (outcomes a table chapter marks n element xs) ∷ [])
+        → answer ≡ accepted
+        (length (newTree a table chapter marks n element xs) ∷ recomputedIn (outcomes a table chapter marks n element xs) ∷ [])
         → chapter′ ≡ refit n (newTree a table chapter marks n element xs) chapter
-        → marks′ ≡ refit (n * sizeOf table) (flatten (map setIn (outcomes a table chapter marks n element xs))) marks → Exits answer chapter′ marks′
+        → marks′ ≡ refit (n * sizeOf table) (flatten (map setIn (outcomes a table chapter marks n element xs))) marks
+        → Exits answer chapter′ marks′
     unfolding fault exchangeAnswer exchangeChapter exchangeMarks
     call-replaced h answer chapter′ marks′ x y z =
         (x ∙ answer-accepted r _ q _ h, (y ∙ exit-accepted r _ q _ chapter h, z ∙ exit-accepted r _ q _ marks h))

@@ -24,7 +24,8 @@ use Rattle.operations.proofs.RuleLaws.{follows-length, follows-outcomes}
 use Rattle.nodes.proofs.LoopLaws.{setAt}
 use Rattle.nodes.proofs.LoopLaws as loops
 use Rattle.exchanger.proofs.UpwardLoop.{upwards}
-use Rattle.exchanger.proofs.ExchangeLoops.{movedSets, replacedSets, exchangedSets, exchangedSets-outcomes, length-movedSets, length-replacedSets, words-behind}
+use Rattle.exchanger.proofs.ExchangeLoops.{movedSets, replacedSets, exchangedSets, exchangedSets-outcomes}
+use Rattle.exchanger.proofs.ExchangeLoops.{length-movedSets, length-replacedSets, words-behind}
 use Rattle.nodes.specs.Nodes.{setFrom, markedFrom}
 use Rattle.nodes.proofs.MarkLaws.{MarksHolding, holding-set, setFrom-rows, markedAt-rows}
 use Rattle.propagation.specs.declared.Progress.{Progress}
@@ -104,7 +105,8 @@ module _ (a table chapter marks : List ℕ) (n element : ℕ) (xs : List ℕ) (o
     replaced-holds (suc k) h =
         let t = length-replaced k in
         let l = length-splice (arity a) used element xs he in
-        markedAt-rows a table tree (markedFrom a table tree s k moved) (replaced k) rest (s + k) (replaced-holds k (omega arith)) (omega arith) (omega arith)
+        markedAt-rows a table tree (markedFrom a table tree s k moved) (replaced k) rest (s + k) (replaced-holds k (omega arith))
+        (omega arith) (omega arith)
 
     -- before the root is worked out, and behind it
     abbrev before : List ℕ
@@ -159,7 +161,9 @@ module _ (a table chapter marks : List ℕ) (n element : ℕ) (xs : List ℕ) (o
         (omega (arith, some, length-replaced m, length-tree)) (omega (arith, some, length-tree))
 
     old-is : old ≡ stored element
-    old-is = holding-set size before (replaced m) rest (s + m) before-holds (omega (arith, some, length-replaced m, length-tree)) ∙ root-kept m (omega arith)
+    old-is =
+        holding-set size before (replaced m) rest (s + m) before-holds (omega (arith, some, length-replaced m, length-tree))
+        ∙ root-kept m (omega arith)
 
     root-is : setAt rows (s + length xs - 1) ≡ v
     unfolding replacedSets
@@ -213,7 +217,8 @@ module _ (a table chapter marks : List ℕ) (n element : ℕ) (xs : List ℕ) (o
         → (work, record { reach = 1; recomputed = m + 1; active = not b }) ≡ propagateStep a table tree (s + m) before (initial m)
     unfolding markedFrom
     step-root b h =
-        step-ancestor a table tree (s + m) before (initial m) _ refl (omega arith) (work, not b) (recomputed-is a table tree (s + m) before b h)
+        step-ancestor a table tree (s + m) before (initial m) _ refl (omega arith) (work, not b)
+        (recomputed-is a table tree (s + m) before b h)
 
     abbrev up : List StateSet × ℕ
     up = upwards a table tree above (s + length xs) left rows (length xs)
@@ -227,30 +232,41 @@ module _ (a table chapter marks : List ℕ) (n element : ℕ) (xs : List ℕ) (o
         some
         ∙ ap (λ (b : Bool). cond b (rows, length xs) up) tests
 
-    exchanged : Same a table tree used element rest above (exchangedFrom a table tree s (s + length xs - 1) moved) (exchangedSets a table stored used element xs gap)
+    exchanged : Same a table tree used element rest above (exchangedFrom a table tree s (s + length xs - 1) moved)
+        (exchangedSets a table stored used element xs gap)
     exchanged = rw (propagateed-is, sets-is) (go (tested (sameWords new old)))
       where
         count : m + 1 ≡ length xs
         count = omega (arith, some)
 
-        go : Tested (sameWords new old) → Same a table tree used element rest above propagated (cond (sameWords new old) (rows, length xs) up)
+        go : Tested (sameWords new old)
+            → Same a table tree used element rest above propagated (cond (sameWords new old) (rows, length xs) up)
         go (holds b) =
-            rw (propagate-stops a table tree (s + m) before (initial m) left work _ (step-root true b) refl, b) (record { sets = work-holds; count = count })
+            rw (propagate-stops a table tree (s + m) before (initial m) left work _ (step-root true b) refl, b)
+            (record { sets = work-holds; count = count })
         go (fails b) =
             rw (propagate-continues a table tree (s + m) before (initial m) left work _ (step-root false b) refl, b) (behind _ refl count)
 
     pub left-outcomes : (marks′ : List ℕ) (count : ℕ)
-        → (marks′, count) ≡ exchangedFrom a table (splice a (take n chapter) element xs) (startOf a (take n chapter) element) (startOf a (take n chapter) element + length xs - 1) moved
+        → (marks′, count)
+        ≡ exchangedFrom a table (splice a (take n chapter) element xs) (startOf a (take n chapter) element)
+        (startOf a (take n chapter) element + length xs - 1) moved
         → Left a table chapter marks n element xs marks′ count
     unfolding outcomes refit
     left-outcomes marks′ count q =
         let g = accepted-call a table chapter marks n element xs ok in
         let os = outcomesAfter a table stored used element xs in
         let same : Same a table tree used element rest above (marks′, count) (map setIn os, recomputedIn os) =
-        rw (q, ← exchangedSets-outcomes a table stored used element xs gap he (g .replacement .tree) (g .replacement .counted .some) length-gap) exchanged in
-        let many : length os ≡ length tree = follows-length a table tree [] os (follows-outcomes a table stored used element xs he (g .replacement .tree)) in
+        rw (
+          q,
+          ← exchangedSets-outcomes a table stored used element xs gap he (g .replacement .tree)
+              (g .replacement .counted .some) length-gap,
+        ) exchanged in
+        let many : length os ≡ length tree =
+        follows-length a table tree [] os (follows-outcomes a table stored used element xs he (g .replacement .tree)) in
         let long : length (flatten (map setIn os)) ≡ total * size =
-        length-flatten size (map setIn os) (same .sets .sized) ∙ ap (λ (i : ℕ). i * size) (length-map os setIn ∙ many ∙ sym (facts .total)) in
+        length-flatten size (map setIn os) (same .sets .sized)
+        ∙ ap (λ (i : ℕ). i * size) (length-map os setIn ∙ many ∙ sym (facts .total)) in
         record {
           words =
               same .sets .words
@@ -265,7 +281,8 @@ module _ (a table chapter marks : List ℕ) (n element : ℕ) (xs : List ℕ) (o
   place = startOf a (take n chapter) element
 
   pub chapter-left : (moved filled : List ℕ)
-      → moved ≡ refit n (take (place + length xs) chapter ++ slice (element + 1) n chapter) chapter → filled ≡ paste moved place xs (length xs)
+      → moved ≡ refit n (take (place + length xs) chapter ++ slice (element + 1) n chapter) chapter
+      → filled ≡ paste moved place xs (length xs)
       → filled ≡ refit n (newTree a table chapter marks n element xs) chapter
   unfolding newTree spliceBy
   chapter-left moved filled p q =
@@ -273,7 +290,8 @@ module _ (a table chapter marks : List ℕ) (n element : ℕ) (xs : List ℕ) (o
       let low = g .low in
       let inside = g .inside in
       q ∙ ap (λ (l : List ℕ). paste l place xs (length xs)) p
-      ∙ tail-filled chapter n (element + 1) (place + length xs) (chapter-fits a table chapter marks n element xs ok place refl (sizeOf table) refl) place xs refl
+      ∙ tail-filled chapter n (element + 1) (place + length xs)
+      (chapter-fits a table chapter marks n element xs ok place refl (sizeOf table) refl) place xs refl
       ∙ ap (λ (l : List ℕ). refit n (l ++ (xs ++ slice (element + 1) n chapter)) chapter) (sym (take-take place n chapter (omega arith)))
 
   -- the new tree's words are those in use

@@ -50,7 +50,8 @@ module _ (a table : List ℕ) (stored : ℕ → StateSet) (ch : List ℕ) (eleme
   exchangedSets =
       cond (sameWords (setAt (replacedSets (length x)) (s + length x - 1)) (stored element))
       (replacedSets (length x), length x)
-      (upwards a table tree (λ i. isAncestor a ch element (i - (s + length x) + (element + 1))) (s + length x) (length behind) (replacedSets (length x)) (length x))
+      (upwards a table tree (λ i. isAncestor a ch element (i - (s + length x) + (element + 1))) (s + length x) (length behind)
+      (replacedSets (length x)) (length x))
 
   module _ (he : element < length ch) (hx : oneTree a x ≡ true) (some : 0 < length x) (hg : length gap ≡ length x) where
     abbrev step : ℕ → List StateSet → StateSet
@@ -72,7 +73,8 @@ module _ (a table : List ℕ) (stored : ℕ → StateSet) (ch : List ℕ) (eleme
     length-movedSets =
         length-append (listFrom stored 0 s) (gap ++ listFrom stored (element + 1) (length behind))
         ∙ ap₂ (λ (i j : ℕ). i + j) (length-listFrom stored s 0)
-        (length-append gap (listFrom stored (element + 1) (length behind)) ∙ ap₂ (λ (i j : ℕ). i + j) hg (length-listFrom stored (length behind) (element + 1)))
+        (length-append gap (listFrom stored (element + 1) (length behind))
+        ∙ ap₂ (λ (i j : ℕ). i + j) hg (length-listFrom stored (length behind) (element + 1)))
 
     pub length-replacedSets : (k : ℕ) → length (replacedSets k) ≡ length movedSets
     unfolding replacedSets
@@ -103,7 +105,8 @@ module _ (a table : List ℕ) (stored : ℕ → StateSet) (ch : List ℕ) (eleme
     stack-front =
         ap (λ (l : List ℕ). map (setAt movedSets) (stackGiven a (λ k. k) 0 l [])) take-front
         ∙ map-below (setAt movedSets) stored s ns few
-        (λ k h. List·getD-append (listFrom stored 0 s) _ [] k (rw (length-listFrom stored s 0) h) ∙ getD-listFrom stored [] s 0 k h ∙ ap stored (zero-add k))
+        (λ k h. List·getD-append (listFrom stored 0 s) _ [] k (rw (length-listFrom stored s 0) h) ∙ getD-listFrom stored [] s 0 k h
+        ∙ ap stored (zero-add k))
         ∙ sym (stack-numbers (arity a) stored (take s ch) 0 [])
       where
         ns : List ℕ
@@ -116,7 +119,8 @@ module _ (a table : List ℕ) (stored : ℕ → StateSet) (ch : List ℕ) (eleme
     unfolding replacedSets
     replaced-recomputing zero h = recomputing-none a table tree movedSets s σ stack-front
     replaced-recomputing (suc k) h =
-        recomputing-more a table tree movedSets s σ k (replacedSets k) (omega (arith, length-tree)) (omega (arith, length-movedSets)) (length-replacedSets k) (replaced-recomputing k (omega arith))
+        recomputing-more a table tree movedSets s σ k (replacedSets k) (omega (arith, length-tree)) (omega (arith, length-movedSets))
+        (length-replacedSets k) (replaced-recomputing k (omega arith))
 
     allRecomputed : Recomputing a table tree movedSets s σ (length x) (replacedSets (length x))
     allRecomputed = replaced-recomputing (length x) (omega arith)
@@ -132,29 +136,36 @@ module _ (a table : List ℕ) (stored : ℕ → StateSet) (ch : List ℕ) (eleme
     replacedSets-are =
         let m : s + length x ≡ length (listFrom stored 0 s) + length x = ap (λ (i : ℕ). i + length x) (sym (length-listFrom stored s 0)) in
         let back : drop (s + length x) movedSets ≡ listFrom stored (element + 1) (length behind) =
-        ap (λ (i : ℕ). drop i movedSets) m ∙ drop-append-add (listFrom stored 0 s) (gap ++ listFrom stored (element + 1) (length behind)) (length x)
+        ap (λ (i : ℕ). drop i movedSets) m
+        ∙ drop-append-add (listFrom stored 0 s) (gap ++ listFrom stored (element + 1) (length behind)) (length x)
         ∙ drop-at gap (listFrom stored (element + 1) (length behind)) (length x) hg in
         let fore : take s movedSets ≡ listFrom stored 0 s = take-at (listFrom stored 0 s) _ s (length-listFrom stored s 0) in
         allRecomputed .sets-are
         ∙ ap₂ (λ (l k : List StateSet). l ++ values a step (slice s (s + length x) tree) σ ++ k) fore back
-        ∙ ap (λ (l : List StateSet). listFrom stored 0 s ++ l ++ listFrom stored (element + 1) (length behind)) (ap (λ (l : List ℕ). values a step l σ) replacement ∙ new .values-on σ)
+        ∙ ap (λ (l : List StateSet). listFrom stored 0 s ++ l ++ listFrom stored (element + 1) (length behind))
+        (ap (λ (l : List ℕ). values a step l σ) replacement ∙ new .values-on σ)
 
     stack-replaced : map (setAt (replacedSets (length x))) (numbers (arity a) tree (s + length x)) ≡ rootSet a table x ∷ σ
-    stack-replaced = allRecomputed .stack-is ∙ ap (λ (l : List ℕ). stackAfter a step l σ) replacement ∙ new .stack-on σ ∙ ap (λ (r : StateSet). r ∷ σ) (sym root)
+    stack-replaced =
+        allRecomputed .stack-is ∙ ap (λ (l : List ℕ). stackAfter a step l σ) replacement ∙ new .stack-on σ
+        ∙ ap (λ (r : StateSet). r ∷ σ) (sym root)
 
     root-replaced : setAt (replacedSets (length x)) (s + length x - 1) ≡ rootSet a table x
     root-replaced =
         let q = s + length x - 1 in
         let n : s + length x ≡ suc q = omega arith in
         head-eq-of-cons-eq
-        (sym (ap (λ (l : List ℕ). map (setAt (replacedSets (length x))) l) (ap (numbers (arity a) tree) n ∙ numbers-more (arity a) tree q (omega (arith, length-tree)))) ∙ stack-replaced)
+        (sym (ap (λ (l : List ℕ). map (setAt (replacedSets (length x))) l)
+        (ap (numbers (arity a) tree) n ∙ numbers-more (arity a) tree q (omega (arith, length-tree)))) ∙ stack-replaced)
 
     head : List StateSet
     head = listFrom stored 0 s ++ values a step x []
 
     length-head : length head ≡ s + length x
     unfolding head
-    length-head = length-append (listFrom stored 0 s) (values a step x []) ∙ ap₂ (λ (i j : ℕ). i + j) (length-listFrom stored s 0) (length-values (arity a) step x [])
+    length-head =
+        length-append (listFrom stored 0 s) (values a step x [])
+        ∙ ap₂ (λ (i j : ℕ). i + j) (length-listFrom stored s 0) (length-values (arity a) step x [])
 
     -- the sets of the outcomes in their three parts
     outcomes-parts : head ++ map setIn (outcomesBehind a table stored ch element x) ≡ map setIn (outcomesAfter a table stored ch element x)
@@ -175,7 +186,10 @@ module _ (a table : List ℕ) (stored : ℕ → StateSet) (ch : List ℕ) (eleme
         ∙ ap₂ (λ (l : List StateSet) (i : ℕ). (l, i)) outcomes-parts (sym (recomputed-parts a table stored ch element x))
       where
         go : Tested (sameWords (rootSet a table x) (stored element)) → exchangedSets
-            ≡ (head ++ map setIn (outcomesBehind a table stored ch element x), length x + recomputedIn (outcomesBehind a table stored ch element x))
+            ≡ (
+              head ++ map setIn (outcomesBehind a table stored ch element x),
+              length x + recomputedIn (outcomesBehind a table stored ch element x),
+            )
         go (holds b) =
             rw (root-replaced, b)
             (ap₂ (λ (l : List StateSet) (i : ℕ). (l, i))
@@ -183,14 +197,17 @@ module _ (a table : List ℕ) (stored : ℕ → StateSet) (ch : List ℕ) (eleme
             (sym (add-zero (length x)) ∙ ap (λ (i : ℕ). length x + i) (sym (count-kept stored (length behind) (element + 1)))))
         go (fails b) =
             rw (root-replaced, b)
-            (upwards-is a table tree stored (λ i. isAncestor a ch element (i - (s + length x) + (element + 1))) (isAncestor a ch element) behind (s + length x) (element + 1)
+            (upwards-is a table tree stored (λ i. isAncestor a ch element (i - (s + length x) + (element + 1)))
+            (isAncestor a ch element) behind (s + length x) (element + 1)
             (replacedSets (length x)) (length x) (rootSet a table x ∷ σ) words-behind
             (λ t. ap (isAncestor a ch element) (omega arith))
             (omega (arith, length-replacedSets (length x), length-movedSets))
-            (ap (drop (s + length x)) replacedSets-are ∙ drop-at head (listFrom stored (element + 1) (length behind)) (s + length x) length-head)
+            (ap (drop (s + length x)) replacedSets-are
+            ∙ drop-at head (listFrom stored (element + 1) (length behind)) (s + length x) length-head)
             stack-replaced
             ∙ ap (λ (l : List StateSet). (l ++ map setIn up, length x + recomputedIn up))
-            (ap (take (s + length x)) replacedSets-are ∙ take-at head (listFrom stored (element + 1) (length behind)) (s + length x) length-head))
+            (ap (take (s + length x)) replacedSets-are
+            ∙ take-at head (listFrom stored (element + 1) (length behind)) (s + length x) length-head))
           where
             up : List Outcome
             up = propagate a table stored (isAncestor a ch element) (element + 1) behind (rootSet a table x ∷ σ)

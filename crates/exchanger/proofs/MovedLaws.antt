@@ -62,7 +62,8 @@ module _ (a table chapter marks : List ℕ) (n element : ℕ) (xs : List ℕ) (o
   root-is = let some = facts .some in omega arith
 
   behind-count : length (drop (element + 1) used) ≡ k
-  behind-count = length-drop (element + 1) used ∙ ap (λ (i : ℕ). i - (element + 1)) (length-used a table chapter marks n element xs ok) ∙ omega arith
+  behind-count =
+      length-drop (element + 1) used ∙ ap (λ (i : ℕ). i - (element + 1)) (length-used a table chapter marks n element xs ok) ∙ omega arith
 
   front-words : flatten (listFrom stored 0 root) ≡ take (root * size) marks
   front-words = flatten-stored size marks root 0 ∙ ap (λ (i : ℕ). take (root * size) (drop i marks)) (zero-mul size)
@@ -90,7 +91,8 @@ module _ (a table chapter marks : List ℕ) (n element : ℕ) (xs : List ℕ) (o
       regroup : (u v w z : List StateSet) → u ++ ((v ++ w) ++ z) ≡ (u ++ v) ++ (w ++ z)
       regroup u v w z = simp append-assoc
 
-  sets-words : flatten (movedSets a table stored used element xs gapSets) ≡ take (root * size) marks ++ slice (element * size) (n * size) marks
+  sets-words : flatten (movedSets a table stored used element xs gapSets)
+      ≡ take (root * size) marks ++ slice (element * size) (n * size) marks
   sets-words =
       ap flatten sets-are ∙ flatten-append (listFrom stored 0 root) (listFrom stored element (suc k))
       ∙ ap₂ (λ (l r : List ℕ). l ++ r) front-words tail-words
@@ -117,7 +119,8 @@ module _ (a table chapter marks : List ℕ) (n element : ℕ) (xs : List ℕ) (o
       let old = facts .old-words in
       let new = facts .new-words in
       let l : length words ≡ (s + length xs + k) * size =
-      length-kept marks (n * size) (element * size) (root * size) (marks-fits a table chapter marks n element xs ok s refl size refl) ∙ omega arith in
+      length-kept marks (n * size) (element * size) (root * size) (marks-fits a table chapter marks n element xs ok s refl size refl)
+      ∙ omega arith in
       record {
         words = q ∙ ap₂ (λ (t : List ℕ) (i : ℕ). t ++ behindUse (n * size) i marks) (sym sets-words) l;
         sized = sets-sized;

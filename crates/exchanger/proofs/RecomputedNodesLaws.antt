@@ -23,9 +23,11 @@ module _ {a table ch : List ℕ} {start root : ℕ} {marks : List ℕ} (g : Exch
       let inside = g .inside in
       record { tree = g .workable .tree; within = omega arith; long = length-replicate {A = ℕ} 4100 0; zeros = refl }
 
-  pub nodes-marks : {index : List ℕ} → index ≡ indexOf table → {array : List ℕ} {height : ℕ} → length array ≡ length (replicate {A = ℕ} 4100 0)
+  pub nodes-marks : {index : List ℕ} → index ≡ indexOf table → {array : List ℕ} {height : ℕ}
+      → length array ≡ length (replicate {A = ℕ} 4100 0)
       → Held array height (reverse (rootsOf a ch start))
-      → AtNodes a table index ch start root marks array height (replicate 1024 0) (replicate 1024 0) (replicate 1021 0) (replicate 64 0) (replicate 2048 0) (replicate 1024 0)
+      → AtNodes a table index ch start root marks array height (replicate 1024 0) (replicate 1024 0) (replicate 1021 0) (replicate 64 0)
+      (replicate 2048 0) (replicate 1024 0)
   nodes-marks q l s =
       let order = g .order in
       let inside = g .inside in
@@ -37,7 +39,8 @@ module _ {a table ch : List ℕ} {start root : ℕ} {marks : List ℕ} (g : Exch
         prepared = nothing-prepared (l ∙ length-replicate {A = ℕ} 4100 0) (omega arith) s;
       }
 
-  pub nodes-propagate : {index : List ℕ} → index ≡ indexOf table → {marks′ array : List ℕ} {height : ℕ} {keys known places owners rows pending : List ℕ}
+  pub nodes-propagate : {index : List ℕ} → index ≡ indexOf table
+      → {marks′ array : List ℕ} {height : ℕ} {keys known places owners rows pending : List ℕ}
       → length marks′ ≡ length marks → Maintained a table ch root marks′ array height keys known places owners rows pending
       → PropagationStart a table index ch root marks′ array height (root - start) keys known places owners rows pending
   nodes-propagate q m p =
@@ -55,7 +58,8 @@ module _ {a table ch : List ℕ} {start root : ℕ} {marks : List ℕ} (g : Exch
       }
 
 pub nodes-exchanged : (a table ch : List ℕ) (start root : ℕ) (marks work : List ℕ) → work ≡ markedFrom a table ch start (root - start) marks
-    → (r : List ℕ × ℕ) → r ≡ propagateFrom a table ch root (length ch - root) work (initial (root - start)) → r ≡ exchangedFrom a table ch start root marks
+    → (r : List ℕ × ℕ) → r ≡ propagateFrom a table ch root (length ch - root) work (initial (root - start))
+    → r ≡ exchangedFrom a table ch start root marks
 unfolding exchangedFrom
 nodes-exchanged a table ch start root marks work w r p =
     p ∙ ap (λ (m : List ℕ). propagateFrom a table ch root (length ch - root) m (initial (root - start))) w

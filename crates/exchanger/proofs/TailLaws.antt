@@ -44,7 +44,8 @@ module _ (l : List ℕ) (used end at : ℕ) (g : TailFits l used end at) where
       let whole : kept ++ rest ≡ take at l ++ (tail ++ rest) = append-assoc (take at l) tail rest in
       ap (λ (u : List ℕ). paste u s xs (length xs)) whole
       ∙ ap₂ (λ (u v : List ℕ). (u ++ v) ++ drop (s + length xs) (take at l ++ (tail ++ rest)))
-      (take-append-le s (take at l) (tail ++ rest) (rw front (omega arith)) ∙ take-take s at l (omega arith)) (take-all (length xs) xs (omega arith))
+      (take-append-le s (take at l) (tail ++ rest) (rw front (omega arith)) ∙ take-take s at l (omega arith))
+      (take-all (length xs) xs (omega arith))
       ∙ ap (λ (u : List ℕ). (take s l ++ xs) ++ u) (drop-at (take at l) (tail ++ rest) (s + length xs) (front ∙ e))
       ∙ regroup (take s l) xs tail rest
       ∙ ap (λ (i : ℕ). new ++ (replicate {A = ℕ} (used - i) 0 ++ drop (max used i) l)) n

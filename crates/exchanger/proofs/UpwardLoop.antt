@@ -36,7 +36,8 @@ module _ (a table ch : List ℕ) where
     unfolding upwards
     upwards-beside b = rw b
 
-    pub upwards-last : above i ≡ true → sameWords (setFromSets a table ch i sets) (setAt sets i) ≡ true → upwards above i (suc n) sets count ≡ (sets, count + 1)
+    pub upwards-last : above i ≡ true → sameWords (setFromSets a table ch i sets) (setAt sets i) ≡ true
+        → upwards above i (suc n) sets count ≡ (sets, count + 1)
     unfolding upwards
     upwards-last b c = rw (b, c)
 
@@ -50,7 +51,8 @@ module _ (a table ch : List ℕ) where
   ended i sets count os = (take i sets ++ map setIn os, count + recomputedIn os)
 
   -- the sets from i on are those stored from node j of the old tree on
-  pub upwards-is : (stored : ℕ → StateSet) (above above′ : ℕ → Bool) (ws : List ℕ) (i j : ℕ) (sets : List StateSet) (count : ℕ) (stack : List StateSet)
+  pub upwards-is : (stored : ℕ → StateSet) (above above′ : ℕ → Bool) (ws : List ℕ) (i j : ℕ) (sets : List StateSet) (count : ℕ)
+      (stack : List StateSet)
       → drop i ch ≡ ws → ((t : ℕ) → above (i + t) ≡ above′ (j + t)) → i ≤ length sets → drop i sets ≡ listFrom stored j (length ws)
       → map (setAt sets) (numbers (arity a) ch i) ≡ stack
       → upwards above i (length ws) sets count ≡ ended i sets count (propagate a table stored above′ j ws stack)
@@ -114,10 +116,12 @@ module _ (a table ch : List ℕ) where
       recomputed-more : (os : List Outcome) → ended (suc i) (set sets i new) (count + 1) os ≡ ended i sets count (recomputed new ∷ os)
       recomputed-more os =
           ap₂ (λ (x : List StateSet) (y : ℕ). (x, y))
-          (ap (λ (t : List StateSet). t ++ map setIn os) (take-suc-set sets i new insideSets) ∙ append-assoc (take i sets) (new ∷ []) (map setIn os))
+          (ap (λ (t : List StateSet). t ++ map setIn os) (take-suc-set sets i new insideSets)
+          ∙ append-assoc (take i sets) (new ∷ []) (map setIn os))
           (add-assoc count 1 (recomputedIn os))
 
-      go : Tested (above′ j) → Tested (sameWords new (stored j)) → Ih sets count (stored j ∷ rest) → Ih (set sets i new) (count + 1) (new ∷ rest)
+      go : Tested (above′ j) → Tested (sameWords new (stored j)) → Ih sets count (stored j ∷ rest)
+          → Ih (set sets i new) (count + 1) (new ∷ rest)
           → upwards above i (suc (length ws)) sets count ≡ ended i sets count (propagate a table stored above′ j (w ∷ ws) stack)
       go (fails b) c ih₁ ih₂ =
           upwards-beside above i (length ws) sets count (above-here ∙ b)
@@ -130,7 +134,8 @@ module _ (a table ch : List ℕ) where
           ∙ ap₂ (λ (x : List StateSet) (y : ℕ). (x, count + y))
           (sym (take-append-drop i sets)
           ∙ ap (λ (t : List StateSet). take i sets ++ t)
-          (r ∙ ap₂ (λ (x : StateSet) (t : List StateSet). x ∷ t) (sym (same-words new (stored j) c)) (sym (sets-kept stored (length ws) (suc j)))))
+          (r ∙ ap₂ (λ (x : StateSet) (t : List StateSet). x ∷ t) (sym (same-words new (stored j) c))
+          (sym (sets-kept stored (length ws) (suc j)))))
           (sym (ap (λ (x : ℕ). 1 + x) (count-kept stored (length ws) (suc j))))
           ∙ ap (ended i sets count) (sym (propagate-last a table stored above′ j w ws stack b c))
       go (holds b) (fails c) ih₁ ih₂ =

@@ -26,15 +26,18 @@ pub fn exchange(
 ) -> Exchanged
     ensures answer { λ r. ⌜
         answerIn r
-        ≡ exchangeAnswer (now (alphabet .entry)) (now (table .entry)) (now (chapter .entry)) (now (marks .entry)) count element (now (replacement .entry))
+        ≡ exchangeAnswer (now (alphabet .entry)) (now (table .entry)) (now (chapter .entry)) (now (marks .entry)) count element
+        (now (replacement .entry))
         ⌝ }
     ensures chapter { λ _. ⌜
         now (chapter .exit)
-        ≡ exchangeChapter (now (alphabet .entry)) (now (table .entry)) (now (chapter .entry)) (now (marks .entry)) count element (now (replacement .entry))
+        ≡ exchangeChapter (now (alphabet .entry)) (now (table .entry)) (now (chapter .entry)) (now (marks .entry)) count element
+        (now (replacement .entry))
         ⌝ }
     ensures marks { λ _. ⌜
         now (marks .exit)
-        ≡ exchangeMarks (now (alphabet .entry)) (now (table .entry)) (now (chapter .entry)) (now (marks .entry)) count element (now (replacement .entry))
+        ≡ exchangeMarks (now (alphabet .entry)) (now (table .entry)) (now (chapter .entry)) (now (marks .entry)) count element
+        (now (replacement .entry))
         ⌝ }
 {
     let fault = exchange_fault(

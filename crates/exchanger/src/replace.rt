@@ -11,7 +11,9 @@ use slices::moves::move_words;
 // Of the slice's words the first `used` are in use. Those from index `end` on move to index `at`; what they leave becomes zero.
 pub(crate) fn move_tail(words: &mut [u32], used: usize, end: usize, at: usize)
     requires { ⌜ TailFits (now words) used end at ⌝ }
-    ensures { λ _. ⌜ now (words .exit) ≡ refit used (take at (now (words .entry)) ++ slice end used (now (words .entry))) (now (words .entry)) ⌝ }
+    ensures { λ _. ⌜
+        now (words .exit) ≡ refit used (take at (now (words .entry)) ++ slice end used (now (words .entry))) (now (words .entry))
+        ⌝ }
 {
     let count = used - end;
     move_words(words, end, at, count);

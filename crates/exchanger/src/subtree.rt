@@ -1,5 +1,5 @@
-// An accepted Exchange: an element's subtree gives way to a replacement. The words and the marks behind it move, the replacement's nodes are
-// worked out, and then ancestors, nearest first; no other node is.
+// An accepted Exchange: an element's subtree gives way to a replacement. The words and the marks behind it move, the
+// replacement's nodes are worked out, and then ancestors, nearest first; no other node is.
 ghost use mathlib.Core.Path.{_≡_};
 ghost use mathlib.Core.List.{[], _∷_, flatten, map};
 ghost use Prim.Native.Nat.{_*_};
@@ -96,20 +96,26 @@ pub(crate) fn replace_subtree(
     ensures answer { λ r. ⌜
         answerIn r
         ≡ accepted
-        (length (newTree (now (alphabet .entry)) (now (table .entry)) (now (chapter .entry)) (now (marks .entry)) count element (now (replacement .entry)))
-        ∷ recomputedIn (outcomes (now (alphabet .entry)) (now (table .entry)) (now (chapter .entry)) (now (marks .entry)) count element (now (replacement .entry)))
+        (length (newTree (now (alphabet .entry)) (now (table .entry)) (now (chapter .entry)) (now (marks .entry)) count element
+        (now (replacement .entry)))
+        ∷ recomputedIn
+        (outcomes (now (alphabet .entry)) (now (table .entry)) (now (chapter .entry)) (now (marks .entry)) count element
+        (now (replacement .entry)))
         ∷ [])
         ⌝ }
     ensures chapter { λ _. ⌜
         now (chapter .exit)
         ≡ refit count
-        (newTree (now (alphabet .entry)) (now (table .entry)) (now (chapter .entry)) (now (marks .entry)) count element (now (replacement .entry)))
+        (newTree (now (alphabet .entry)) (now (table .entry)) (now (chapter .entry)) (now (marks .entry)) count element
+        (now (replacement .entry)))
         (now (chapter .entry))
         ⌝ }
     ensures marks { λ _. ⌜
         now (marks .exit)
         ≡ refit (count * sizeOf (now (table .entry)))
-        (flatten (map setIn (outcomes (now (alphabet .entry)) (now (table .entry)) (now (chapter .entry)) (now (marks .entry)) count element (now (replacement .entry)))))
+        (flatten (map setIn
+        (outcomes (now (alphabet .entry)) (now (table .entry)) (now (chapter .entry)) (now (marks .entry)) count element
+        (now (replacement .entry)))))
         (now (marks .entry))
         ⌝ }
 {

@@ -62,11 +62,13 @@ pub extern "C" fn haqbylur_run(
         ⌝ }
     ensures elements { λ _. ⌜
         now (elements .exit)
-        ≡ valueOr (runAnswer (now (alphabet .entry)) (now (table .entry)) (now (chapter .entry)) (now (marks .entry))) 0 (now (elements .entry))
+        ≡ valueOr (runAnswer (now (alphabet .entry)) (now (table .entry)) (now (chapter .entry)) (now (marks .entry))) 0
+        (now (elements .entry))
         ⌝ }
     ensures cells { λ _. ⌜
         now (cells .exit)
-        ≡ valueOr (runAnswer (now (alphabet .entry)) (now (table .entry)) (now (chapter .entry)) (now (marks .entry))) 1 (now (cells .entry))
+        ≡ valueOr (runAnswer (now (alphabet .entry)) (now (table .entry)) (now (chapter .entry)) (now (marks .entry))) 1
+        (now (cells .entry))
         ⌝ }
 {
     match run(alphabet, table, chapter, marks) {
@@ -97,7 +99,8 @@ pub extern "C" fn haqbylur_list(
         ⌝ }
     ensures hits { λ _. ⌜
         now (hits .exit)
-        ≡ valueOr (listAnswer (now (alphabet .entry)) (now (table .entry)) count (now (marks .entry)) (now (list .entry))) 0 (now (hits .entry))
+        ≡ valueOr (listAnswer (now (alphabet .entry)) (now (table .entry)) count (now (marks .entry)) (now (list .entry))) 0
+        (now (hits .entry))
         ⌝ }
 {
     match matcher::list(alphabet, table, count, marks, list) {
@@ -125,26 +128,31 @@ pub extern "C" fn haqbylur_exchange(
     ensures status { λ r. ⌜
         r
         ≡ statusOf
-        (exchangeAnswer (now (alphabet .entry)) (now (table .entry)) (now (chapter .entry)) (now (marks .entry)) count element (now (replacement .entry)))
+        (exchangeAnswer (now (alphabet .entry)) (now (table .entry)) (now (chapter .entry)) (now (marks .entry)) count element
+        (now (replacement .entry)))
         ⌝ }
     ensures chapter { λ _. ⌜
         now (chapter .exit)
-        ≡ exchangeChapter (now (alphabet .entry)) (now (table .entry)) (now (chapter .entry)) (now (marks .entry)) count element (now (replacement .entry))
+        ≡ exchangeChapter (now (alphabet .entry)) (now (table .entry)) (now (chapter .entry)) (now (marks .entry)) count element
+        (now (replacement .entry))
         ⌝ }
     ensures marks { λ _. ⌜
         now (marks .exit)
-        ≡ exchangeMarks (now (alphabet .entry)) (now (table .entry)) (now (chapter .entry)) (now (marks .entry)) count element (now (replacement .entry))
+        ≡ exchangeMarks (now (alphabet .entry)) (now (table .entry)) (now (chapter .entry)) (now (marks .entry)) count element
+        (now (replacement .entry))
         ⌝ }
     ensures elements { λ _. ⌜
         now (elements .exit)
         ≡ valueOr
-        (exchangeAnswer (now (alphabet .entry)) (now (table .entry)) (now (chapter .entry)) (now (marks .entry)) count element (now (replacement .entry)))
+        (exchangeAnswer (now (alphabet .entry)) (now (table .entry)) (now (chapter .entry)) (now (marks .entry)) count element
+        (now (replacement .entry)))
         0 (now (elements .entry))
         ⌝ }
     ensures worked { λ _. ⌜
         now («worked_out» .exit)
         ≡ valueOr
-        (exchangeAnswer (now (alphabet .entry)) (now (table .entry)) (now (chapter .entry)) (now (marks .entry)) count element (now (replacement .entry)))
+        (exchangeAnswer (now (alphabet .entry)) (now (table .entry)) (now (chapter .entry)) (now (marks .entry)) count element
+        (now (replacement .entry)))
         1 (now («worked_out» .entry))
         ⌝ }
 {

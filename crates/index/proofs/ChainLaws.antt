@@ -8,7 +8,8 @@ use native.Mathlib.Decide.{ℕ-discrete}
 use lib.ListN.{length, getD}
 use lib.Dec.{ltb, leb, eqb}
 use borrow.Author.Tests.{eq-eqb, ne-eqb, eqb-true, eqb-false, leb-true}
-use Rattle.words.specs.Word.{headKind, transitionKind, epsilonKind, numberOf, hasKind, isOf, symbolAbove, countAbove, stateAbove, stateBelow, kindNumber}
+use Rattle.words.specs.Word.{headKind, transitionKind, epsilonKind, numberOf, hasKind}
+use Rattle.words.specs.Word.{isOf, symbolAbove, countAbove, stateAbove, stateBelow, kindNumber}
 use Rattle.words.proofs.TestLaws.{Tested, holds, fails, tested, and-true}
 use Rattle.words.proofs.KindLaws.{isOf-facts}
 use Rattle.automaton.specs.Table.{isHead, areTransitions, isTable}
@@ -67,7 +68,8 @@ pub nextWith : List ℕ → ℕ → ℕ → ℕ
 nextWith table key j = nextBack table key (length table - j)
 
 module _ (table : List ℕ) (key : ℕ) where
-  back-more : (n j : ℕ) → length table - suc n ≡ j → nextBack table key (suc n) ≡ cond (eqb (keyOf (getD table j 0)) key) j (nextBack table key n)
+  back-more : (n j : ℕ) → length table - suc n ≡ j
+      → nextBack table key (suc n) ≡ cond (eqb (keyOf (getD table j 0)) key) j (nextBack table key n)
   unfolding nextBack
   back-more n j e = ap (λ (i : ℕ). cond (eqb (keyOf (getD table i 0)) key) i (nextBack table key n)) e
 

@@ -28,7 +28,9 @@ indexed-length : (table : List ℕ) (i : ℕ) (index : List ℕ) → length (ind
 unfolding indexedAt
 indexed-length table i index = go (ltb (keyOf (getD table i 0)) 1280)
   where
-    go : (b : Bool) → length (cond b (set (set index (1280 + i) (getD index (keyOf (getD table i 0)) 0)) (keyOf (getD table i 0)) i) index) ≡ length index
+    go : (b : Bool)
+        → length (cond b (set (set index (1280 + i) (getD index (keyOf (getD table i 0)) 0)) (keyOf (getD table i 0)) i) index)
+        ≡ length index
     go true = simp length-set
     go false = refl
 
@@ -81,9 +83,11 @@ module _ {table index : List ℕ} {i : ℕ} (s : Indexed table index i) where
 -- the chains of the words from i on
 record Chains (table index : List ℕ) (i : ℕ) : Type 0 where
   first : (key : ℕ) → key < 1280 → getD index key 0 ≡ nextWith table key i
-  next : (m key : ℕ) → i ≤ m → m < length table → keyOf (getD table m 0) ≡ key → key < 1280 → getD index (1280 + m) 0 ≡ nextWith table key (m + 1)
+  next : (m key : ℕ) → i ≤ m → m < length table → keyOf (getD table m 0) ≡ key → key < 1280
+      → getD index (1280 + m) 0 ≡ nextWith table key (m + 1)
 
-module _ (table index : List ℕ) (few : length table ≤ 2048) (size : length index ≡ 3328) (i : ℕ) (inside : i < length table) (c : Chains table index (i + 1)) where
+module _ (table index : List ℕ) (few : length table ≤ 2048) (size : length index ≡ 3328) (i : ℕ) (inside : i < length table)
+    (c : Chains table index (i + 1)) where
   chains-put : (k : ℕ) → keyOf (getD table i 0) ≡ k → k < 1280 → Chains table (set (set index (1280 + i) (getD index k 0)) k i) i
   chains-put k e h = record {
     first = λ key s. first key s (ℕ-discrete key k);
@@ -105,7 +109,8 @@ module _ (table index : List ℕ) (few : length table ≤ 2048) (size : length i
           rw d (getD-set-other after k (1280 + i) i 0 (λ z. omega arith) ∙ getD-set-same index (1280 + i) (getD index k 0) 0 (omega arith)
           ∙ c .first k h ∙ ap (λ (x : ℕ). nextWith table x (i + 1)) (sym e ∙ (rw d at f)))
       next m key l g f s (no d) =
-          getD-set-other after k (1280 + m) i 0 (λ z. omega arith) ∙ getD-set-other index (1280 + i) (1280 + m) (getD index k 0) 0 (λ z. omega arith)
+          getD-set-other after k (1280 + m) i 0 (λ z. omega arith)
+          ∙ getD-set-other index (1280 + i) (1280 + m) (getD index k 0) 0 (λ z. omega arith)
           ∙ c .next m key (omega arith) g f s
 
   chains-kept : 1280 ≤ keyOf (getD table i 0) → Chains table index i
@@ -141,7 +146,8 @@ module _ (table : List ℕ) where
     back-chains (suc n) h =
         let j = length table - suc n in
         let e : length table - n ≡ j + 1 = omega arith in
-        rw (back-more table n j refl) (chains-more table (indexBack table n) few (back-length n) j (omega arith) (rw e at (back-chains n (omega arith))))
+        rw (back-more table n j refl)
+        (chains-more table (indexBack table n) few (back-length n) j (omega arith) (rw e at (back-chains n (omega arith))))
 
   module _ (keyed : Keyed table) where
     chains : Chains table (indexOf table) 0
@@ -153,7 +159,8 @@ module _ (table : List ℕ) where
     pub index-first : (key : ℕ) → key < 1280 → getD (indexOf table) key 0 ≡ nextWith table key 0
     index-first key h = chains .first key h
 
-    pub index-next : (i key : ℕ) → i < length table → keyOf (getD table i 0) ≡ key → key < 1280 → getD (indexOf table) (1280 + i) 0 ≡ nextWith table key (i + 1)
+    pub index-next : (i key : ℕ) → i < length table → keyOf (getD table i 0) ≡ key → key < 1280
+        → getD (indexOf table) (1280 + i) 0 ≡ nextWith table key (i + 1)
     index-next i key l e h = chains .next i key (omega arith) l e h
 
   pub index-length : length (indexOf table) ≡ 3328

@@ -95,7 +95,19 @@ not-twice m = go (constant-under c (only c (Member (fᵉ (con c) (con a)))) (f (
 
 -- "Closure over c of f(c,c) + a has f(c, f(c,c))": c at step 0, f(c,c) at step 1, where c is still
 pub closure-joined : Member (closure c (union (fᵉ (con c) (con c)) (con a))) (f (constant c) (f (constant c) (constant c)))
-closure-joined = (2, inr (f (constant c) (constant c), inl (f-constants c c), atSymbol (atConstant (inl (refl, inl refl))) (atMore (atConstant (inl (refl, first))) atNone)))
+closure-joined = (
+  2,
+  inr (
+    f (constant c) (constant c),
+    inl (f-constants c c),
+    atSymbol (atConstant (inl (refl, inl refl))) (atMore (atConstant (inl (refl, first))) atNone),
+  ),
+)
   where
     first : Step c (λ s. Member (union (fᵉ (con c) (con c)) (con a)) s) 1 (f (constant c) (constant c))
-    first = inr (f (constant c) (constant c), inl (f-constants c c), atSymbol (atConstant (inl (refl, refl))) (atMore (atConstant (inl (refl, refl))) atNone))
+    first =
+        inr (
+          f (constant c) (constant c),
+          inl (f-constants c c),
+          atSymbol (atConstant (inl (refl, refl))) (atMore (atConstant (inl (refl, refl))) atNone),
+        )

@@ -13,7 +13,8 @@ use Rattle.words.specs.Alphabet.{isConstant}
 use Rattle.words.specs.Tree.{Tree, none, more, postfix, postfixAll}
 use Rattle.words.specs.Postfix.{arity, oneTree, stackAfter}
 use Rattle.words.specs.Expression.{namesAt, isExpressionWord}
-use Rattle.language.specs.Expression.{Expression, Expressions, symbol, empty, union, product, closure, noneᵉ, moreᵉ, syntaxTree, syntaxTrees, expressionWords, ExpressionOver, ExpressionsOver, ExpressionOf}
+use Rattle.language.specs.Expression.{Expression, Expressions, symbol, empty, union, product, closure, noneᵉ, moreᵉ}
+use Rattle.language.specs.Expression.{syntaxTree, syntaxTrees, expressionWords, ExpressionOver, ExpressionsOver, ExpressionOf}
 use Rattle.language.specs.Reading.{expressionOn, expressionOf}
 use Rattle.words.proofs.RankedTree.{Ranked, RankedAll}
 use Rattle.words.proofs.TestLaws.{true-and, all-append}
@@ -61,7 +62,8 @@ module _ (a : List ℕ) where
         rw e h
 
     -- two expressions side by side
-    pair-words : (F G : Expression) → all (isExpressionWord a) (expressionWords F) ≡ true → all (isExpressionWord a) (expressionWords G) ≡ true
+    pair-words : (F G : Expression) → all (isExpressionWord a) (expressionWords F) ≡ true
+        → all (isExpressionWord a) (expressionWords G) ≡ true
         → all (isExpressionWord a) (postfixAll (more (syntaxTree F) (more (syntaxTree G) none))) ≡ true
     pair-words F G f g =
         all-append (isExpressionWord a) (expressionWords F) (expressionWords G ++ []) f
@@ -90,7 +92,8 @@ module _ (a : List ℕ) where
       expressions-words : (es : Expressions) → ExpressionsOver a es → all (isExpressionWord a) (postfixAll (syntaxTrees es)) ≡ true
       expressions-words noneᵉ h = refl
       expressions-words (moreᵉ E es) h =
-          all-append (isExpressionWord a) (expressionWords E) (postfixAll (syntaxTrees es)) (expression-words E (h .0)) (expressions-words es (h .1))
+          all-append (isExpressionWord a) (expressionWords E) (postfixAll (syntaxTrees es)) (expression-words E (h .0))
+          (expressions-words es (h .1))
 
     pub expression-oneTree : (E : Expression) → ExpressionOver a E → oneTree a (expressionWords E) ≡ true
     expression-oneTree E h = oneTree-tree (arity a) (syntaxTree E) (ranked-syntax E h)
@@ -101,7 +104,8 @@ module _ (a : List ℕ) where
     -- and words that pass both are those of exactly one
     pub exactly-one-expression : (e : List ℕ) → all (isExpressionWord a) e ≡ true → oneTree a e ≡ true → ExactlyOne (ExpressionOf a e)
     exactly-one-expression e h o =
-        one-along treeExpression syntaxTree (expression-read e h) (expression-tree e) (λ E k. expression-back a m E (k .over)) (exactly-one-tree (arity a) e o)
+        one-along treeExpression syntaxTree (expression-read e h) (expression-tree e) (λ E k. expression-back a m E (k .over))
+        (exactly-one-tree (arity a) e o)
 
     -- which the reading of the words finds
     pub expression-of : (e : List ℕ) (E : Expression) → ExpressionOf a e E → expressionOf a e ≡ E

@@ -12,7 +12,8 @@ use Rattle.words.specs.Alphabet.{rankOf, isConstant}
 use Rattle.words.specs.Tree.{Tree, Trees, node, none, more, number, postfix, postfixAll}
 use Rattle.words.specs.Postfix.{arity}
 use Rattle.words.specs.Expression.{isExpressionWord}
-use Rattle.language.specs.Expression.{Expression, Expressions, symbol, empty, union, product, closure, noneᵉ, moreᵉ, numberᵉ, syntaxTree, syntaxTrees, ExpressionOver, ExpressionsOver}
+use Rattle.language.specs.Expression.{Expression, Expressions, symbol, empty, union, product, closure, noneᵉ}
+use Rattle.language.specs.Expression.{moreᵉ, numberᵉ, syntaxTree, syntaxTrees, ExpressionOver, ExpressionsOver}
 use Rattle.language.specs.Reading.{childrenᵉ, ofKind, expressionOn}
 use Rattle.words.proofs.RankedTree.{Ranked, RankedAll}
 use Rattle.words.proofs.TreeFold.{fold, foldAll}
@@ -47,7 +48,8 @@ module _ (a : List ℕ) where
   bare w k f l = let e : 0 ≡ bodyOf w = omega arith in ap (wordOf k) e ∙ sym f
 
   module _ (w : ℕ) where
-    root-symbol : (es : List Expression) → IsExpressionWord a w symbolKind → lowByte w < length a → rankOf a (lowByte w) ≡ numberᵉ (childrenᵉ es)
+    root-symbol : (es : List Expression) → IsExpressionWord a w symbolKind → lowByte w < length a
+        → rankOf a (lowByte w) ≡ numberᵉ (childrenᵉ es)
         → ExpressionsOver a (childrenᵉ es) → Root w es symbolKind
     root-symbol es f s r o =
         record { over = (s, r, o); tree = ap (λ (x : ℕ). node x (syntaxTrees (childrenᵉ es))) (named w symbolKind (f .word) (f .body)) }
@@ -56,7 +58,8 @@ module _ (a : List ℕ) where
     root-empty [] f r = record { over = tt; tree = ap (λ (x : ℕ). node x none) (bare w emptyKind (f .word) (f .body)) }
     root-empty (E ∷ es) f r = absurd (omega arith)
 
-    root-union : (es : List Expression) → IsExpressionWord a w unionKind → 2 ≡ numberᵉ (childrenᵉ es) → ExpressionsOver a (childrenᵉ es) → Root w es unionKind
+    root-union : (es : List Expression) → IsExpressionWord a w unionKind → 2 ≡ numberᵉ (childrenᵉ es) → ExpressionsOver a (childrenᵉ es)
+        → Root w es unionKind
     root-union [] f r o = absurd (omega arith)
     root-union (F ∷ []) f r o = absurd (omega arith)
     root-union (F ∷ G ∷ []) f r o =
@@ -84,7 +87,8 @@ module _ (a : List ℕ) where
         record { over = (c, o .0); tree = ap (λ (x : ℕ). node x (more (syntaxTree F) none)) (named w closureKind (f .word) (f .body)) }
     root-closure (F ∷ G ∷ es) f c r o = absurd (omega arith)
 
-    root : (es : List Expression) → isExpressionWord a w ≡ true → arity a w ≡ numberᵉ (childrenᵉ es) → ExpressionsOver a (childrenᵉ es) → Root w es (kindOf w)
+    root : (es : List Expression) → isExpressionWord a w ≡ true → arity a w ≡ numberᵉ (childrenᵉ es) → ExpressionsOver a (childrenᵉ es)
+        → Root w es (kindOf w)
     root es h n o = go (expressionWord a w h)
       where
         facts : (k : Kind) → kindOf w ≡ k → IsExpressionWord a w k

@@ -84,7 +84,8 @@ module _ (a : List ℕ) where
       nodes-wordsAll : (ts : Trees) → TreesOver a ts → all (isNode a) (postfixAll (relabelAll (λ s. wordOf nodeKind s) ts)) ≡ true
       nodes-wordsAll none h = refl
       nodes-wordsAll (more t ts) h =
-          all-append (isNode a) (postfix (wordTree t)) (postfixAll (relabelAll (λ s. wordOf nodeKind s) ts)) (nodes-words t (h .0)) (nodes-wordsAll ts (h .1))
+          all-append (isNode a) (postfix (wordTree t)) (postfixAll (relabelAll (λ s. wordOf nodeKind s) ts)) (nodes-words t (h .0))
+          (nodes-wordsAll ts (h .1))
 
     mutual
       symbols-back : (t : Tree) → TreeOver a t → symbolTree (wordTree t) ≡ t

@@ -23,8 +23,10 @@ use Rattle.language.proofs.SubjectLaws.{wordTree, subject-words, exactl
 -- the words of a subtree are nodes
 pub subtree-nodes : (a ch : List ℕ) (i : ℕ) → all (isNode a) ch ≡ true → all (isNode a) (subtreeOf a ch i) ≡ true
 subtree-nodes a ch i h =
-    let l : all (isNode a) (take (i + 1) ch) ≡ true = all-left (isNode a) (take (i + 1) ch) (drop (i + 1) ch) (rw (take-append-drop (i + 1) ch) h) in
-    all-right (isNode a) (take (startOf a ch i) (take (i + 1) ch)) (subtreeOf a ch i) (rw (take-append-drop (startOf a ch i) (take (i + 1) ch)) l)
+    let l : all (isNode a) (take (i + 1) ch) ≡ true =
+    all-left (isNode a) (take (i + 1) ch) (drop (i + 1) ch) (rw (take-append-drop (i + 1) ch) h) in
+    all-right (isNode a) (take (startOf a ch i) (take (i + 1) ch)) (subtreeOf a ch i)
+    (rw (take-append-drop (startOf a ch i) (take (i + 1) ch)) l)
 
 module _ (a : List ℕ) (m : length a ≤ 64) where
   pub exactly-one-subtree : (ch : List ℕ) (i : ℕ) → all (isNode a) ch ≡ true → oneTree a ch ≡ true → i < length ch

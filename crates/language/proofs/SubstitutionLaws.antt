@@ -7,7 +7,8 @@ use native.Mathlib.Decide.{le-ind}
 use native.Mathlib.Nat.{le-max-left, le-max-right}
 use Rattle.words.specs.Tree.{Tree, Trees, node, none, more}
 use Rattle.language.specs.Expression.{symbol, noneᵉ}
-use Rattle.language.specs.Membership.{Language, constant, Assignment, only, Substitution, Substitutions, atConstant, atSymbol, atNone, atMore, Product, Step, Closure, Member}
+use Rattle.language.specs.Membership.{Language, constant, Assignment, only, Substitution, Substitutions}
+use Rattle.language.specs.Membership.{atConstant, atSymbol, atNone, atMore, Product, Step, Closure, Member}
 
 -- every constant stands for itself
 abbrev pub itself : Assignment
@@ -60,7 +61,8 @@ module _ {τ σ : Assignment} where
         let r = substitutions-split ps in
         (node f (more (q .0) (r .0)), atSymbol (q .1) (r .1), atSymbol (q .2) (r .2))
 
-    pub substitutions-split : {vs ts : Trees} → Substitutions (Then τ σ) vs ts → (us : Trees) × Substitutions τ vs us × Substitutions σ us ts
+    pub substitutions-split : {vs ts : Trees} → Substitutions (Then τ σ) vs ts
+        → (us : Trees) × Substitutions τ vs us × Substitutions σ us ts
     substitutions-split atNone = (none, atNone, atNone)
     substitutions-split (atMore p ps) =
         let q = substitution-split p in
@@ -110,15 +112,21 @@ module _ {S : ℕ → Assignment} (grows : (n m : ℕ) → n ≤ m → Within (S
     substitution-step (atConstant s) = (s .0, atConstant (s .1))
     substitution-step (atSymbol p q) =
         let (n, x) = substitution-step p in
-        let (m, y) = substitutions-step q in
-        (max n m, atSymbol (substitution-within (grows n (max n m) (le-max-left n m)) x) (substitutions-within (grows m (max n m) (le-max-right n m)) y))
+        let (m, y) = substitutions-step q in (
+          max n m,
+          atSymbol (substitution-within (grows n (max n m) (le-max-left n m)) x)
+              (substitutions-within (grows m (max n m) (le-max-right n m)) y),
+        )
 
     pub substitutions-step : {us ts : Trees} → Substitutions (λ a s. (n : ℕ) × S n a s) us ts → (n : ℕ) × Substitutions (S n) us ts
     substitutions-step atNone = (0, atNone)
     substitutions-step (atMore p q) =
         let (n, x) = substitution-step p in
-        let (m, y) = substitutions-step q in
-        (max n m, atMore (substitution-within (grows n (max n m) (le-max-left n m)) x) (substitutions-within (grows m (max n m) (le-max-right n m)) y))
+        let (m, y) = substitutions-step q in (
+          max n m,
+          atMore (substitution-within (grows n (max n m) (le-max-left n m)) x)
+              (substitutions-within (grows m (max n m) (le-max-right n m)) y),
+        )
 
 -- ---- a product under σ is F under σ with G under σ for c
 

@@ -16,7 +16,8 @@ use Rattle.encoding.proofs.ByteWritingLaws.{bytes-written-none, bytes-written-m
 -- ---- lines
 
 module _ {out o₁ o₂ : List ℕ} {n₁ r : ℕ} (number : ℕ) where
-  pub refused-written : BytesWritten 0 refusedText out o₁ n₁ → BytesWritten n₁ (field number newline) o₁ o₂ r → BytesWritten 0 (refusedLine number) out o₂ r
+  pub refused-written : BytesWritten 0 refusedText out o₁ n₁ → BytesWritten n₁ (field number newline) o₁ o₂ r
+      → BytesWritten 0 (refusedLine number) out o₂ r
   unfolding refusedLine
   refused-written p q = bytes-written-more p q
 
@@ -25,11 +26,13 @@ module _ {out o₁ o₂ o₃ o₄ o₅ o₆ : List ℕ} {n₁ n₂ n₃ n₄ n�
       → BytesWritten n₃ (field states space) o₃ o₄ n₄ → BytesWritten n₄ hitsText o₄ o₅ n₅ → BytesWritten n₅ (field hits newline) o₅ o₆ r
       → BytesWritten 0 (headLine nodes states hits) out o₆ r
   unfolding headLine
-  head-written p q s t u v = bytes-written-more (bytes-written-more (bytes-written-more (bytes-written-more (bytes-written-more p q) s) t) u) v
+  head-written p q s t u v =
+      bytes-written-more (bytes-written-more (bytes-written-more (bytes-written-more (bytes-written-more p q) s) t) u) v
 
 module _ {out o₁ o₂ o₃ : List ℕ} {at n₁ n₂ r : ℕ} (a ch : List ℕ) (i : ℕ) where
   pub hit-written : (symbol start : ℕ) → symbol ≡ symbolOf (getD ch i 0) → start ≡ startOf a ch i
-      → BytesWritten at (field i space) out o₁ n₁ → BytesWritten n₁ (field symbol space) o₁ o₂ n₂ → BytesWritten n₂ (field (i + 1 - start) newline) o₂ o₃ r
+      → BytesWritten at (field i space) out o₁ n₁ → BytesWritten n₁ (field symbol space) o₁ o₂ n₂
+      → BytesWritten n₂ (field (i + 1 - start) newline) o₂ o₃ r
       → BytesWritten at (hitLine a ch i) out o₃ r
   unfolding hitLine
   hit-written symbol start e f p q s = rw (← e, ← f) (bytes-written-more (bytes-written-more p q) s)
@@ -44,7 +47,8 @@ pub hitLines-more : (a ch is : List ℕ) (j : ℕ) → hitLines a ch (is ++ j �
 unfolding hitLines
 hitLines-more a ch [] j = append-nil (hitLine a ch j)
 hitLines-more a ch (i ∷ is) j =
-    ap (λ (l : List ℕ). hitLine a ch i ++ l) (hitLines-more a ch is j) ∙ sym (append-assoc (hitLine a ch i) (hitLines a ch is) (hitLine a ch j))
+    ap (λ (l : List ℕ). hitLine a ch i ++ l) (hitLines-more a ch is j)
+    ∙ sym (append-assoc (hitLine a ch i) (hitLines a ch is) (hitLine a ch j))
 
 pub record Hit (a ch hits : List ℕ) (at : ℕ) (out₀ out : List ℕ) (next i : ℕ) : Type 0 where
   pub few : i ≤ length hits
@@ -70,5 +74,6 @@ module _ (a ch hits : List ℕ) (at : ℕ) (out₀ : List ℕ) where
             ∙ hitLines-more a ch (take i hits) (getD hits i 0)));
       }
 
-  pub hit-end : (out : List ℕ) (next i : ℕ) → Hit a ch hits at out₀ out next i → length hits ≤ i → BytesWritten at (hitLines a ch hits) out₀ out next
+  pub hit-end : (out : List ℕ) (next i : ℕ) → Hit a ch hits at out₀ out next i → length hits ≤ i
+      → BytesWritten at (hitLines a ch hits) out₀ out next
   hit-end out next i t h = bytes-written-same (t .written) (ap (hitLines a ch) (take-all i hits h))

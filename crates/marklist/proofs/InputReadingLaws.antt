@@ -33,7 +33,8 @@ module _ (count : ℕ) (words₀ : List ℕ) where
 
   -- the next part, of which there are as many bytes as asked for
   pub so-far-more : (words : List ℕ) (seen : ℕ) → SoFar count words₀ words seen → seen < count
-      → (part words′ : List ℕ) (n : ℕ) → n ≡ 4 * min (count - seen) 1024 → n ≡ length part → words′ ≡ sets words seen (wordsIn part) → areBytes part ≡ true
+      → (part words′ : List ℕ) (n : ℕ) → n ≡ 4 * min (count - seen) 1024 → n ≡ length part → words′ ≡ sets words seen (wordsIn part)
+      → areBytes part ≡ true
       → SoFar count words₀ words′ (seen + n / 4)
   so-far-more words seen s h part words′ n e l q b =
       let t = s .stored in

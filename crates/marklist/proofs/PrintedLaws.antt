@@ -34,7 +34,8 @@ module _ {count : ℕ} {before after : List ℕ} (s : Stored count before after)
 pub kept-fit : {n m sliceLength : ℕ} (count : ℕ) → n ≡ min count sliceLength → m ≡ sliceLength → n ≤ m
 kept-fit count e long = omega arith
 
-pub kept-long : {n sliceLength : ℕ} (count : ℕ) (words : List ℕ) → n ≡ min count sliceLength → length words ≡ sliceLength → n ≡ length (take n words)
+pub kept-long : {n sliceLength : ℕ} (count : ℕ) (words : List ℕ) → n ≡ min count sliceLength → length words ≡ sliceLength
+    → n ≡ length (take n words)
 kept-long {n} count words e long = sym (length-take-le n words (kept-fit count e long))
 
 three : (l : List ℕ) → length l ≡ 3 → l ≡ getD l 0 0 ∷ getD l 1 0 ∷ getD l 2 0 ∷ []
@@ -50,7 +51,8 @@ counts-are {before} {after} s e =
     let l : length after ≡ 3 = ap length (s .same) ∙ length-sets before 0 (wordsIn (s .bytes)) ∙ e in
     let n = count-words s in
     let m : min 3 (length before) ≡ 3 = omega arith in
-    sym (take-all 3 after (omega arith)) ∙ ap (λ (i : ℕ). take i after) (sym m) ∙ lent-words s ∙ take-all (length before) (wordsIn (s .bytes)) (omega arith)
+    sym (take-all 3 after (omega arith)) ∙ ap (λ (i : ℕ). take i after) (sym m) ∙ lent-words s
+    ∙ take-all (length before) (wordsIn (s .bytes)) (omega arith)
 
 -- ---- all parts
 
@@ -80,9 +82,11 @@ module _ (counts₀ counts alphabet₀ alphabet rule₀ rule chapter₀ chapter 
       ∙ ap (λ (x : List ℕ). wordsIn (t .bytes) ++ x) (sym (append-nil (wordsIn (u .bytes))))))
 
   pub all-printed : programOutput allBytes
-      ≡ outputOf true (take (min (getD counts 0 0) 65) alphabet) (take (min (getD counts 1 0) 65) rule) (take (min (getD counts 2 0) 257) chapter)
+      ≡ outputOf true (take (min (getD counts 0 0) 65) alphabet) (take (min (getD counts 1 0) 65) rule)
+      (take (min (getD counts 2 0) 257) chapter)
   all-printed =
-      program-complete allBytes (getD counts 0 0) (getD counts 1 0) (getD counts 2 0) (wordsIn (s .bytes)) (wordsIn (t .bytes)) (wordsIn (u .bytes)) []
+      program-complete allBytes (getD counts 0 0) (getD counts 1 0) (getD counts 2 0) (wordsIn (s .bytes)) (wordsIn (t .bytes))
+      (wordsIn (u .bytes)) []
       all-words (count-words s) (count-words t) (count-words u)
       ∙ sym (rw (lent s symbols, lent t words, lent u nodes))
     where
@@ -114,7 +118,8 @@ module _ {counts alphabet rule chapter : List ℕ} {b₁ b₂ b₃ b₄ : Bool}
   read-input : b₄ ≡ true → (input : List ℕ)
       × (areBytes input ≡ true)
       × (programOutput input
-      ≡ outputOf true (take (min (getD counts 0 0) 65) alphabet) (take (min (getD counts 1 0) 65) rule) (take (min (getD counts 2 0) 257) chapter))
+      ≡ outputOf true (take (min (getD counts 0 0) 65) alphabet) (take (min (getD counts 1 0) 65) rule)
+      (take (min (getD counts 2 0) 257) chapter))
   read-input e =
       let u = fourth e in
       let t = third (u .0) in
@@ -125,7 +130,8 @@ module _ {counts alphabet rule chapter : List ℕ} {b₁ b₂ b₃ b₄ : Bool}
         all-printed _ _ _ _ _ _ _ _ (many 3) (many 65) (many 65) (many 257) (c .1) (s .1) (t .1) (u .1),
       )
 
-  pub answered : {n m k r : ℕ} {out₀ out : List ℕ} → n ≡ min (getD counts 0 0) 65 → m ≡ min (getD counts 1 0) 65 → k ≡ min (getD counts 2 0) 257
+  pub answered : {n m k r : ℕ} {out₀ out : List ℕ} → n ≡ min (getD counts 0 0) 65 → m ≡ min (getD counts 1 0) 65
+      → k ≡ min (getD counts 2 0) 257
       → r ≡ length (outputOf b₄ (take n alphabet) (take m rule) (take k chapter))
       → out ≡ outputOf b₄ (take n alphabet) (take m rule) (take k chapter) ++ drop r out₀ → Printed out₀ out r
   answered x y z long same = printed b₄ _ _ _ _ _ _ (λ e. rw (x, y, z) (read-input e)) long same

@@ -23,6 +23,8 @@ run-workable a table ch marksLength h =
     }
 
 -- node i's words lie inside the marks
-pub list-row : (a table : List ℕ) (n marksLength listLength : ℕ) → listFault a table n marksLength listLength ≡ 0 → (size : ℕ) → size ≡ sizeOf table
+pub list-row : (a table : List ℕ) (n marksLength listLength : ℕ) → listFault a table n marksLength listLength ≡ 0 → (size : ℕ)
+    → size ≡ sizeOf table
     → (i : ℕ) → i < n → i * size + size ≤ marksLength
-list-row a table n marksLength listLength h size s i l = row-inside i n size marksLength l (rw s (list-accepted a table n marksLength listLength h .marks))
+list-row a table n marksLength listLength h size s i l =
+    row-inside i n size marksLength l (rw s (list-accepted a table n marksLength listLength h .marks))

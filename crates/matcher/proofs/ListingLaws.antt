@@ -22,7 +22,8 @@ module _ (final : ℕ) where
   matches-append [] k i = rw (add-zero i)
   matches-append (r ∷ l) k i =
       ap (λ (t : List ℕ). cond (contains r final) (i ∷ t) t)
-      (matches-append l k (suc i) ∙ ap (λ (j : ℕ). matchesIn final (suc i) l ++ matchesIn final j k) (suc-add i (length l) ∙ sym (add-suc i (length l))))
+      (matches-append l k (suc i)
+      ∙ ap (λ (j : ℕ). matchesIn final (suc i) l ++ matchesIn final j k) (suc-add i (length l) ∙ sym (add-suc i (length l))))
       ∙ go (contains r final) (matchesIn final (suc i) l) (matchesIn final (i + suc (length l)) k)
     where
       go : (b : Bool) (u v : List ℕ) → cond b (i ∷ (u ++ v)) (u ++ v) ≡ cond b (i ∷ u) u ++ v
@@ -56,7 +57,8 @@ module _ (table marks : List ℕ) where
   abbrev stored : ℕ → StateSet
   stored = storedSet (sizeOf table) marks
 
-  pub matchesOf-more : (i : ℕ) → matchesOf table (i + 1) marks ≡ matchesOf table i marks ++ matchesIn (finalOf table) i (storedSet (sizeOf table) marks i ∷ [])
+  pub matchesOf-more : (i : ℕ)
+      → matchesOf table (i + 1) marks ≡ matchesOf table i marks ++ matchesIn (finalOf table) i (storedSet (sizeOf table) marks i ∷ [])
   unfolding matchesOf
   matchesOf-more i =
       let n : 0 + length (listFrom stored 0 i) ≡ i = zero-add _ ∙ length-listFrom stored i 0 in
@@ -69,7 +71,8 @@ module _ (table marks : List ℕ) where
     unfolding matchesOf matchesIn
     found-none = record { long = refl; count = refl; words = refl }
 
-    pub found-more : (list : List ℕ) (found i : ℕ) (list′ : List ℕ) (found′ : ℕ) (set : StateSet) (last : ℕ) → FoundMatches table marks list₀ list found i
+    pub found-more : (list : List ℕ) (found i : ℕ) (list′ : List ℕ) (found′ : ℕ) (set : StateSet) (last : ℕ)
+        → FoundMatches table marks list₀ list found i
         → set ≡ storedSet (sizeOf table) marks i → last ≡ finalOf table → i < length list₀
         → found′ ≡ found + length (matchesIn last i (set ∷ [])) → list′ ≡ sets list found (matchesIn last i (set ∷ []))
         → length list′ ≡ length list → FoundMatches table marks list₀ list′ found′ (i + 1)
@@ -97,7 +100,8 @@ module _ (table marks : List ℕ) where
               ∙ ap (λ (l : List ℕ). l ++ drop (length l) list₀) (sym more);
         }
 
-    pub found-end : (list : List ℕ) (found i n : ℕ) → FoundMatches table marks list₀ list found i → i ≤ n → n ≤ i → FoundMatches table marks list₀ list found n
+    pub found-end : (list : List ℕ) (found i n : ℕ) → FoundMatches table marks list₀ list found i → i ≤ n → n ≤ i
+        → FoundMatches table marks list₀ list found n
     found-end list found i n g h l =
         let q : i ≡ n = omega arith in
         rw (← q) g

@@ -33,7 +33,8 @@ pub tree-index : {a table ch : List ℕ} {marksLength : ℕ} → Workable a tabl
 tree-index g = record { few = table-few g; zeros = refl }
 
 pub tree-nodes : {a table ch marks : List ℕ} → Workable a table ch (length marks) → {index : List ℕ} → index ≡ indexOf table
-    → AtNodes a table index ch 0 (length ch) marks (replicate 4100 0) 4 (replicate 1024 0) (replicate 1024 0) (replicate 1021 0) (replicate 64 0) (replicate 2048 0) (replicate 1024 0)
+    → AtNodes a table index ch 0 (length ch) marks (replicate 4100 0) 4 (replicate 1024 0) (replicate 1024 0) (replicate 1021 0)
+    (replicate 64 0) (replicate 2048 0) (replicate 1024 0)
 tree-nodes {a} {ch = ch} g e =
     record {
       workable = g;
@@ -43,8 +44,10 @@ tree-nodes {a} {ch = ch} g e =
       prepared = nothing-prepared (length-replicate {A = ℕ} 4100 0) (omega arith) (held-none a ch);
     }
 
-pub tree-marked : (a table ch marks marks′ : List ℕ) → marks′ ≡ markedFrom a table ch 0 (length ch - 0) marks → marks′ ≡ markedFrom a table ch 0 (length ch) marks
-tree-marked a table ch marks marks′ e = let z : length ch - 0 ≡ length ch = omega arith in e ∙ ap (λ (n : ℕ). markedFrom a table ch 0 n marks) z
+pub tree-marked : (a table ch marks marks′ : List ℕ) → marks′ ≡ markedFrom a table ch 0 (length ch - 0) marks
+    → marks′ ≡ markedFrom a table ch 0 (length ch) marks
+tree-marked a table ch marks marks′ e =
+    let z : length ch - 0 ≡ length ch = omega arith in e ∙ ap (λ (n : ℕ). markedFrom a table ch 0 n marks) z
 
 -- the nodes one after the other leave what the definition says
 marked-run : (a table ch marks : List ℕ) → length ch * sizeOf table ≤ length marks
@@ -57,7 +60,8 @@ marked-run a table ch marks h =
     let rest = drop (n * size) marks in
     let m : length old ≡ n = length-listFrom (storedSet size marks) n 0 in
     let z : 0 + n ≡ n = zero-add n in
-    let w : Recomputing a table ch old 0 [] n (workedFrom a table ch 0 n old) = worked-is a table ch old 0 [] n (omega arith) (omega arith) refl in
+    let w : Recomputing a table ch old 0 [] n (workedFrom a table ch 0 n old) =
+    worked-is a table ch old 0 [] n (omega arith) (omega arith) refl in
     markedFrom-rows a table ch marks old rest 0 n (holding-stored size marks n h) (omega arith) (omega arith) .words
     ∙ ap (λ (rows : List StateSet). flatten rows ++ rest)
     (w .sets-are
@@ -94,9 +98,11 @@ module _ (a table ch marks : List ℕ) (h : runFault a table ch (length marks) �
 module _ (a table ch marks : List ℕ) (f : ℕ) (e : f ≡ runFault a table ch (length marks)) where
   pub run-refused : (f ≡ 0 → ⊥) → (refused f ≡ runAnswer a table ch marks) × (marks ≡ runExit a table ch marks)
   unfolding runAnswer runExit
-  run-refused h = (answer-refused f (runFault a table ch (length marks)) e _ h, exit-refused f (runFault a table ch (length marks)) e _ marks h)
+  run-refused h =
+      (answer-refused f (runFault a table ch (length marks)) e _ h, exit-refused f (runFault a table ch (length marks)) e _ marks h)
 
-  pub run-accepts : f ≡ 0 → (cells : ℕ) (marks′ : List ℕ) → cells ≡ cellsIn (flatten (nodeSets a table ch)) → marks′ ≡ runMarks a table ch marks
+  pub run-accepts : f ≡ 0 → (cells : ℕ) (marks′ : List ℕ) → cells ≡ cellsIn (flatten (nodeSets a table ch))
+      → marks′ ≡ runMarks a table ch marks
       → (accepted (length ch ∷ cells ∷ []) ≡ runAnswer a table ch marks) × (marks′ ≡ runExit a table ch marks)
   unfolding runAnswer runExit
   run-accepts h cells marks′ c m = (

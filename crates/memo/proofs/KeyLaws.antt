@@ -84,7 +84,8 @@ shifted a b c d x y z u (suc (suc (suc (suc zero)))) h = omega arith
 shifted a b c d x y z u (suc (suc (suc (suc (suc k))))) h = absurd (omega arith)
 
 pub pack-is : {four : List ℕ} {rank : ℕ} → Packable four rank
-    → ((((getD four 3 0 + 1) * 8192 + (getD four 2 0 + 1)) * 8192 + (getD four 1 0 + 1)) * 8192 + (getD four 0 0 + 1)) / 2 ^ ((4 - rank) * 13)
+    → ((((getD four 3 0 + 1) * 8192 + (getD four 2 0 + 1)) * 8192 + (getD four 1 0 + 1)) * 8192 + (getD four 0 0 + 1)) / 2 ^
+    ((4 - rank) * 13)
     ≡ packed (drop (4 - rank) four)
 pack-is {four} {rank} g = go four (g .length-is) (g .below)
   where
@@ -103,7 +104,9 @@ pub key-few : {f : ℕ} {four : List ℕ} {rank : ℕ} → Keyable f four rank �
 key-few {f} {four} {rank} g =
     let s = g .symbol in
     let e = g .nodes .length-is in
-    let n = packed-few (drop (4 - rank) four) (rw (length-drop (4 - rank) four) (omega arith)) (below-drop 4096 (4 - rank) four (g .nodes .below)) in
+    let n =
+    packed-few (drop (4 - rank) four) (rw (length-drop (4 - rank) four) (omega arith))
+    (below-drop 4096 (4 - rank) four (g .nodes .below)) in
     omega arith
 
 pub key-is : (f : ℕ) (cs : List ℕ) (number : ℕ) → number ≡ packed cs → number * 512 + f + 1 ≡ stepKey f cs

@@ -20,12 +20,14 @@ pub length-setOver : (table : List ℕ) (f : ℕ) (marks cs : List ℕ) → leng
 unfolding setOver sizeOf
 length-setOver table f marks cs = length-stateSet _ f _
 
-pub size-few : {table index : List ℕ} {f : ℕ} {marks cs : List ℕ} {i : ℕ} {places owners rows pending : List ℕ} → AtNew table index f marks cs i places owners rows pending
+pub size-few : {table index : List ℕ} {f : ℕ} {marks cs : List ℕ} {i : ℕ} {places owners rows pending : List ℕ}
+    → AtNew table index f marks cs i places owners rows pending
     → sizeOf table ≤ 32
 unfolding sizeOf
 size-few {table} g = let r = g .steppable .prepared .ready in isTable-sizes (r .alphabet) table (r .checked) .size-most
 
-module _ {table index : List ℕ} {f : ℕ} {marks cs : List ℕ} {i : ℕ} {places owners rows pending : List ℕ} (g : AtNew table index f marks cs i places owners rows pending)
+module _ {table index : List ℕ} {f : ℕ} {marks cs : List ℕ} {i : ℕ} {places owners rows pending : List ℕ}
+    (g : AtNew table index f marks cs i places owners rows pending)
     (set : StateSet) (e : set ≡ stateSet (automatonOf table) f (childSets (sizeOf table) marks cs) ++ replicate (32 - sizeOf table) 0)
     (size : ℕ) (s : size ≡ sizeOf table) where
   abbrev v : StateSet

@@ -22,7 +22,8 @@ use Rattle.memo.proofs.MarkingLaws.{length-setOver, size-few}
 
 -- an array of zeros of every kind: nothing is remembered
 pub nothing-remembered : (table marks : List ℕ) (i : ℕ)
-    → Remembered table marks i (replicate 1024 0) (replicate 1024 0) (replicate 1021 0) (replicate 64 0) (replicate 2048 0) (replicate 1024 0)
+    → Remembered table marks i (replicate 1024 0) (replicate 1024 0) (replicate 1021 0) (replicate 64 0) (replicate 2048 0)
+    (replicate 1024 0)
 nothing-remembered table marks i = record {
   memo = record {
     keys-are = length-replicate {A = ℕ} 1024 0;
@@ -58,7 +59,8 @@ remembered-later {table} {marks} {i} {keys} {nodes} g = record {
 
 -- ---- node i's words are written
 
-module _ (table marks : List ℕ) (i : ℕ) (v : StateSet) (e : length v ≡ sizeOf table) (inside : i * sizeOf table + sizeOf table ≤ length marks)
+module _ (table marks : List ℕ) (i : ℕ) (v : StateSet) (e : length v ≡ sizeOf table)
+    (inside : i * sizeOf table + sizeOf table ≤ length marks)
     (marks′ : List ℕ) (w : marks′ ≡ paste marks (i * sizeOf table) v (sizeOf table)) where
   pub stored-kept : (j : ℕ) → j < i → storedSet (sizeOf table) marks′ j ≡ storedSet (sizeOf table) marks j
   stored-kept j l =
@@ -104,7 +106,8 @@ module _ {table index : List ℕ} {f : ℕ} {marks four : List ℕ} {rank i : �
       abbrev node : ℕ
       node = getD nodes s 0
 
-      pub slot-found : (getD nodes s 0 < i) × (storedSet (sizeOf table) marks (getD nodes s 0) ≡ setOver table f marks (drop (4 - rank) four))
+      pub slot-found : (getD nodes s 0 < i)
+          × (storedSet (sizeOf table) marks (getD nodes s 0) ≡ setOver table f marks (drop (4 - rank) four))
       slot-found = go (g .remembered .memo .slots s l)
         where
           go : Slot table marks i (getD keys s 0) (getD nodes s 0)
@@ -139,7 +142,9 @@ module _ {table index : List ℕ} {f : ℕ} {marks four : List ℕ} {rank i : �
         pub found-next : (marks′ : List ℕ) → marks′ ≡ paste marks (i * n) (take n (drop (getD nodes s 0 * n) marks)) n
             → MarkedNext table f marks (drop (4 - rank) four) i marks′ (getD nodes s 0) keys nodes places owners rows pending
         found-next marks′ q =
-            let w : marks′ ≡ paste marks (i * size) v size = q ∙ ap (λ (x : ℕ). paste marks (i * x) (take x (drop (node * x) marks)) x) sn ∙ ap (λ (x : List ℕ). paste marks (i * size) x size) stored in
+            let w : marks′ ≡ paste marks (i * size) v size =
+            q ∙ ap (λ (x : ℕ). paste marks (i * x) (take x (drop (node * x) marks)) x) sn
+            ∙ ap (λ (x : List ℕ). paste marks (i * size) x size) stored in
             let row = g .new .row in
             let m = slot-found .0 in
             let len = length-setOver table f marks cs in
@@ -153,7 +158,8 @@ module _ {table index : List ℕ} {f : ℕ} {marks four : List ℕ} {rank i : �
                 memo = record {
                   keys-are = g .remembered .memo .keys-are;
                   nodes-are = g .remembered .memo .nodes-are;
-                  slots = λ t h. slot-kept table marks i v len row marks′ w (getD keys t 0) (getD nodes t 0) (g .remembered .memo .slots t h);
+                  slots =
+                      λ t h. slot-kept table marks i v len row marks′ w (getD keys t 0) (getD nodes t 0) (g .remembered .memo .slots t h);
                 };
                 places-are = g .remembered .places-are;
                 closures = g .remembered .closures;
@@ -163,7 +169,8 @@ module _ {table index : List ℕ} {f : ℕ} {marks four : List ℕ} {rank i : �
 
     -- node i was worked out, and the step is remembered in this slot
     pub stored-next : (r : ℕ) (marks′ : List ℕ) → MarkedNew table f marks (take (4 - (4 - rank)) (drop (4 - rank) four)) i marks′ r
-        → {places′ owners′ rows′ pending′ : List ℕ} → length places′ ≡ length places → Closures table owners′ rows′ → length pending′ ≡ length pending
+        → {places′ owners′ rows′ pending′ : List ℕ} → length places′ ≡ length places → Closures table owners′ rows′
+        → length pending′ ≡ length pending
         → MarkedNext table f marks (drop (4 - rank) four) i marks′ r (set keys s key) (set nodes s r) places′ owners′ rows′ pending′
     stored-next r marks′ n₀ p c q = record {
       new = n;
@@ -194,4 +201,5 @@ module _ {table index : List ℕ} {f : ℕ} {marks four : List ℕ} {rank i : �
             (n .same ∙ sym (set-kept table marks i v len (g .new .row) marks′ (n .words) f cs (g .below))))
         go t h (no e) =
             rw (getD-set-other keys s t key 0 e, getD-set-other nodes s t r 0 e)
-            (slot-kept table marks i v len (g .new .row) marks′ (n .words) (getD keys t 0) (getD nodes t 0) (g .remembered .memo .slots t h))
+            (slot-kept table marks i v len (g .new .row) marks′ (n .words) (getD keys t 0) (getD nodes t 0)
+            (g .remembered .memo .slots t h))

@@ -18,7 +18,8 @@ module _ {marks set : List ℕ} {i : ℕ} {places : List ℕ} (g : Placeable mar
   pub place-few : node * length set ≤ 131072
   place-few = let few = g .few in words-few node (length set) (omega arith) (g .small)
 
-  pub represents : (b : Bool) → b ≡ sameWords (take (node * length set + length set - node * length set) (drop (node * length set) marks)) set
+  pub represents : (b : Bool)
+      → b ≡ sameWords (take (node * length set + length set - node * length set) (drop (node * length set) marks)) set
       → b ≡ true → Represents marks set i node
   unfolding storedSet
   represents b e h =

@@ -69,13 +69,15 @@ pub record MarkedNew (table : List ℕ) (f : ℕ) (marks cs : List ℕ) (i : ℕ
   pub same : storedSet (sizeOf table) marks′ r ≡ setOver table f marks cs
 
 -- what marking it by the memo asks; its children are represented by the last `rank` of four nodes
-pub record AtNext (table index : List ℕ) (f : ℕ) (marks four : List ℕ) (rank i : ℕ) (keys nodes places owners rows pending : List ℕ) : Type 0 where
+pub record AtNext (table index : List ℕ) (f : ℕ) (marks four : List ℕ) (rank i : ℕ)
+    (keys nodes places owners rows pending : List ℕ) : Type 0 where
   pub new : AtNew table index f marks (drop (4 - rank) four) i places owners rows pending
   pub keyable : Keyable f four rank
   pub below : AllBelow i (drop (4 - rank) four)
   pub remembered : Remembered table marks i keys nodes places owners rows pending
 
 -- what it leaves
-pub record MarkedNext (table : List ℕ) (f : ℕ) (marks cs : List ℕ) (i : ℕ) (marks′ : List ℕ) (r : ℕ) (keys nodes places owners rows pending : List ℕ) : Type 0 where
+pub record MarkedNext (table : List ℕ) (f : ℕ) (marks cs : List ℕ) (i : ℕ) (marks′ : List ℕ) (r : ℕ)
+    (keys nodes places owners rows pending : List ℕ) : Type 0 where
   pub new : MarkedNew table f marks cs i marks′ r
   pub remembered : Remembered table marks′ (i + 1) keys nodes places owners rows pending

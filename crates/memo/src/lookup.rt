@@ -73,10 +73,12 @@ pub fn mark_next(
     pending: &mut [u32],
 ) -> usize
     requires { ⌜
-        AtNext (now table) (now index) symbol (now marks) (now four) rank i (now keys) (now nodes) (now places) (now owners) (now rows) (now pending)
+        AtNext (now table) (now index) symbol (now marks) (now four) rank i (now keys) (now nodes) (now places) (now owners) (now rows)
+        (now pending)
         ⌝ }
     ensures { λ r. ⌜
-        MarkedNext (now (table .entry)) symbol (now (marks .entry)) (drop (4 - rank) (now (four .entry))) i (now (marks .exit)) r (now (keys .exit)) (now (nodes .exit)) (now (places .exit)) (now (owners .exit)) (now (rows .exit)) (now (pending .exit))
+        MarkedNext (now (table .entry)) symbol (now (marks .entry)) (drop (4 - rank) (now (four .entry))) i (now (marks .exit)) r
+        (now (keys .exit)) (now (nodes .exit)) (now (places .exit)) (now (owners .exit)) (now (rows .exit)) (now (pending .exit))
         ⌝ }
 {
     let key = step_key(symbol, four, rank);

@@ -28,18 +28,21 @@ module _ (a table ch : List ℕ) where
   step = nodeSet table
 
   -- the sets that the stack names are the stack of sets
-  pub set-of : (i : ℕ) (sets stack : List StateSet) → map (setAt sets) (numbers (arity a) ch i) ≡ stack → setFromSets i sets ≡ valueOn a step (getD ch i 0) stack
+  pub set-of : (i : ℕ) (sets stack : List StateSet) → map (setAt sets) (numbers (arity a) ch i) ≡ stack
+      → setFromSets i sets ≡ valueOn a step (getD ch i 0) stack
   unfolding setFromSets
   set-of i sets stack e = children-value (arity a) ch step (setAt sets) i stack e
 
   -- one node more on the stack, its set just written
-  pub stack-push : (i : ℕ) (sets stack : List StateSet) (v : StateSet) → i < length ch → i < length sets → map (setAt sets) (numbers (arity a) ch i) ≡ stack
+  pub stack-push : (i : ℕ) (sets stack : List StateSet) (v : StateSet) → i < length ch → i < length sets
+      → map (setAt sets) (numbers (arity a) ch i) ≡ stack
       → map (setAt (set sets i v)) (numbers (arity a) ch (suc i)) ≡ v ∷ drop (arity a (getD ch i 0)) stack
   stack-push i sets stack v h l e =
       let k = arity a (getD ch i 0) in
       ap (map (setAt (set sets i v))) (numbers-more (arity a) ch i h)
       ∙ ap₂ (λ (x : StateSet) (y : List StateSet). x ∷ y) (getD-set-same sets i v [] l)
-      (map-drop (setAt (set sets i v)) k (numbers (arity a) ch i) ∙ ap (drop k) (map-set-below sets i v [] (numbers (arity a) ch i) (numbers-below (arity a) ch i (omega arith)) ∙ e))
+      (map-drop (setAt (set sets i v)) k (numbers (arity a) ch i)
+      ∙ ap (drop k) (map-set-below sets i v [] (numbers (arity a) ch i) (numbers-below (arity a) ch i (omega arith)) ∙ e))
 
   -- one node more on the stack, its set as it stands
   pub stack-pass : (i : ℕ) (sets stack : List StateSet) → i < length ch → map (setAt sets) (numbers (arity a) ch i) ≡ stack
@@ -66,7 +69,8 @@ module _ (a table ch : List ℕ) where
           stack-is = ap (λ (j : ℕ). map (setAt old) (numbers (arity a) ch j)) (add-zero i) ∙ e ∙ ap (λ (l : List ℕ). stackAfter a step l σ) (sym z);
         }
 
-    pub recomputing-more : (k : ℕ) (sets : List StateSet) → i + k < length ch → i + k < length old → length sets ≡ length old → Recomputing old i σ k sets
+    pub recomputing-more : (k : ℕ) (sets : List StateSet) → i + k < length ch → i + k < length old → length sets ≡ length old
+        → Recomputing old i σ k sets
         → Recomputing old i σ (suc k) (set sets (i + k) (setFromSets (i + k) sets))
     unfolding valuesBy stackAfterBy
     recomputing-more k sets h l n g =
@@ -81,7 +85,8 @@ module _ (a table ch : List ℕ) where
         let head = take i old ++ values a step run σ in
         let m : length head ≡ i + k =
         length-append (take i old) (values a step run σ)
-        ∙ ap₂ (λ (x y : ℕ). x + y) (length-take-le i old (omega arith)) (length-values (arity a) step run σ ∙ length-slice i (i + k) ch (omega arith)) ∙ omega arith in
+        ∙ ap₂ (λ (x y : ℕ). x + y) (length-take-le i old (omega arith))
+        (length-values (arity a) step run σ ∙ length-slice i (i + k) ch (omega arith)) ∙ omega arith in
         record {
           sets-are =
               ap (λ (r : List StateSet). set r (i + k) v) (g .sets-are ∙ ap (λ (r : List StateSet). head ++ r) (drop-cons old (i + k) [] l))

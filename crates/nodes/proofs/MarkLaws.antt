@@ -33,12 +33,14 @@ holding-stored size marks n h = record {
   sized = sized-stored size marks n 0 (rw (zero-add n) h);
 }
 
-pub holding-set : (size : ℕ) (marks : List ℕ) (rows : List StateSet) (rest : List ℕ) (k : ℕ) → MarksHolding size marks rows rest → k < length rows
+pub holding-set : (size : ℕ) (marks : List ℕ) (rows : List StateSet) (rest : List ℕ) (k : ℕ) → MarksHolding size marks rows rest
+    → k < length rows
     → storedSet size marks k ≡ setAt rows k
 holding-set size marks rows rest k g l =
     ap (λ (m : List ℕ). storedSet size m k) (g .words) ∙ storedSet-flatten size rows rest k (g .sized) l
 
-pub holding-write : (size : ℕ) (marks : List ℕ) (rows : List StateSet) (rest : List ℕ) (i : ℕ) (v : StateSet) → MarksHolding size marks rows rest
+pub holding-write : (size : ℕ) (marks : List ℕ) (rows : List StateSet) (rest : List ℕ) (i : ℕ) (v : StateSet)
+    → MarksHolding size marks rows rest
     → length v ≡ size → i < length rows → MarksHolding size (paste marks (i * size) v size) (set rows i v) rest
 holding-write size marks rows rest i v g e l = record {
   words =
@@ -56,7 +58,8 @@ module _ (a table ch : List ℕ) where
   length-setFrom marks i = length-nodeSet table (getD ch i 0) _
 
   -- node i's state set from the marks is the one from the list of state sets
-  pub setFrom-rows : (marks : List ℕ) (rows : List StateSet) (rest : List ℕ) (i : ℕ) → MarksHolding (sizeOf table) marks rows rest → i ≤ length rows
+  pub setFrom-rows : (marks : List ℕ) (rows : List StateSet) (rest : List ℕ) (i : ℕ) → MarksHolding (sizeOf table) marks rows rest
+      → i ≤ length rows
       → i ≤ length ch → setFrom a table ch marks i ≡ loops.setFromSets a table ch i rows
   unfolding setFrom loops.setFromSets
   setFrom-rows marks rows rest i g l h =
@@ -65,7 +68,8 @@ module _ (a table ch : List ℕ) where
       (λ k m. holding-set size marks rows rest k g (omega arith)))
 
   -- node i, worked out and written
-  pub markedAt-rows : (marks : List ℕ) (rows : List StateSet) (rest : List ℕ) (i : ℕ) → MarksHolding (sizeOf table) marks rows rest → i < length rows
+  pub markedAt-rows : (marks : List ℕ) (rows : List StateSet) (rest : List ℕ) (i : ℕ) → MarksHolding (sizeOf table) marks rows rest
+      → i < length rows
       → i ≤ length ch → MarksHolding (sizeOf table) (markedAt a table ch i marks) (set rows i (loops.setFromSets a table ch i rows)) rest
   unfolding markedAt
   markedAt-rows marks rows rest i g l h =
@@ -79,4 +83,5 @@ module _ (a table ch : List ℕ) where
   markedFrom-rows marks rows rest i zero g l h = g
   markedFrom-rows marks rows rest i (suc n) g l h =
       markedAt-rows (markedFrom a table ch i n marks) (workedFrom a table ch i n rows) rest (i + n)
-      (markedFrom-rows marks rows rest i n g (omega arith) (omega arith)) (rw (length-worked a table ch i n rows) (omega arith)) (omega arith)
+      (markedFrom-rows marks rows rest i n g (omega arith) (omega arith)) (rw (length-worked a table ch i n rows) (omega arith))
+      (omega arith)

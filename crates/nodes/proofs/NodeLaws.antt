@@ -34,7 +34,8 @@ below-up m n h [] b = tt
 below-up m n h (x ∷ l) b = (let y = b .0 in omega arith, below-up m n h l (b .1))
 
 module _ {a table index ch : List ℕ} {i : ℕ} {marks array : List ℕ} {height : ℕ} {keys known places owners rows pending : List ℕ}
-    (g : AtNode a table index ch i marks array height keys known places owners rows pending) (r : ℕ) (e : r ≡ rankOf a (symbolOf (getD ch i 0))) where
+    (g : AtNode a table index ch i marks array height keys known places owners rows pending) (r : ℕ)
+    (e : r ≡ rankOf a (symbolOf (getD ch i 0))) where
   abbrev w : ℕ
   w = getD ch i 0
 
@@ -122,7 +123,8 @@ module _ {a table index ch : List ℕ} {i : ℕ} {marks array : List ℕ} {heigh
       ap (map stored) part-is ∙ map-drop stored (length nodes - r) nodes ∙ ap (drop (length nodes - r)) (g .prepared .represented .same)
       ∙ sym (map-drop stored (length nodes - r) (reverse roots))
       ∙ ap (map stored)
-      (ap₂ (λ (n k : ℕ). drop (n - k) (reverse roots)) (g .prepared .represented .count) (e ∙ sym (node-arity (g .workable .tree) i (g .inside)))
+      (ap₂ (λ (n k : ℕ). drop (n - k) (reverse roots)) (g .prepared .represented .count)
+      (e ∙ sym (node-arity (g .workable .tree) i (g .inside)))
       ∙ drop-reverse (arity a w) roots)
 
   rows-inside : RowsInside (sizeOf table) marks (drop (4 - r) four)
@@ -176,7 +178,8 @@ module _ {a table index ch : List ℕ} {i : ℕ} {marks array : List ℕ} {heigh
 
   -- node i is marked, and its representative is on the stack
   module _ {node : ℕ} {marks′ keys′ known′ places′ owners′ rows′ pending′ : List ℕ}
-      (n : MarkedNext table (symbolOf (getD ch i 0)) marks (drop (4 - r) four) i marks′ node keys′ known′ places′ owners′ rows′ pending′) where
+      (n : MarkedNext table (symbolOf (getD ch i 0)) marks
+      (drop (4 - r) four) i marks′ node keys′ known′ places′ owners′ rows′ pending′) where
     abbrev v : StateSet
     v = setOver table (symbolOf (getD ch i 0)) marks (drop (4 - r) four)
 
@@ -184,7 +187,8 @@ module _ {a table index ch : List ℕ} {i : ℕ} {marks array : List ℕ} {heigh
     unfolding markedAt
     node-words = n .new .words ∙ ap (λ (l : List ℕ). paste marks (i * size) l size) set-is
 
-    pub node-kept : Maintained a table ch (i + 1) marks′ (set array (height - r) node) (height - r + 1) keys′ known′ places′ owners′ rows′ pending′
+    pub node-kept : Maintained a table ch (i + 1) marks′ (set array (height - r) node)
+        (height - r + 1) keys′ known′ places′ owners′ rows′ pending′
     node-kept =
         let long = length-setOver table (symbolOf w) marks (drop (4 - r) four) in
         record {

@@ -11,14 +11,16 @@ use Rattle.nodes.specs.Marking.{Maintained, AtNode, AtNodes}
 use Rattle.nodes.proofs.WorkableLaws.{workable-long}
 use Rattle.nodes.proofs.RootStackLaws.{represent-roots}
 
-pub record Marking (a table ch : List ℕ) (from to : ℕ) (marks₀ marks array : List ℕ) (height : ℕ) (keys known places owners rows pending : List ℕ) (i : ℕ) : Type 0 where
+pub record Marking (a table ch : List ℕ) (from to : ℕ) (marks₀ marks array : List ℕ) (height : ℕ)
+    (keys known places owners rows pending : List ℕ) (i : ℕ) : Type 0 where
   pub low : from ≤ i
   pub high : i ≤ to
   pub long : length marks ≡ length marks₀
   pub marks-are : marks ≡ markedFrom a table ch from (i - from) marks₀
   pub prepared : Maintained a table ch i marks array height keys known places owners rows pending
 
-module _ {a table index ch : List ℕ} {from to : ℕ} {marks₀ array₀ : List ℕ} {height₀ : ℕ} {keys₀ known₀ places₀ owners₀ rows₀ pending₀ : List ℕ}
+module _ {a table index ch : List ℕ} {from to : ℕ} {marks₀ array₀ : List ℕ} {height₀ : ℕ}
+    {keys₀ known₀ places₀ owners₀ rows₀ pending₀ : List ℕ}
     (pre : AtNodes a table index ch from to marks₀ array₀ height₀ keys₀ known₀ places₀ owners₀ rows₀ pending₀) where
   pub marking-none : Marking a table ch from to marks₀ marks₀ array₀ height₀ keys₀ known₀ places₀ owners₀ rows₀ pending₀ from
   unfolding markedFrom
@@ -30,10 +32,18 @@ module _ {a table index ch : List ℕ} {from to : ℕ} {marks₀ array₀ : List
       (g : Marking a table ch from to marks₀ marks array height keys known places owners rows pending i) where
     pub marking-at : i < to → AtNode a table index ch i marks array height keys known places owners rows pending
     marking-at l =
-        record { workable = workable-long (g .long) (pre .workable); indexed = pre .indexed; inside = omega (arith, pre .inside); prepared = g .prepared }
+        record {
+          workable = workable-long (g .long) (pre .workable);
+          indexed = pre .indexed;
+          inside = omega
+              (arith, pre .inside);
+          prepared = g .prepared;
+        }
 
-    pub marking-more : i < to → {marks′ array′ : List ℕ} {height′ : ℕ} {keys′ known′ places′ owners′ rows′ pending′ : List ℕ} → length marks′ ≡ length marks
-        → marks′ ≡ markedAt a table ch i marks → Maintained a table ch (i + 1) marks′ array′ height′ keys′ known′ places′ owners′ rows′ pending′
+    pub marking-more : i < to → {marks′ array′ : List ℕ} {height′ : ℕ} {keys′ known′ places′ owners′ rows′ pending′ : List ℕ}
+        → length marks′ ≡ length marks
+        → marks′ ≡ markedAt a table ch i marks
+        → Maintained a table ch (i + 1) marks′ array′ height′ keys′ known′ places′ owners′ rows′ pending′
         → Marking a table ch from to marks₀ marks′ array′ height′ keys′ known′ places′ owners′ rows′ pending′ (i + 1)
     unfolding markedFrom
     marking-more l m w p =
@@ -50,7 +60,9 @@ module _ {a table index ch : List ℕ} {from to : ℕ} {marks₀ array₀ : List
           prepared = p;
         }
 
-    pub marking-end : to ≤ i → (marks ≡ markedFrom a table ch from (to - from) marks₀) × Maintained a table ch to marks array height keys known places owners rows pending
+    pub marking-end : to ≤ i
+        → (marks ≡ markedFrom a table ch from (to - from) marks₀)
+        × Maintained a table ch to marks array height keys known places owners rows pending
     marking-end l =
         let high = g .high in
         let q : i ≡ to = omega arith in
@@ -58,9 +70,14 @@ module _ {a table index ch : List ℕ} {from to : ℕ} {marks₀ array₀ : List
 
 -- ---- with nothing remembered
 
-pub nothing-prepared : {a table ch marks array : List ℕ} {i height : ℕ} → length array ≡ 4100 → i ≤ length ch → Held array height (reverse (rootsOf a ch i))
-    → Maintained a table ch i marks array height (replicate 1024 0) (replicate 1024 0) (replicate 1021 0) (replicate 64 0) (replicate 2048 0) (replicate 1024 0)
-nothing-prepared {table = table} {marks = marks} {i = i} l h g = record { represented = represent-roots l h g; remembered = nothing-remembered table marks i }
+pub nothing-prepared : {a table ch marks array : List ℕ} {i height : ℕ} → length array ≡ 4100 → i ≤ length ch
+    → Held array height (reverse (rootsOf a ch i))
+    → Maintained a table ch i marks array height (replicate 1024 0) (replicate 1024 0) (replicate 1021 0) (replicate 64 0)
+    (replicate 2048 0) (replicate 1024 0)
+nothing-prepared {table = table} {marks = marks} {i = i} l h g = record {
+  represented = represent-roots l h g;
+  remembered = nothing-remembered table marks i;
+}
 
 -- the stack before the first node
 pub held-none : (a ch : List ℕ) → Held (replicate 4100 0) 4 (reverse (rootsOf a ch 0))

@@ -21,7 +21,8 @@ use Rattle.nodes.proofs.RootLaws.{take-reverse, below-take, below-rever
 use Rattle.nodes.proofs.WorkableLaws.{node-arity}
 
 -- r nodes are taken and one is put in their place: one store
-pub held-push : (array : List ℕ) (height : ℕ) (nodes : List ℕ) (r x : ℕ) → Held array height nodes → r ≤ length nodes → height < length array
+pub held-push : (array : List ℕ) (height : ℕ) (nodes : List ℕ) (r x : ℕ) → Held array height nodes → r ≤ length nodes
+    → height < length array
     → Held (set array (height - r) x) (height - r + 1) (take (length nodes - r) nodes ++ x ∷ [])
 held-push array height nodes r x g fits inside =
     let left = take (length nodes - r) nodes in
@@ -36,7 +37,8 @@ held-push array height nodes r x g fits inside =
       height-is = omega (arith, place, length-append left (x ∷ []), length-take-le (length nodes - r) nodes (omega arith));
     }
 
-module _ (a ch : List ℕ) (tree : BoundedTree a ch) (i : ℕ) (inside : i < length ch) (r : ℕ) (e : r ≡ rankOf a (symbolOf (getD ch i 0))) where
+module _ (a ch : List ℕ) (tree : BoundedTree a ch) (i : ℕ) (inside : i < length ch) (r : ℕ)
+    (e : r ≡ rankOf a (symbolOf (getD ch i 0))) where
   arity-is : r ≡ arity a (getD ch i 0)
   arity-is = e ∙ sym (node-arity tree i inside)
 
@@ -67,7 +69,8 @@ represent-roots {a} {table} {ch} {marks} {array} {i} l h g =
       same = refl;
     }
 
-module _ {a table ch : List ℕ} {i : ℕ} {marks array : List ℕ} {height : ℕ} (g : Represented a table ch i marks array height) (tree : BoundedTree a ch)
+module _ {a table ch : List ℕ} {i : ℕ} {marks array : List ℕ} {height : ℕ} (g : Represented a table ch i marks array height)
+    (tree : BoundedTree a ch)
     (inside : i < length ch) (r : ℕ) (e : r ≡ rankOf a (symbolOf (getD ch i 0))) where
   abbrev roots : List ℕ
   roots = rootsOf a ch i
@@ -91,7 +94,14 @@ module _ {a table ch : List ℕ} {i : ℕ} {marks array : List ℕ} {height : �
   pub stack-pushable : Pushable a ch i array height
   stack-pushable =
       let few = tree .few in
-      record { inside = inside; few = omega arith; fits = rw (← e) stack-fits; height-inside = stack-height; small = omega (arith, g .long) }
+      record {
+        inside = inside;
+        few = omega arith;
+        fits = rw (← e) stack-fits;
+        height-inside = stack-height;
+        small = omega
+            (arith, g .long);
+      }
 
   -- node i is put in the place of its children, or an earlier node with the same words; earlier words have not changed
   module _ (node : ℕ) (low : node < i + 1) (marks′ : List ℕ)
@@ -106,7 +116,8 @@ module _ {a table ch : List ℕ} {i : ℕ} {marks array : List ℕ} {height : �
     same : map (storedSet (sizeOf table) marks′) (g .nodes) ≡ map (storedSet (sizeOf table) marks′) (reverse (rootsOf a ch i))
     same =
         map-below stored (storedSet (sizeOf table) marks) i nodes (g .below) kept ∙ g .same
-        ∙ sym (map-below stored (storedSet (sizeOf table) marks) i (reverse roots) (below-reverse i roots [] (numbers-below (arity a) ch i (omega arith)) tt) kept)
+        ∙ sym (map-below stored (storedSet (sizeOf table) marks) i (reverse roots)
+        (below-reverse i roots [] (numbers-below (arity a) ch i (omega arith)) tt) kept)
 
     same-left : map (storedSet (sizeOf table) marks′) left ≡ map (storedSet (sizeOf table) marks′) (reverse (drop r (rootsOf a ch i)))
     same-left =
@@ -127,7 +138,8 @@ module _ {a table ch : List ℕ} {i : ℕ} {marks array : List ℕ} {height : �
           below = below-snoc (i + 1) left node (rw (add-one i) (below-more i left (below-take i (length nodes - r) nodes (g .below)))) low;
           same =
               map-append stored left (node ∷ []) ∙ ap₂ (λ (l : List StateSet) (x : StateSet). l ++ x ∷ []) same-left (sym own)
-              ∙ sym (ap (map stored) (ap reverse next ∙ reverse-cons i (drop r roots)) ∙ map-append stored (reverse (drop r roots)) (i ∷ []));
+              ∙ sym (ap (map stored) (ap reverse next ∙ reverse-cons i (drop r roots))
+              ∙ map-append stored (reverse (drop r roots)) (i ∷ []));
         }
 
 -- ---- the roots of the first nodes, one after the other
@@ -141,7 +153,8 @@ pub stacking-none : {a ch : List ℕ} {count : ℕ} {array : List ℕ} → Stack
 unfolding stackGivenBy
 stacking-none g = record { high = omega arith; long = g .long; held = record { words = g .zeros; height-is = refl } }
 
-module _ {a ch : List ℕ} {count : ℕ} {array₀ : List ℕ} (pre : Stackable a ch count array₀) {array : List ℕ} {height i : ℕ} (g : Stacking a ch array height count i) where
+module _ {a ch : List ℕ} {count : ℕ} {array₀ : List ℕ} (pre : Stackable a ch count array₀) {array : List ℕ} {height i : ℕ}
+    (g : Stacking a ch array height count i) where
   itself : i ≤ length ch → Represented a ch ch i array array height
   itself h = represent-roots (g .long) h (g .held)
 
@@ -158,7 +171,9 @@ module _ {a ch : List ℕ} {count : ℕ} {array₀ : List ℕ} (pre : Stackable 
         let r = rankOf a (symbolOf (getD ch i 0)) in
         let roots = rootsOf a ch i in
         let rep = itself (omega (arith, inside)) in
-        let pushed = held-push array height (reverse roots) r i (g .held) (omega (arith, rank-fits a ch (pre .tree) i inside r refl, length-reverse roots))
+        let pushed =
+        held-push array height (reverse roots) r i (g .held)
+        (omega (arith, rank-fits a ch (pre .tree) i inside r refl, length-reverse roots))
         (stack-height rep (pre .tree) inside r refl) in
         let same : take (length (reverse roots) - r) (reverse roots) ++ i ∷ [] ≡ reverse (rootsOf a ch (i + 1))
         = ap (λ (l : List ℕ). l ++ i ∷ []) (ap (λ (k : ℕ). take (k - r) (reverse roots)) (length-reverse roots) ∙ take-reverse r roots)

@@ -19,19 +19,22 @@ pub record Represented (a table ch : List ℕ) (i : ℕ) (marks array : List ℕ
   pub same : map (storedSet (sizeOf table) marks) nodes ≡ map (storedSet (sizeOf table) marks) (reverse (rootsOf a ch i))
 
 -- before node i is marked: the stack, and what is kept from node to node
-pub record Maintained (a table ch : List ℕ) (i : ℕ) (marks array : List ℕ) (height : ℕ) (keys known places owners rows pending : List ℕ) : Type 0 where
+pub record Maintained (a table ch : List ℕ) (i : ℕ) (marks array : List ℕ) (height : ℕ)
+    (keys known places owners rows pending : List ℕ) : Type 0 where
   pub represented : Represented a table ch i marks array height
   pub remembered : Remembered table marks i keys known places owners rows pending
 
 -- what marking node i asks; the index is the table's
-pub record AtNode (a table index ch : List ℕ) (i : ℕ) (marks array : List ℕ) (height : ℕ) (keys known places owners rows pending : List ℕ) : Type 0 where
+pub record AtNode (a table index ch : List ℕ) (i : ℕ) (marks array : List ℕ) (height : ℕ)
+    (keys known places owners rows pending : List ℕ) : Type 0 where
   pub workable : Workable a table ch (length marks)
   pub indexed : index ≡ indexOf table
   pub inside : i < length ch
   pub prepared : Maintained a table ch i marks array height keys known places owners rows pending
 
 -- what marking the nodes from `from` up to `to` asks
-pub record AtNodes (a table index ch : List ℕ) (from to : ℕ) (marks array : List ℕ) (height : ℕ) (keys known places owners rows pending : List ℕ) : Type 0 where
+pub record AtNodes (a table index ch : List ℕ) (from to : ℕ) (marks array : List ℕ) (height : ℕ)
+    (keys known places owners rows pending : List ℕ) : Type 0 where
   pub workable : Workable a table ch (length marks)
   pub indexed : index ≡ indexOf table
   pub order : from ≤ to

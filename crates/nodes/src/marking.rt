@@ -27,13 +27,15 @@ pub fn mark_node(
     pending: &mut [u32],
 ) -> usize
     requires { ⌜
-        AtNode (now alphabet) (now table) (now index) (now nodes) i (now marks) (now stack) height (now keys) (now known) (now places) (now owners) (now rows) (now pending)
+        AtNode (now alphabet) (now table) (now index) (now nodes) i (now marks) (now stack) height (now keys) (now known) (now places)
+        (now owners) (now rows) (now pending)
         ⌝ }
     ensures marks { λ _. ⌜
         now (marks .exit) ≡ markedAt (now (alphabet .entry)) (now (table .entry)) (now (nodes .entry)) i (now (marks .entry))
         ⌝ }
     ensures kept { λ r. ⌜
-        Maintained (now (alphabet .entry)) (now (table .entry)) (now (nodes .entry)) (i + 1) (now (marks .exit)) (now (stack .exit)) r (now (keys .exit)) (now (known .exit)) (now (places .exit)) (now (owners .exit)) (now (rows .exit)) (now (pending .exit))
+        Maintained (now (alphabet .entry)) (now (table .entry)) (now (nodes .entry)) (i + 1) (now (marks .exit)) (now (stack .exit)) r
+        (now (keys .exit)) (now (known .exit)) (now (places .exit)) (now (owners .exit)) (now (rows .exit)) (now (pending .exit))
         ⌝ }
 {
     let symbol = nodes[i] % LOW_BYTE;
@@ -77,14 +79,16 @@ pub fn mark_nodes(
     pending: &mut [u32],
 ) -> usize
     requires { ⌜
-        AtNodes (now alphabet) (now table) (now index) (now nodes) from to (now marks) (now stack) height (now keys) (now known) (now places) (now owners) (now rows) (now pending)
+        AtNodes (now alphabet) (now table) (now index) (now nodes) from to (now marks) (now stack) height (now keys) (now known)
+        (now places) (now owners) (now rows) (now pending)
         ⌝ }
     ensures marks { λ _. ⌜
         now (marks .exit)
         ≡ markedFrom (now (alphabet .entry)) (now (table .entry)) (now (nodes .entry)) from (to - from) (now (marks .entry))
         ⌝ }
     ensures kept { λ r. ⌜
-        Maintained (now (alphabet .entry)) (now (table .entry)) (now (nodes .entry)) to (now (marks .exit)) (now (stack .exit)) r (now (keys .exit)) (now (known .exit)) (now (places .exit)) (now (owners .exit)) (now (rows .exit)) (now (pending .exit))
+        Maintained (now (alphabet .entry)) (now (table .entry)) (now (nodes .entry)) to (now (marks .exit)) (now (stack .exit)) r
+        (now (keys .exit)) (now (known .exit)) (now (places .exit)) (now (owners .exit)) (now (rows .exit)) (now (pending .exit))
         ⌝ }
 {
     let mut top = height;

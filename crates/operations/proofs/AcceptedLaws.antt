@@ -292,7 +292,8 @@ pub record ExchangeAccepted (a table : List ℕ) (n : ℕ) (used : List ℕ) (ch
   pub fits : ResultFits table (length (splice a used i xs)) chapterLength marksLength
 
 module _ (a table : List ℕ) (n : ℕ) (used : List ℕ) (chapterLength marksLength i : ℕ) (xs : List ℕ) where
-  pub exchange-accepted : exchangeFault a table n used chapterLength marksLength i xs ≡ 0 → ExchangeAccepted a table n used chapterLength marksLength i xs
+  pub exchange-accepted : exchangeFault a table n used chapterLength marksLength i xs ≡ 0
+      → ExchangeAccepted a table n used chapterLength marksLength i xs
   unfolding noElement
   exchange-accepted h =
       let rs = exchangeRefusals a table n used chapterLength marksLength i xs in

@@ -57,7 +57,8 @@ module _ (a table : List ℕ) (alphabet : noAlphabet a ≡ false) (passes : noTa
 pub record Marked (a table ch marks : List ℕ) : Type 0 where
   -- each element's words follow from those of its children
   pub sets : (i : ℕ) → i < length ch
-      → ReachedSet table (symbolOf (getD ch i 0)) (map (storedSet (sizeOf table) marks) (childrenOf a ch i)) (storedSet (sizeOf table) marks i)
+      → ReachedSet table (symbolOf (getD ch i 0)) (map (storedSet (sizeOf table) marks) (childrenOf a ch i))
+      (storedSet (sizeOf table) marks i)
   -- its subtree is the words of exactly one tree, and its words hold the states that this tree reaches
   pub subtrees : (i : ℕ) → i < length ch → ExactlyOne (SubjectOf a (subtreeOf a ch i))
   pub reaches : (i : ℕ) (t : Tree) → i < length ch → SubjectOf a (subtreeOf a ch i) t → (q : ℕ)

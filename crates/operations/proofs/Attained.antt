@@ -94,8 +94,11 @@ calls =
     ∷ []
 
 pub attained : Refuse calls
-unfolding kindAt spareBitsClear isOf isEntry rankOf isConstant constantsFrom constantsOf noAlphabet wrongConstants arity treesBy notOneTree startFromBy spliceBy
-    isExpressionWord wrongLength notExpressionWords isNode notNodes automatonOf hasEntries statesOf portOf ownTransitions portsFrom statesAfter transitionsFrom
-    compiled isHead isTableWord sourcesLeft areTransitions isTable noTable sizeFor tooManyStates tableTooLong compileAnswer sizeOf wrongCount marksTooShort
+unfolding kindAt spareBitsClear isOf isEntry rankOf isConstant constantsFrom constantsOf noAlphabet wrongConstants arity treesBy notOneTree
+    startFromBy spliceBy
+    isExpressionWord wrongLength notExpressionWords isNode notNodes automatonOf hasEntries statesOf portOf ownTransitions portsFrom
+    statesAfter transitionsFrom
+    compiled isHead isTableWord sourcesLeft areTransitions isTable noTable sizeFor tooManyStates tableTooLong compileAnswer sizeOf
+    wrongCount marksTooShort
     runAnswer listTooShort listAnswer wrongUsedCount noElement noReplacement resultTooLong fault exchangeAnswer
 attained = (refl, (refl, (refl, (refl, (refl, (refl, (refl, (refl, (refl, (refl, (refl, (refl, (refl, (refl, (refl, (refl, (refl, (refl, (refl, (refl, (refl, (refl, (refl, (refl, (refl, (refl, (refl, (refl, (refl, (refl, tt))))))))))))))))))))))))))))))

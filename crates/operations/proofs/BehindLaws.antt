@@ -13,7 +13,8 @@ use Rattle.words.proofs.TestLaws.{Tested, holds, fails, tested}
 use Rattle.words.proofs.ListLaws.{listFrom-shift, map-listFrom, all-map, count-map}
 use Rattle.automaton.specs.StateSet.{StateSet}
 use Rattle.operations.specs.Marks.{nodeSet, sameWords}
-use Rattle.operations.specs.Exchange.{Outcome, kept, recomputed, setIn, isRecomputed, recomputedIn, keptFrom, propagate, rootSet, outcomesBehind}
+use Rattle.operations.specs.Exchange.{Outcome, kept, recomputed, setIn, isRecomputed}
+use Rattle.operations.specs.Exchange.{recomputedIn, keptFrom, propagate, rootSet, outcomesBehind}
 use Rattle.operations.specs.Recomputation.{outcomeAt}
 use Rattle.operations.proofs.PropagateLaws.{propagate-beside, propagate-last, propagate-onward}
 
@@ -39,7 +40,8 @@ module _ (stored : ℕ → StateSet) (above : ℕ → Bool) where
   unfolding propagate
   chosen-propagate a table [] j stack = tt
   chosen-propagate a table (w ∷ ws) j stack =
-      go (tested (above j)) (tested (sameWords new (stored j))) (chosen-propagate a table ws (suc j) (stored j ∷ rest)) (chosen-propagate a table ws (suc j) (new ∷ rest))
+      go (tested (above j)) (tested (sameWords new (stored j))) (chosen-propagate a table ws (suc j) (stored j ∷ rest))
+      (chosen-propagate a table ws (suc j) (new ∷ rest))
     where
       new : StateSet
       new = valueOn a (nodeSet table) w stack
@@ -47,11 +49,14 @@ module _ (stored : ℕ → StateSet) (above : ℕ → Bool) where
       rest : List StateSet
       rest = drop (arity a w) stack
 
-      go : Tested (above j) → Tested (sameWords new (stored j)) → Chosen (suc j) true (propagate a table stored above (suc j) ws (stored j ∷ rest))
-          → Chosen (suc j) true (propagate a table stored above (suc j) ws (new ∷ rest)) → Chosen j true (propagate a table stored above j (w ∷ ws) stack)
+      go : Tested (above j) → Tested (sameWords new (stored j))
+          → Chosen (suc j) true (propagate a table stored above (suc j) ws (stored j ∷ rest))
+          → Chosen (suc j) true (propagate a table stored above (suc j) ws (new ∷ rest))
+          → Chosen j true (propagate a table stored above j (w ∷ ws) stack)
       go (fails x) y l m = subst (Chosen j true) (sym (propagate-beside a table stored above j w ws stack x)) (rw x, rw x l)
       go (holds x) (holds y) l m =
-          subst (Chosen j true) (sym (propagate-last a table stored above j w ws stack x y)) (rw x, rw (x, y) (chosen-kept (length ws) (suc j)))
+          subst (Chosen j true) (sym (propagate-last a table stored above j w ws stack x y))
+          (rw x, rw (x, y) (chosen-kept (length ws) (suc j)))
       go (holds x) (fails y) l m =
           subst (Chosen j true) (sym (propagate-onward a table stored above j w ws stack x y)) (rw x, rw (x, y) m)
 
@@ -86,7 +91,8 @@ module _ (stored : ℕ → StateSet) (above : ℕ → Bool) where
       → outcomeAt os k ≡ chosen (j + k) (goesOnFrom j on os k) (outcomeAt os k)
   chosen-at [] j on k h l = absurd (omega arith)
   chosen-at (o ∷ os) j on zero h l = rw (and-same on, add-zero j) (h .0)
-  chosen-at (o ∷ os) j on (suc k) h l = rw (continues-more j on o os k, add-suc, ← suc-add) (chosen-at os (suc j) (on && not (endsAt j o)) k (h .1) (omega arith))
+  chosen-at (o ∷ os) j on (suc k) h l =
+      rw (continues-more j on o os k, add-suc, ← suc-add) (chosen-at os (suc j) (on && not (endsAt j o)) k (h .1) (omega arith))
 
 -- ---- how many are recomputed
 
@@ -119,6 +125,7 @@ module _ (a table : List ℕ) (stored : ℕ → StateSet) (used : List ℕ) (ele
   unfolding outcomesBehind
   chosen-behind = go (tested (sameWords (rootSet a table xs) (stored element)))
     where
-      go : Tested (sameWords (rootSet a table xs) (stored element)) → Chosen stored (isAncestor a used element) (element + 1) changed (outcomesBehind a table stored used element xs)
+      go : Tested (sameWords (rootSet a table xs) (stored element))
+          → Chosen stored (isAncestor a used element) (element + 1) changed (outcomesBehind a table stored used element xs)
       go (holds b) = rw b (chosen-kept stored (isAncestor a used element) (length behind) (element + 1))
       go (fails b) = rw b (chosen-propagate stored (isAncestor a used element) a table behind (element + 1) _)

@@ -35,7 +35,8 @@ module _ (a table : List ℕ) where
   unfolding nodeSet
   words-nodeSet w rs = words-stateSet (automatonOf table) _ rs
 
-  cells-values : (ws : List ℕ) (stack : List StateSet) → cellsIn (flatten (values a (nodeSet table) ws stack)) ≤ 32 * (length ws * sizeOf table)
+  cells-values : (ws : List ℕ) (stack : List StateSet)
+      → cellsIn (flatten (values a (nodeSet table) ws stack)) ≤ 32 * (length ws * sizeOf table)
   unfolding valuesBy valueOnBy flatten cellsIn
   cells-values [] stack = omega arith
   cells-values (w ∷ ws) stack =
@@ -43,7 +44,8 @@ module _ (a table : List ℕ) where
       let rest = cells-values ws (set ∷ drop (arity a w) stack) in
       let here = cells-most set (words-nodeSet w _) in
       let long : length set ≡ sizeOf table = length-nodeSet table w _ in
-      rw (cells-append set (flatten (values a (nodeSet table) ws (set ∷ drop (arity a w) stack))), suc-mul (length ws) (sizeOf table)) (omega arith)
+      rw (cells-append set (flatten (values a (nodeSet table) ws (set ∷ drop (arity a w) stack))), suc-mul (length ws) (sizeOf table))
+      (omega arith)
 
   pub cells-nodeSets : (ch : List ℕ) → cellsIn (flatten (nodeSets a table ch)) ≤ 32 * (length ch * sizeOf table)
   unfolding nodeSets

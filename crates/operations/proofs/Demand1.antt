@@ -67,16 +67,19 @@ demand1 = record {
   compile = λ a rule slice.
       let vs = length (compiledTable a rule) ∷ [] in
       let rs = compileRefusals a rule (length slice) in
-      judged vs rs _ refl (λ n h. (kept-by vs (refusal rs) n (compiledTable a rule ++ drop (length (compiledTable a rule)) slice) slice h, tt))
+      judged vs rs _ refl
+      (λ n h. (kept-by vs (refusal rs) n (compiledTable a rule ++ drop (length (compiledTable a rule)) slice) slice h, tt))
       (compile-length a rule slice, tt);
   run = λ a table ch marks.
       let vs = length ch ∷ cellsIn (flatten (nodeSets a table ch)) ∷ [] in
       let rs = runRefusals a table ch (length marks) in
-      judged vs rs _ refl (λ n h. (kept-by vs (refusal rs) n (runMarks a table ch marks) marks h, tt)) (run-exit-length a table ch marks, tt);
+      judged vs rs _ refl (λ n h. (kept-by vs (refusal rs) n (runMarks a table ch marks) marks h, tt))
+      (run-exit-length a table ch marks, tt);
   list = λ a table n marks slice.
       let vs = length (matchesOf table n marks) ∷ [] in
       let rs = listRefusals a table n (length marks) (length slice) in
-      judged vs rs _ refl (λ k h. (kept-by vs (refusal rs) k (matchesOf table n marks ++ drop (length (matchesOf table n marks)) slice) slice h, tt))
+      judged vs rs _ refl
+      (λ k h. (kept-by vs (refusal rs) k (matchesOf table n marks ++ drop (length (matchesOf table n marks)) slice) slice h, tt))
       (list-length a table n marks slice, tt);
   exchange = λ c.
       let vs = length (newTreeOf c) ∷ recomputedIn (outcomesOf c) ∷ [] in

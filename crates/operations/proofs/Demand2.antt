@@ -47,7 +47,8 @@ module _ (a e ch : List ℕ) (few : length a ≤ 64) (auto : automatonOf (compil
       → (contains (getD (nodeSets a table ch) i []) (finalOf table) ≡ true) ↔ Member E t
   unfolding finalOf
   holds-member E i t x l k =
-      let q : contains (getD (nodeSets a table ch) i []) (automatonOf table .final) ≡ contains (treeSet (compiled a e) t) (compiled a e .final) =
+      let q : contains (getD (nodeSets a table ch) i []) (automatonOf table .final)
+      ≡ contains (treeSet (compiled a e) t) (compiled a e .final) =
       ap₂ contains (node-tree a table ch few i t l k ∙ ap (λ A. treeSet A t) auto) (ap (λ A. A .final) auto) in
       let r = treeSet-reaches (compiled a e) below t (compiled a e .final) in
       let m : Reaches (compiled a e .transitions) (compiled a e .final) t ↔ Member E t =
@@ -62,7 +63,9 @@ module _ (a table ch marks slice : List ℕ) (n cells hits : ℕ)
   run-values : (runFault a table ch (length marks) ≡ 0) × (n ≡ length ch)
   unfolding runAnswer
   run-values =
-      let v = accepted-values (runFault a table ch (length marks)) (length ch ∷ cellsIn (flatten (nodeSets a table ch)) ∷ []) (n ∷ cells ∷ []) runs in
+      let v =
+      accepted-values (runFault a table ch (length marks)) (length ch ∷ cellsIn (flatten (nodeSets a table ch)) ∷ [])
+      (n ∷ cells ∷ []) runs in
       (v .0, cc)
 
   run-is : RunAccepted a table ch (length marks)
@@ -83,7 +86,8 @@ module _ (a table ch marks slice : List ℕ) (n cells hits : ℕ)
       ∙ matches-nodeSets a table ch (runMarks a table ch marks) (run-writes a table ch marks)
 
   -- a number is written exactly if it is that of such a node
-  named : (i : ℕ) → List·Memᴰ i (take hits (listExit a table n (runExit a table ch marks) slice)) ↔ Holding (finalOf table) (nodeSets a table ch) i
+  named : (i : ℕ)
+      → List·Memᴰ i (take hits (listExit a table n (runExit a table ch marks) slice)) ↔ Holding (finalOf table) (nodeSets a table ch) i
   named i = (to, from)
     where
       to : List·Memᴰ i (take hits (listExit a table n (runExit a table ch marks) slice)) → Holding (finalOf table) (nodeSets a table ch) i
@@ -94,7 +98,8 @@ module _ (a table ch marks slice : List ℕ) (n cells hits : ℕ)
       from : Holding (finalOf table) (nodeSets a table ch) i → List·Memᴰ i (take hits (listExit a table n (runExit a table ch marks) slice))
       from x =
           subst (List·Memᴰ i) (sym names-are)
-          (subst (λ (k : ℕ). List·Memᴰ k (matchesIn (finalOf table) 0 (nodeSets a table ch))) (zero-add i) (holding-named (finalOf table) (nodeSets a table ch) 0 i x))
+          (subst (λ (k : ℕ). List·Memᴰ k (matchesIn (finalOf table) 0 (nodeSets a table ch))) (zero-add i)
+          (holding-named (finalOf table) (nodeSets a table ch) 0 i x))
 
 -- ---- the three calls
 
@@ -147,8 +152,10 @@ pub demand2 : Demand2
 demand2 c h = named-members c h
 
 -- the same of any expression whose words the rule is
-pub demand2-of : (c : Calls) (h : AllAccepted c) (E : Expression) → ExpressionOf (c .alphabet) (c .rule) E → (i : ℕ) (l : i < length (c .chapter))
+pub demand2-of : (c : Calls) (h : AllAccepted c) (E : Expression) → ExpressionOf (c .alphabet) (c .rule) E
+    → (i : ℕ) (l : i < length (c .chapter))
     → List·Memᴰ i (namesOf c) ↔ Member E (demand2 c h .subtrees i l .the)
 demand2-of c h E x i l =
-    subst (λ (F : Expression). List·Memᴰ i (namesOf c) ↔ Member F (demand2 c h .subtrees i l .the)) (sym (demand2 c h .expression .only E x))
+    subst (λ (F : Expression). List·Memᴰ i (namesOf c) ↔ Member F (demand2 c h .subtrees i l .the))
+    (sym (demand2 c h .expression .only E x))
     (demand2 c h .names i l)

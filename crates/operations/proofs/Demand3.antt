@@ -20,13 +20,15 @@ use Rattle.words.specs.Answer.{answerOf, exitOf}
 use Rattle.operations.specs.Marks.{sizeOf, nodeSets, storedSet, refit}
 use Rattle.operations.specs.Run.{runFault, runMarks, runAnswer, runExit, cellsIn}
 use Rattle.operations.specs.Listing.{matchesOf, listFault, listAnswer, listExit}
-use Rattle.operations.specs.Exchange.{setIn, outcomesAfter, exchangeFault, fault, newTree, outcomes, exchangeAnswer, exchangeChapter, exchangeMarks}
+use Rattle.operations.specs.Exchange.{setIn, outcomesAfter, exchangeFault, fault, newTree}
+use Rattle.operations.specs.Exchange.{outcomes, exchangeAnswer, exchangeChapter, exchangeMarks}
 use Rattle.operations.specs.ExchangeCall.{newTreeOf, outcomesOf}
 use Rattle.operations.specs.History.{Call, Memory, callOn, exchange, exchanges, plain, plains}
 use Rattle.operations.specs.Demands.{Start, Fresh, Faithful, Demand3}
 use Rattle.operations.proofs.MarksLaws.{stored-right, take-refit, length-refit}
 use Rattle.operations.proofs.RunLaws.{length-words, run-writes, run-length, run-exit, matches-nodeSets}
-use Rattle.operations.proofs.AcceptedLaws.{accepted-values, run-accepted, accepted-run, ResultFits, ExchangeAccepted, exchange-accepted}
+use Rattle.operations.proofs.AcceptedLaws.{accepted-values, run-accepted, accepted-run}
+use Rattle.operations.proofs.AcceptedLaws.{ResultFits, ExchangeAccepted, exchange-accepted}
 use Rattle.operations.proofs.OutcomeLaws.{outcomes-right}
 
 -- the memory s and the plain chapter p, over slices of these lengths
@@ -105,7 +107,8 @@ module _ (a table : List ℕ) (chapterLength marksLength : ℕ) where
     same-fault : fault a table (s .chapter) (s .marks) (s .count) (c .element) (c .replacement) ≡ callFault
     unfolding fault
     same-fault =
-        ap (λ (u : List ℕ). exchangeFault a table (s .count) u (length (s .chapter)) (length (s .marks)) (c .element) (c .replacement)) (g .elements)
+        ap (λ (u : List ℕ). exchangeFault a table (s .count) u (length (s .chapter)) (length (s .marks)) (c .element) (c .replacement))
+        (g .elements)
         ∙ ap (λ (n : ℕ). exchangeFault a table n p (length (s .chapter)) (length (s .marks)) (c .element) (c .replacement)) (g .count)
         ∙ ap₂ (λ (n m : ℕ). exchangeFault a table (length p) p n m (c .element) (c .replacement)) (g .chapter-long) (g .marks-long)
 
@@ -116,8 +119,10 @@ module _ (a table : List ℕ) (chapterLength marksLength : ℕ) where
     same-sets : Accepted p c → sets ≡ nodeSets a table p′
     unfolding outcomes
     same-sets k =
-        ap (λ (u : List ℕ). map setIn (outcomesAfter a table (storedSet (sizeOf table) (s .marks)) u (c .element) (c .replacement))) (g .elements)
-        ∙ outcomes-right a table (storedSet (sizeOf table) (s .marks)) p (c .element) (c .replacement) (k .tree) (k .element) (k .replacement .tree)
+        ap (λ (u : List ℕ). map setIn (outcomesAfter a table (storedSet (sizeOf table) (s .marks)) u (c .element) (c .replacement)))
+        (g .elements)
+        ∙ outcomes-right a table (storedSet (sizeOf table) (s .marks)) p (c .element) (c .replacement) (k .tree) (k .element)
+        (k .replacement .tree)
         (stored-right a table p (s .marks) (g .marks))
 
     related-exchanged : Accepted p c → Related a table chapterLength marksLength p′ exchanged
@@ -148,10 +153,12 @@ module _ (a table : List ℕ) (chapterLength marksLength : ℕ) where
     unfolding plain exchange exchangeChapter exchangeMarks exchangeAnswer
     related-call = go (tested (eqb callFault 0))
       where
-        go : Tested (eqb callFault 0) → Related a table chapterLength marksLength (plain a table chapterLength marksLength p c) (exchange a table s c)
+        go : Tested (eqb callFault 0)
+            → Related a table chapterLength marksLength (plain a table chapterLength marksLength p c) (exchange a table s c)
         go (holds b) =
             rw (same-fault, b)
-            (related-exchanged (exchange-accepted a table (length p) p chapterLength marksLength (c .element) (c .replacement) (eqb-true callFault 0 b)))
+            (related-exchanged
+            (exchange-accepted a table (length p) p chapterLength marksLength (c .element) (c .replacement) (eqb-true callFault 0 b)))
         go (fails b) = rw (same-fault, b) g
 
   -- ---- all calls
@@ -160,7 +167,8 @@ module _ (a table : List ℕ) (chapterLength marksLength : ℕ) where
       → Related a table chapterLength marksLength (plains a table chapterLength marksLength cs p) (exchanges a table cs s)
   unfolding plains exchanges
   related-calls [] p s g = g
-  related-calls (c ∷ cs) p s g = related-calls cs (plain a table chapterLength marksLength p c) (exchange a table s c) (related-call p s c g)
+  related-calls (c ∷ cs) p s g =
+      related-calls cs (plain a table chapterLength marksLength p c) (exchange a table s c) (related-call p s c g)
 
   -- ---- what follows
 
@@ -176,7 +184,9 @@ module _ (a table : List ℕ) (chapterLength marksLength : ℕ) where
             ap (λ (i : ℕ). take (i * sizeOf table) (s .marks)) (g .count) ∙ g .marks ∙ sym written
             ∙ ap (λ (i : ℕ). take (i * sizeOf table) (runExit a table p slice)) (sym (g .count));
         answers = λ l. ap₂ (λ (i : ℕ) (ms : List ℕ). answerOf (listFault a table (s .count) i (length l)) (length ms ∷ [])) lengths matches;
-        lists = λ l. ap₂ (λ (i : ℕ) (ms : List ℕ). exitOf (listFault a table (s .count) i (length l)) (ms ++ drop (length ms) l) l) lengths matches;
+        lists =
+            λ l. ap₂ (λ (i : ℕ) (ms : List ℕ). exitOf (listFault a table (s .count) i (length l)) (ms ++ drop (length ms) l) l)
+            lengths matches;
       }
         where
           long : length slice ≡ marksLength
@@ -189,7 +199,9 @@ module _ (a table : List ℕ) (chapterLength marksLength : ℕ) where
           written = ap (take (length p * sizeOf table)) (run-exit a table p slice run) ∙ run-writes a table p slice
 
           lengths : length (s .marks) ≡ length (runExit a table p slice)
-          lengths = sym n ∙ sym (ap length (run-exit a table p slice run) ∙ run-length a table p slice (run-accepted a table p (length slice) run .marks))
+          lengths =
+              sym n ∙ sym (ap length (run-exit a table p slice run)
+              ∙ run-length a table p slice (run-accepted a table p (length slice) run .marks))
 
           matches : matchesOf table (s .count) (s .marks) ≡ matchesOf table (s .count) (runExit a table p slice)
           matches =
@@ -211,7 +223,8 @@ related-start a table ch s h = record {
   marks = ap (take (length ch * sizeOf table)) left ∙ run-writes a table ch (h .before);
 }
   where
-    facts : (runFault a table ch (length (h .before)) ≡ 0) × (length ch ∷ cellsIn (flatten (nodeSets a table ch)) ∷ [] ≡ s .count ∷ h .cells ∷ [])
+    facts : (runFault a table ch (length (h .before)) ≡ 0)
+        × (length ch ∷ cellsIn (flatten (nodeSets a table ch)) ∷ [] ≡ s .count ∷ h .cells ∷ [])
     facts = accepted-values (runFault a table ch (length (h .before))) _ _ (h .answer)
 
     run : runFault a table ch (length (h .before)) ≡ 0
@@ -227,7 +240,8 @@ related-start a table ch s h = record {
     same = ap length left ∙ run-length a table ch (h .before) (run-accepted a table ch (length (h .before)) run .marks)
 
 related-end : (a table ch : List ℕ) (s : Memory) (calls : List Call) → Start a table ch s
-    → Related a table (length (s .chapter)) (length (s .marks)) (plains a table (length (s .chapter)) (length (s .marks)) calls ch) (exchanges a table calls s)
+    → Related a table (length (s .chapter)) (length (s .marks)) (plains a table (length (s .chapter)) (length (s .marks)) calls ch)
+    (exchanges a table calls s)
 related-end a table ch s calls h =
     related-calls a table (length (s .chapter)) (length (s .marks)) calls ch s (related-start a table ch s h)
 
@@ -242,7 +256,8 @@ pub record SameLengths (s t : Memory) : Type 0 where
   pub chapter : length (t .chapter) ≡ length (s .chapter)
   pub marks : length (t .marks) ≡ length (s .marks)
 
-pub exchanges-lengths : (a table ch : List ℕ) (s : Memory) (calls : List Call) → Start a table ch s → SameLengths s (exchanges a table calls s)
+pub exchanges-lengths : (a table ch : List ℕ) (s : Memory) (calls : List Call) → Start a table ch s
+    → SameLengths s (exchanges a table calls s)
 exchanges-lengths a table ch s calls h =
     let g = related-end a table ch s calls h in
     record { chapter = g .chapter-long; marks = g .marks-long }

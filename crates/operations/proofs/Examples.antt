@@ -16,7 +16,8 @@ use Rattle.words.specs.Chapter.{symbolOf, isNode, notNodes}
 use Rattle.words.specs.Tree.{Tree}
 use Rattle.language.specs.Expression.{Expression, empty, union, product, closure}
 use Rattle.language.specs.Membership.{constant, Member}
-use Rattle.language.proofs.Examples.{con, fᵉ, f as fᵗ, closure-empty, by-empty, by-empty-none, separately, put-once, not-twice, closure-joined}
+use Rattle.language.proofs.Examples.{con, fᵉ, f as fᵗ, closure-empty, by-empty, by-empty-none}
+use Rattle.language.proofs.Examples.{separately, put-once, not-twice, closure-joined}
 use Rattle.automaton.proofs.CompiledExample.{alphabet, rule}
 use Rattle.automaton.specs.Transition.{transitionsAt, automatonOf, headWord}
 use Rattle.automaton.specs.Numbering.{hasEntries, statesOf, portOf, ownTransitions, portsFrom, statesAfter, transitionsFrom, compiled}
@@ -29,7 +30,9 @@ use Rattle.operations.specs.Run.{wrongCount, marksTooShort, runFault, ru
 use Rattle.operations.specs.Listing.{matchesIn, matchesOf}
 use Rattle.operations.specs.Demands.{Calls, AllAccepted, namesOf}
 use Rattle.operations.proofs.Demand2.{demand2, demand2-of}
-use Rattle.operations.specs.Exchange.{wrongUsedCount, noElement, noReplacement, resultTooLong, recomputedIn, propagate, rootSet, outcomesBehind, outcomesAfter, fault, newTree, outcomes, exchangeAnswer, exchangeChapter, exchangeMarks}
+use Rattle.operations.specs.Exchange.{wrongUsedCount, noElement, noReplacement, resultTooLong, recomputedIn}
+use Rattle.operations.specs.Exchange.{propagate, rootSet, outcomesBehind, outcomesAfter, fault, newTree}
+use Rattle.operations.specs.Exchange.{outcomes, exchangeAnswer, exchangeChapter, exchangeMarks}
 
 -- nodes
 abbrev a : ℕ
@@ -75,7 +78,8 @@ pub record ListingRow (al e ch : List ℕ) (states words head : ℕ) (lines : Li
       ≡ lines
 
 -- what an Exchange answers and leaves with the table of a rule, where these marks are stored; and what List then names
-pub record ExchangeRow (rl slice stored : List ℕ) (n i : ℕ) (xs : List ℕ) (answer : Answer) (left : List ℕ) (leftMarks : List ℕ) (hits : List ℕ) : Type 0 where
+pub record ExchangeRow (rl slice stored : List ℕ) (n i : ℕ) (xs : List ℕ) (answer : Answer) (left : List ℕ) (leftMarks : List ℕ)
+    (hits : List ℕ) : Type 0 where
   pub answers : exchangeAnswer alphabet (compiledTable alphabet rl) slice stored n i xs ≡ answer
   pub chapterLeft : exchangeChapter alphabet (compiledTable alphabet rl) slice stored n i xs ≡ left
   pub marksLeft : exchangeMarks alphabet (compiledTable alphabet rl) slice stored n i xs ≡ leftMarks
@@ -214,10 +218,14 @@ two-cells = refl
 
 pub examples : AllHold rows
 unfolding kindAt spareBitsClear isOf isEntry rankOf isConstant constantsFrom constantsOf noAlphabet wrongConstants arity treesBy
-    notOneTree isExpressionWord wrongLength notExpressionWords hasEntries statesOf portOf ownTransitions portsFrom statesAfter transitionsFrom compiled
-    tooManyStates tableTooLong flatMap flatten isNode notNodes isHead isTableWord sourcesLeft areTransitions isTable noTable wrongCount marksTooShort transitionsAt
-    automatonOf sizeFor contains insert allContained symbolPass epsilonPass epsilonClosure stateSet sizeOf finalOf nodeSet nodeSets valuesBy valueOnBy runMarks cellsIn runAnswer runExit storedSet startFromBy
-    matchesIn matchesOf spliceBy isAncestorBy stackAfterBy stackGivenBy sameWords refit wrongUsedCount noElement noReplacement resultTooLong recomputedIn propagate rootSet
+    notOneTree isExpressionWord wrongLength notExpressionWords hasEntries statesOf portOf ownTransitions portsFrom statesAfter
+    transitionsFrom compiled
+    tooManyStates tableTooLong flatMap flatten isNode notNodes isHead isTableWord sourcesLeft areTransitions isTable noTable wrongCount
+    marksTooShort transitionsAt
+    automatonOf sizeFor contains insert allContained symbolPass epsilonPass epsilonClosure stateSet sizeOf finalOf nodeSet nodeSets valuesBy
+    valueOnBy runMarks cellsIn runAnswer runExit storedSet startFromBy
+    matchesIn matchesOf spliceBy isAncestorBy stackAfterBy stackGivenBy sameWords refit wrongUsedCount noElement noReplacement resultTooLong
+    recomputedIn propagate rootSet
     outcomesBehind outcomesAfter fault newTree outcomes exchangeAnswer exchangeChapter exchangeMarks
 examples = (
   record { compiles = refl; stateCount = refl; wordCount = refl; headIs = refl; runs = refl; hits = refl },

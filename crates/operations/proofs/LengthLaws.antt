@@ -72,7 +72,8 @@ matchesOf-most table n marks =
 pub list-length : (a table : List ℕ) (n : ℕ) (marks slice : List ℕ) → length (listExit a table n marks slice) ≡ length slice
 unfolding listExit
 list-length a table n marks slice =
-    length-exit (listFault a table n (length marks) (length slice)) (matchesOf table n marks ++ drop (length (matchesOf table n marks)) slice) slice
+    length-exit (listFault a table n (length marks) (length slice))
+    (matchesOf table n marks ++ drop (length (matchesOf table n marks)) slice) slice
     (λ h. let l = list-accepted a table n (length marks) (length slice) h .list in
     length-over (matchesOf table n marks) slice (omega (arith, matchesOf-most table n marks)))
 
@@ -94,7 +95,9 @@ module _ (a table chapter marks : List ℕ) (n element : ℕ) (xs : List ℕ) wh
       (λ i l. length-storedSet (sizeOf table) marks i (omega (arith, mul-le-mul-right (sizeOf table) l, k .marks)))
       u element xs (rw many (k .element)) (omega arith)
 
-  length-sets : Accepted → length (flatten (map setIn (outcomes a table chapter marks n element xs))) ≡ length (newTree a table chapter marks n element xs) * sizeOf table
+  length-sets : Accepted
+      → length (flatten (map setIn (outcomes a table chapter marks n element xs)))
+      ≡ length (newTree a table chapter marks n element xs) * sizeOf table
   unfolding outcomes newTree
   length-sets k =
       let os = outcomesAfter a table (storedSet (sizeOf table) marks) u element xs in
@@ -117,7 +120,8 @@ module _ (a table chapter marks : List ℕ) (n element : ℕ) (xs : List ℕ) wh
   pub marks-length : length (exchangeMarks a table chapter marks n element xs) ≡ length marks
   unfolding exchangeMarks fault newTree
   marks-length =
-      length-exit (fault a table chapter marks n element xs) (refit (n * sizeOf table) (flatten (map setIn (outcomes a table chapter marks n element xs))) marks) marks
+      length-exit (fault a table chapter marks n element xs)
+      (refit (n * sizeOf table) (flatten (map setIn (outcomes a table chapter marks n element xs))) marks) marks
       (λ h. let k = exchange-accepted a table n u (length chapter) (length marks) element xs h in
       length-refit (n * sizeOf table) (flatten (map setIn (outcomes a table chapter marks n element xs))) marks (k .marks)
       (omega (arith, length-sets k, k .fits .marks)))

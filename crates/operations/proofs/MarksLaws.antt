@@ -77,7 +77,8 @@ module _ (size : ℕ) where
       let m = flatten rs ++ rest in
       rw (append-assoc r (flatten rs) rest)
       (ap₂ (λ (x : StateSet) (y : List StateSet). x ∷ y) (stored-first r m (h .0))
-      (listFrom-shift (storedSet size (r ++ m)) (storedSet size m) (length rs) 0 (λ i. stored-next r m i (h .0)) ∙ storedSets-flatten rs rest (h .1)))
+      (listFrom-shift (storedSet size (r ++ m)) (storedSet size m) (length rs) 0 (λ i. stored-next r m i (h .0))
+      ∙ storedSets-flatten rs rest (h .1)))
 
   pub storedSet-flatten : (rs : List StateSet) (rest : List ℕ) (i : ℕ) → Sized size rs → i < length rs
       → storedSet size (flatten rs ++ rest) i ≡ getD rs i []
@@ -101,7 +102,8 @@ module _ (a table p marks : List ℕ) (h : take (length p * sizeOf table) marks 
   pub stored-nodeSets : listFrom (storedSet (sizeOf table) marks) 0 (length p) ≡ nodeSets a table p
   stored-nodeSets =
       let k = length p * sizeOf table in
-      let u : marks ≡ flatten (nodeSets a table p) ++ drop k marks = sym (take-append-drop k marks) ∙ ap (λ (l : List ℕ). l ++ drop k marks) h in
+      let u : marks ≡ flatten (nodeSets a table p) ++ drop k marks =
+      sym (take-append-drop k marks) ∙ ap (λ (l : List ℕ). l ++ drop k marks) h in
       ap₂ (λ (l : List ℕ) (i : ℕ). listFrom (storedSet (sizeOf table) l) 0 i) u (sym (length-nodeSets a table p))
       ∙ storedSets-flatten (sizeOf table) (nodeSets a table p) (drop k marks) (sized-nodeSets a table p)
 

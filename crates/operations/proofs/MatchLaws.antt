@@ -21,9 +21,11 @@ module _ (final : ℕ) where
   unfolding matchesIn
   holding-named [] i k h = absurd (omega (arith, h .0))
   holding-named (r ∷ rs) i zero h = rw (h .1, add-zero i) (List·Memᴰ·head refl)
-  holding-named (r ∷ rs) i (suc k) h = rw (add-suc i k, ← suc-add i k) (go (contains r final) (holding-named rs (suc i) k (omega (arith, h .0), h .1)))
+  holding-named (r ∷ rs) i (suc k) h =
+      rw (add-suc i k, ← suc-add i k) (go (contains r final) (holding-named rs (suc i) k (omega (arith, h .0), h .1)))
     where
-      go : (b : Bool) → List·Memᴰ (suc i + k) (matchesIn final (suc i) rs) → List·Memᴰ (suc i + k) (cond b (i ∷ matchesIn final (suc i) rs) (matchesIn final (suc i) rs))
+      go : (b : Bool) → List·Memᴰ (suc i + k) (matchesIn final (suc i) rs)
+          → List·Memᴰ (suc i + k) (cond b (i ∷ matchesIn final (suc i) rs) (matchesIn final (suc i) rs))
       go true m = List·Memᴰ·tail m
       go false m = m
 
@@ -38,7 +40,8 @@ module _ (final : ℕ) where
       step : (k : ℕ) × (j ≡ suc i + k) × Holding rs k → (k : ℕ) × (j ≡ i + k) × Holding (r ∷ rs) k
       step (k, e, h) = (suc k, omega arith, (omega (arith, h .0), h .1))
 
-      go : (b : Bool) → contains r final ≡ b → List·Memᴰ j (cond b (i ∷ matchesIn final (suc i) rs) (matchesIn final (suc i) rs)) → Later → (k : ℕ) × (j ≡ i + k) × Holding (r ∷ rs) k
+      go : (b : Bool) → contains r final ≡ b → List·Memᴰ j (cond b (i ∷ matchesIn final (suc i) rs) (matchesIn final (suc i) rs)) → Later
+          → (k : ℕ) × (j ≡ i + k) × Holding (r ∷ rs) k
       go true e (List·Memᴰ·head q) later = (0, omega arith, (omega arith, e))
       go true e (List·Memᴰ·tail q) later = step (later q)
       go false e q later = step (later q)

@@ -14,7 +14,8 @@ use Rattle.words.specs.Postfix.{arity, oneTree, startOf, splice, values, stackA
 use Rattle.words.proofs.TestLaws.{Tested, holds, fails, tested}
 use Rattle.words.proofs.ListLaws.{map-append}
 use Rattle.words.proofs.PostfixLaws.{start-le, front-sub, sub-tree}
-use Rattle.words.proofs.StackLaws.{values-append, stack-append, read, Read, Right, right-list, right-stack, right-left, right-right, right-last}
+use Rattle.words.proofs.StackLaws.{values-append, stack-append, read, Read, Right, right-list}
+use Rattle.words.proofs.StackLaws.{right-stack, right-left, right-right, right-last}
 use Rattle.words.proofs.HoldingLaws.{holding-first}
 use Rattle.automaton.specs.StateSet.{StateSet}
 use Rattle.operations.specs.Marks.{nodeSet, nodeSets, sameWords}
@@ -82,7 +83,8 @@ module _ (a table : List ℕ) (stored : ℕ → StateSet) (used : List ℕ) (ele
 
   right-node : stored element ≡ old-tree .root
   right-node =
-      let u : take (element + 1) used ≡ take element used ++ getD used element 0 ∷ [] = ap (λ (i : ℕ). take i used) (add-one element) ∙ take-suc used element 0 he in
+      let u : take (element + 1) used ≡ take element used ++ getD used element 0 ∷ [] =
+      ap (λ (i : ℕ). take i used) (add-one element) ∙ take-suc used element 0 he in
       let n : 0 + length (take element used) ≡ element = zero-add _ ∙ length-take-le element used (omega arith) in
       let r = right-left (arity a) rule stored (take (element + 1) used) (drop (element + 1) used) 0 [] right-taken in
       ap stored (sym n)
@@ -97,7 +99,8 @@ module _ (a table : List ℕ) (stored : ℕ → StateSet) (used : List ℕ) (ele
       root : rootSet a table xs ≡ new-tree .root
       root = root-read a table xs hx
 
-      go : Tested (sameWords (rootSet a table xs) (stored element)) → map setIn (outcomesBehind a table stored used element xs) ≡ values a rule behind (new-tree .root ∷ σ)
+      go : Tested (sameWords (rootSet a table xs) (stored element))
+          → map setIn (outcomesBehind a table stored used element xs) ≡ values a rule behind (new-tree .root ∷ σ)
       go (holds same) =
           let q : old-tree .root ≡ new-tree .root = sym right-node ∙ sym (same-words (rootSet a table xs) (stored element) same) ∙ root in
           rw same
@@ -106,7 +109,8 @@ module _ (a table : List ℕ) (stored : ℕ → StateSet) (used : List ℕ) (ele
           ∙ ap (λ (r : StateSet). values a rule behind (r ∷ σ)) q)
       go (fails other) =
           rw (other, right-stack (arity a) rule stored front 0 [] right-front, root)
-          (propagate-right a table used element stored behind (element + 1) [] σ (old-tree .root) (new-tree .root) refl (holding-first (arity a) used element) right-behind)
+          (propagate-right a table used element stored behind (element + 1) [] σ (old-tree .root) (new-tree .root) refl
+          (holding-first (arity a) used element) right-behind)
 
   pub outcomes-right : map setIn (outcomesAfter a table stored used element xs) ≡ nodeSets a table (splice a used element xs)
   unfolding outcomesAfter nodeSets spliceBy front behind σ
@@ -115,7 +119,8 @@ module _ (a table : List ℕ) (stored : ℕ → StateSet) (used : List ℕ) (ele
       let n : length front ≡ startOf a used element = length-take-le (startOf a used element) used (omega arith) in
       let kept-front : map setIn (keptFrom stored 0 (startOf a used element)) ≡ values a rule front [] =
       sets-kept stored (startOf a used element) 0 ∙ ap (listFrom stored 0) (sym n) ∙ right-list (arity a) rule stored front 0 [] right-front in
-      map-append setIn (keptFrom stored 0 (startOf a used element)) (map recomputed (values a rule xs []) ++ outcomesBehind a table stored used element xs)
+      map-append setIn (keptFrom stored 0 (startOf a used element))
+      (map recomputed (values a rule xs []) ++ outcomesBehind a table stored used element xs)
       ∙ ap₂ (λ (l k : List StateSet). l ++ k) kept-front
       (map-append setIn (map recomputed (values a rule xs [])) (outcomesBehind a table stored used element xs)
       ∙ ap₂ (λ (l k : List StateSet). l ++ k) (sets-recomputed (values a rule xs [])) behind-right)

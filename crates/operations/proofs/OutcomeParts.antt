@@ -12,14 +12,17 @@ use Rattle.words.specs.Lists.{count, listFrom}
 use Rattle.words.specs.Shape.{depthOfBy}
 use Rattle.words.specs.Postfix.{arity, oneTree, startOf, isAncestor, depthOf, values, stackAfter}
 use Rattle.words.proofs.TestLaws.{and-true}
-use Rattle.words.proofs.ListLaws.{length-listFrom, listFrom-add, getD-listFrom, listFrom-getD, listFrom-offset, map-listFrom, count-append, count-map}
+use Rattle.words.proofs.ListLaws.{length-listFrom, listFrom-add, getD-listFrom, listFrom-getD}
+use Rattle.words.proofs.ListLaws.{listFrom-offset, map-listFrom, count-append, count-map}
 use Rattle.words.proofs.CountLaws.{count-wider}
 use Rattle.words.proofs.StackLaws.{length-values, read, Right, list-right, right-last}
 use Rattle.automaton.specs.StateSet.{StateSet}
 use Rattle.operations.specs.Marks.{nodeSet, nodeSets, sameWords}
-use Rattle.operations.specs.Exchange.{Outcome, kept, recomputed, isRecomputed, recomputedIn, keptFrom, rootSet, outcomesBehind, outcomesAfter, outcomes}
+use Rattle.operations.specs.Exchange.{Outcome, kept, recomputed, isRecomputed, recomputedIn}
+use Rattle.operations.specs.Exchange.{keptFrom, rootSet, outcomesBehind, outcomesAfter, outcomes}
 use Rattle.operations.specs.ExchangeCall.{ExchangeCall, usedIn, storedIn}
-use Rattle.operations.specs.Recomputation.{outcomeAt, outcomeOf, setAfter, behindIn, oldNumber, newNumber, ancestor, continues, recomputes}
+use Rattle.operations.specs.Recomputation.{outcomeAt, outcomeOf, setAfter, behindIn, oldNumber}
+use Rattle.operations.specs.Recomputation.{newNumber, ancestor, continues, recomputes}
 use Rattle.operations.proofs.MarksLaws.{length-nodeSets}
 use Rattle.operations.proofs.PropagateLaws.{count-kept}
 use Rattle.operations.proofs.OutcomeLaws.{root-read}
@@ -27,7 +30,8 @@ use Rattle.operations.proofs.BehindLaws.{chosen-at, chosen-behind, reco
 use Rattle.operations.proofs.RuleLaws.{length-behind}
 
 -- the last state set of a tree is its root's
-pub root-last : (a table xs : List ℕ) → oneTree a xs ≡ true → 0 < length xs → getD (nodeSets a table xs) (length xs - 1) [] ≡ rootSet a table xs
+pub root-last : (a table xs : List ℕ) → oneTree a xs ≡ true → 0 < length xs
+    → getD (nodeSets a table xs) (length xs - 1) [] ≡ rootSet a table xs
 unfolding nodeSets
 root-last a table xs h l =
     ap f (sym place)

@@ -24,7 +24,8 @@ module _ (a table : List ℕ) (stored : ℕ → StateSet) (n : ℕ) (whole : (i 
   whole-kept zero j h = tt
   whole-kept (suc m) j h = (whole j (omega arith), whole-kept m (suc j) (omega arith))
 
-  whole-propagate : (above : ℕ → Bool) (ws : List ℕ) (j : ℕ) (s : List StateSet) → j + length ws ≤ n → Whole (propagate a table stored above j ws s)
+  whole-propagate : (above : ℕ → Bool) (ws : List ℕ) (j : ℕ) (s : List StateSet) → j + length ws ≤ n
+      → Whole (propagate a table stored above j ws s)
   unfolding propagate valueOnBy
   whole-propagate above [] j s h = tt
   whole-propagate above (w ∷ ws) j s h =
@@ -36,13 +37,16 @@ module _ (a table : List ℕ) (stored : ℕ → StateSet) (n : ℕ) (whole : (i 
 
       go : (b c : Bool) → Whole (propagate a table stored above (suc j) ws (stored j ∷ drop (arity a w) s))
           → Whole (propagate a table stored above (suc j) ws (new ∷ drop (arity a w) s))
-          → Whole (cond b (cond c (recomputed new ∷ keptFrom stored (suc j) (length ws)) (recomputed new ∷ propagate a table stored above (suc j) ws (new ∷ drop (arity a w) s)))
+          → Whole (cond b
+          (cond c (recomputed new ∷ keptFrom stored (suc j) (length ws))
+          (recomputed new ∷ propagate a table stored above (suc j) ws (new ∷ drop (arity a w) s)))
           (kept (stored j) ∷ propagate a table stored above (suc j) ws (stored j ∷ drop (arity a w) s)))
       go false c beside onward = (whole j (omega arith), beside)
       go true true beside onward = (length-nodeSet table w _, whole-kept (length ws) (suc j) (omega arith))
       go true false beside onward = (length-nodeSet table w _, onward)
 
-  whole-behind : (used : List ℕ) (element : ℕ) (xs : List ℕ) → element < length used → length used ≤ n → Whole (outcomesBehind a table stored used element xs)
+  whole-behind : (used : List ℕ) (element : ℕ) (xs : List ℕ) → element < length used → length used ≤ n
+      → Whole (outcomesBehind a table stored used element xs)
   unfolding outcomesBehind
   whole-behind used element xs h l = go (sameWords (rootSet a table xs) (stored element))
     where
@@ -55,11 +59,14 @@ module _ (a table : List ℕ) (stored : ℕ → StateSet) (n : ℕ) (whole : (i 
       fits : element + 1 + length rest ≤ n
       fits = rw (length-drop (element + 1) used) (omega arith)
 
-      go : (b : Bool) → Whole (cond b (keptFrom stored (element + 1) (length rest)) (propagate a table stored (isAncestor a used element) (element + 1) rest stack))
+      go : (b : Bool)
+          → Whole (cond b (keptFrom stored (element + 1) (length rest))
+          (propagate a table stored (isAncestor a used element) (element + 1) rest stack))
       go true = whole-kept (length rest) (element + 1) fits
       go false = whole-propagate (isAncestor a used element) rest (element + 1) stack fits
 
-  pub whole-outcomes : (used : List ℕ) (element : ℕ) (xs : List ℕ) → element < length used → length used ≤ n → Whole (outcomesAfter a table stored used element xs)
+  pub whole-outcomes : (used : List ℕ) (element : ℕ) (xs : List ℕ) → element < length used → length used ≤ n
+      → Whole (outcomesAfter a table stored used element xs)
   unfolding outcomesAfter
   whole-outcomes used element xs h l =
       let size = sizeOf table in

@@ -34,7 +34,8 @@ module _ (a table : List ℕ) (stored : ℕ → StateSet) (above : ℕ → Bool)
   unfolding propagate
   propagate-beside e = rw e
 
-  pub propagate-last : above j ≡ true → sameWords new (stored j) ≡ true → from j (w ∷ ws) stack ≡ recomputed new ∷ keptFrom stored (suc j) (length ws)
+  pub propagate-last : above j ≡ true → sameWords new (stored j) ≡ true
+      → from j (w ∷ ws) stack ≡ recomputed new ∷ keptFrom stored (suc j) (length ws)
   unfolding propagate
   propagate-last e f = rw (e, f)
 
@@ -84,7 +85,8 @@ module _ (a table p : List ℕ) (element : ℕ) (stored : ℕ → StateSet) wher
       (t s : List StateSet) (r₀ r : StateSet) → drop j p ≡ ws → HoldingTree (arity a) p element j (length t)
       → RightFrom j ws (t ++ r₀ ∷ s) → map setIn (up j ws (t ++ r ∷ s)) ≡ vals ws (t ++ r ∷ s)
 
-  module _ (w : ℕ) (ws : List ℕ) (j : ℕ) (t s : List StateSet) (r₀ r : StateSet) (q : drop j p ≡ w ∷ ws) (y : HoldingTree (arity a) p element j (length t))
+  module _ (w : ℕ) (ws : List ℕ) (j : ℕ) (t s : List StateSet) (r₀ r : StateSet) (q : drop j p ≡ w ∷ ws)
+      (y : HoldingTree (arity a) p element j (length t))
       (h : Right (arity a) (nodeSet table) stored j (w ∷ ws) (t ++ r₀ ∷ s)) (ih : Onward ws (suc j)) where
     abbrev k : ℕ
     k = arity a w
@@ -102,11 +104,13 @@ module _ (a table p : List ℕ) (element : ℕ) (stored : ℕ → StateSet) wher
         let d : drop k (t ++ r ∷ s) ≡ drop k t ++ r ∷ s = drop-append-le k t (r ∷ s) l in
         let d₀ : drop k (t ++ r₀ ∷ s) ≡ drop k t ++ r₀ ∷ s = drop-append-le k t (r₀ ∷ s) l in
         let n : length t - arity a (getD p j 0) + 1 ≡ suc (length (drop k t)) = rw (word, length-drop k t) (add-one (length t - k)) in
-        let y′ : HoldingTree (arity a) p element (suc j) (suc (length (drop k t))) = subst (HoldingTree (arity a) p element (suc j)) n (holding-others (arity a) p element j (length t) y l′) in
+        let y′ : HoldingTree (arity a) p element (suc j) (suc (length (drop k t))) =
+        subst (HoldingTree (arity a) p element (suc j)) n (holding-others (arity a) p element j (length t) y l′) in
         let h′ : RightFrom (suc j) ws (on w t ∷ (drop k t ++ r₀ ∷ s)) =
         subst (λ (x : StateSet). RightFrom (suc j) ws (x ∷ (drop k t ++ r₀ ∷ s))) (on-top (arity a) (nodeSet table) w t (r₀ ∷ s) l)
         (subst (λ (x : List StateSet). RightFrom (suc j) ws (on w (t ++ r₀ ∷ s) ∷ x)) d₀ (h .1)) in
-        ap (map setIn) (propagate-beside a table stored (isAncestor a p element) j w ws (t ++ r ∷ s) (takes-others (arity a) p element j (length t) y l′))
+        ap (map setIn)
+        (propagate-beside a table stored (isAncestor a p element) j w ws (t ++ r ∷ s) (takes-others (arity a) p element j (length t) y l′))
         ∙ ap₂ (λ (x : StateSet) (z : List StateSet). x ∷ map setIn (up (suc j) ws (x ∷ z))) v d
         ∙ ap (λ (z : List StateSet). on w t ∷ z) (ih (on w t ∷ drop k t) s r₀ r (tail-drop p j w ws q .1) y′ h′)
         ∙ sym (ap₂ (λ (x : StateSet) (z : List StateSet). x ∷ vals ws (x ∷ z)) u d)

@@ -20,7 +20,8 @@ use Rattle.operations.proofs.LengthLaws.{sized-outcomes}
 use Rattle.operations.proofs.AcceptedLaws.{accepted-values, ExchangeAccepted, exchange-accepted}
 use Rattle.operations.proofs.AnyTable.{nodeSet-reached}
 use Rattle.operations.proofs.RuleLaws.{Follows, follows-length, follows-outcomes, from-children}
-use Rattle.operations.proofs.OutcomeParts.{root-last, outcome-before, outcome-replaced, recomputed-parts, behindOf, outcome-rest, count-rest, recomputed-most}
+use Rattle.operations.proofs.OutcomeParts.{root-last, outcome-before, outcome-replaced, recomputed-parts}
+use Rattle.operations.proofs.OutcomeParts.{behindOf, outcome-rest, count-rest, recomputed-most}
 
 module _ (c : ExchangeCall) (elements workedOut : ℕ) (h : answeredBy c ≡ accepted (elements ∷ workedOut ∷ [])) where
   abbrev a : List ℕ

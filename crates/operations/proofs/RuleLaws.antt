@@ -73,7 +73,8 @@ module _ (a table : List ℕ) where
     unfolding propagate
     follows-propagate above [] j s = tt
     follows-propagate above (w ∷ ws) j s =
-        go (tested (above j)) (tested (sameWords new (stored j))) (follows-propagate above ws (suc j) (stored j ∷ rest)) (follows-propagate above ws (suc j) (new ∷ rest))
+        go (tested (above j)) (tested (sameWords new (stored j))) (follows-propagate above ws (suc j) (stored j ∷ rest))
+        (follows-propagate above ws (suc j) (new ∷ rest))
       where
         new : StateSet
         new = on w s
@@ -81,10 +82,13 @@ module _ (a table : List ℕ) where
         rest : List StateSet
         rest = drop (arity a w) s
 
-        go : Tested (above j) → Tested (sameWords new (stored j)) → Follows ws (stored j ∷ rest) (propagate a table stored above (suc j) ws (stored j ∷ rest))
-            → Follows ws (new ∷ rest) (propagate a table stored above (suc j) ws (new ∷ rest)) → Follows (w ∷ ws) s (propagate a table stored above j (w ∷ ws) s)
+        go : Tested (above j) → Tested (sameWords new (stored j))
+            → Follows ws (stored j ∷ rest) (propagate a table stored above (suc j) ws (stored j ∷ rest))
+            → Follows ws (new ∷ rest) (propagate a table stored above (suc j) ws (new ∷ rest))
+            → Follows (w ∷ ws) s (propagate a table stored above j (w ∷ ws) s)
         go (fails x) y l m = subst (Follows (w ∷ ws) s) (sym (propagate-beside a table stored above j w ws s x)) (tt, l)
-        go (holds x) (holds y) l m = subst (Follows (w ∷ ws) s) (sym (propagate-last a table stored above j w ws s x y)) (refl, follows-kept ws (suc j) (new ∷ rest))
+        go (holds x) (holds y) l m =
+            subst (Follows (w ∷ ws) s) (sym (propagate-last a table stored above j w ws s x y)) (refl, follows-kept ws (suc j) (new ∷ rest))
         go (holds x) (fails y) l m = subst (Follows (w ∷ ws) s) (sym (propagate-onward a table stored above j w ws s x y)) (refl, m)
 
   follows-values : (ws : List ℕ) (s : List StateSet) → Follows ws s (map recomputed (values a (nodeSet table) ws s))
@@ -92,7 +96,8 @@ module _ (a table : List ℕ) where
   follows-values [] s = tt
   follows-values (w ∷ ws) s = (refl, follows-values ws (on w s ∷ drop (arity a w) s))
 
-  stack-values : (ws : List ℕ) (s : List StateSet) → stackOf ws (map recomputed (values a (nodeSet table) ws s)) s ≡ stackAfter a (nodeSet table) ws s
+  stack-values : (ws : List ℕ) (s : List StateSet)
+      → stackOf ws (map recomputed (values a (nodeSet table) ws s)) s ≡ stackAfter a (nodeSet table) ws s
   unfolding valuesBy stackAfterBy
   stack-values [] s = refl
   stack-values (w ∷ ws) s = stack-values ws (on w s ∷ drop (arity a w) s)
@@ -117,21 +122,27 @@ module _ (a table : List ℕ) where
     unfolding outcomesBehind σ
     follows-behind = go (tested (sameWords (rootSet a table xs) (stored element)))
       where
-        go : Tested (sameWords (rootSet a table xs) (stored element)) → Follows (drop (element + 1) used) (rootSet a table xs ∷ σ) (outcomesBehind a table stored used element xs)
+        go : Tested (sameWords (rootSet a table xs) (stored element))
+            → Follows (drop (element + 1) used) (rootSet a table xs ∷ σ) (outcomesBehind a table stored used element xs)
         go (holds b) = rw b (follows-kept stored (drop (element + 1) used) (element + 1) (rootSet a table xs ∷ σ))
-        go (fails b) = rw b (follows-propagate stored (isAncestor a used element) (drop (element + 1) used) (element + 1) (rootSet a table xs ∷ σ))
+        go (fails b) =
+            rw b (follows-propagate stored (isAncestor a used element) (drop (element + 1) used) (element + 1) (rootSet a table xs ∷ σ))
 
     pub length-behind : length (outcomesBehind a table stored used element xs) ≡ length (drop (element + 1) used)
-    length-behind = follows-length (drop (element + 1) used) (rootSet a table xs ∷ σ) (outcomesBehind a table stored used element xs) follows-behind
+    length-behind =
+        follows-length (drop (element + 1) used) (rootSet a table xs ∷ σ) (outcomesBehind a table stored used element xs) follows-behind
 
     pub follows-outcomes : Follows (splice a used element xs) [] (outcomesAfter a table stored used element xs)
     unfolding spliceBy outcomesAfter σ
     follows-outcomes =
         follows-append front (xs ++ drop (element + 1) used) [] (keptFrom stored 0 (startOf a used element)) _
         (subst (λ (i : ℕ). Follows front [] (keptFrom stored 0 i)) many (follows-kept stored front 0 []))
-        (subst (λ (s : List StateSet). Follows (xs ++ drop (element + 1) used) s (map recomputed (nodeSets a table xs) ++ outcomesBehind a table stored used element xs)) (sym stack-front)
-        (follows-append xs (drop (element + 1) used) σ (map recomputed (nodeSets a table xs)) (outcomesBehind a table stored used element xs) follows-replaced
-        (subst (λ (s : List StateSet). Follows (drop (element + 1) used) s (outcomesBehind a table stored used element xs)) (sym stack-replaced) follows-behind)))
+        (subst (λ (s : List StateSet). Follows (xs ++ drop (element + 1) used) s
+        (map recomputed (nodeSets a table xs) ++ outcomesBehind a table stored used element xs)) (sym stack-front)
+        (follows-append xs (drop (element + 1) used) σ (map recomputed (nodeSets a table xs))
+        (outcomesBehind a table stored used element xs) follows-replaced
+        (subst (λ (s : List StateSet). Follows (drop (element + 1) used) s (outcomesBehind a table stored used element xs))
+        (sym stack-replaced) follows-behind)))
       where
         front : List ℕ
         front = take (startOf a used element) used

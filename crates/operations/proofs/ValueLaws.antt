@@ -35,7 +35,8 @@ words-most table n h =
     le-trans (mul-le-mul-right (sizeOf table) h) (mul-le-mul-left 4096 few)
 
 -- Run: at most 4,096 elements, and at most 32 ones in a word
-pub run-values : (a table ch marks : List ℕ) {n cells : ℕ} → accepted (n ∷ cells ∷ []) ≡ runAnswer a table ch marks → (n < 2 ^ 32) × (cells < 2 ^ 32)
+pub run-values : (a table ch marks : List ℕ) {n cells : ℕ} → accepted (n ∷ cells ∷ []) ≡ runAnswer a table ch marks
+    → (n < 2 ^ 32) × (cells < 2 ^ 32)
 unfolding runAnswer
 run-values a table ch marks {n} {cells} h =
     let v = accepted-values (runFault a table ch (length marks)) _ (n ∷ cells ∷ []) (sym h) in

@@ -21,7 +21,8 @@ use Rattle.operations.specs.Marks.{sizeOf, nodeSet, ReachedSet, nodeSets
 use Rattle.operations.specs.Run.{runRefusals, runAnswer, runExit, cellsIn}
 use Rattle.operations.specs.Listing.{listRefusals, listAnswer, listExit, matchesOf}
 use Rattle.operations.specs.Exchange.{kept, recomputed, recomputedIn, rootSet}
-use Rattle.operations.specs.ExchangeCall.{ExchangeCall, usedIn, refusalsOf, storedIn, newTreeOf, outcomesOf, answeredBy, chapterAfter, marksAfter}
+use Rattle.operations.specs.ExchangeCall.{ExchangeCall, usedIn, refusalsOf, storedIn, newTreeOf}
+use Rattle.operations.specs.ExchangeCall.{outcomesOf, answeredBy, chapterAfter, marksAfter}
 use Rattle.operations.specs.Recomputation.{outcomeOf, setAfter, startIn, behindIn, oldNumber, newNumber, recomputes}
 use Rattle.operations.specs.History.{Call, Memory, exchanges, plains}
 
@@ -128,8 +129,10 @@ pub record Fresh (alphabet table plain : List ℕ) (s : Memory) (slice : List �
   -- "the used marks (count × S words from the first) are those it writes"
   pub marks : take (s .count * sizeOf table) (s .marks) ≡ take (s .count * sizeOf table) (runExit alphabet table plain slice)
   -- "List .. answers and writes what it would with that Run's marks"
-  pub answers : (l : List ℕ) → listAnswer alphabet table (s .count) (s .marks) l ≡ listAnswer alphabet table (s .count) (runExit alphabet table plain slice) l
-  pub lists : (l : List ℕ) → listExit alphabet table (s .count) (s .marks) l ≡ listExit alphabet table (s .count) (runExit alphabet table plain slice) l
+  pub answers : (l : List ℕ)
+      → listAnswer alphabet table (s .count) (s .marks) l ≡ listAnswer alphabet table (s .count) (runExit alphabet table plain slice) l
+  pub lists : (l : List ℕ)
+      → listExit alphabet table (s .count) (s .marks) l ≡ listExit alphabet table (s .count) (runExit alphabet table plain slice) l
 
 -- the memory and the plain chapter behind the list
 pub record Faithful (alphabet table plain : List ℕ) (s : Memory) : Type 0 where
@@ -142,7 +145,8 @@ pub record Faithful (alphabet table plain : List ℕ) (s : Memory) : Type 0 wher
 abbrev pub Demand3 : Type 0
 Demand3 =
     (alphabet table chapter : List ℕ) (s : Memory) (calls : List Call) → Start alphabet table chapter s
-    → Faithful alphabet table (plains alphabet table (length (s .chapter)) (length (s .marks)) calls chapter) (exchanges alphabet table calls s)
+    → Faithful alphabet table (plains alphabet table (length (s .chapter)) (length (s .marks)) calls chapter)
+    (exchanges alphabet table calls s)
 
 -- ---- Demand 3's second half (Recomputed): "Whatever marks it is lent, true or false, each accepted Exchange works out, by
 -- document 01's rule from the parts' marks as they stand, only the new subtree and, unless its root gets the old one's marks,
@@ -180,4 +184,5 @@ pub record RecomputesOnly (c : ExchangeCall) (elements workedOut : ℕ) : Type 0
   pub most : workedOut ≤ length (c .replacement) + depthOf (c .alphabet) (usedIn c) (c .element)
 
 abbrev pub Demand3Recomputation : Type 0
-Demand3Recomputation = (c : ExchangeCall) (elements workedOut : ℕ) → answeredBy c ≡ accepted (elements ∷ workedOut ∷ []) → RecomputesOnly c elements workedOut
+Demand3Recomputation =
+    (c : ExchangeCall) (elements workedOut : ℕ) → answeredBy c ≡ accepted (elements ∷ workedOut ∷ []) → RecomputesOnly c elements workedOut

@@ -40,7 +40,8 @@ changeRefusals a table n used chapterLength marksLength i xs =
 abbrev pub exchangeRefusals : List ℕ → List ℕ → ℕ → List ℕ → ℕ → ℕ → ℕ → List ℕ → Refusals
 exchangeRefusals a table n used chapterLength marksLength i xs =
     tableRefusals a table
-    ++ ((9, wrongUsedCount n chapterLength) ∷ (markedRefusals a table n used marksLength ++ changeRefusals a table n used chapterLength marksLength i xs))
+    ++ ((9, wrongUsedCount n chapterLength)
+    ∷ (markedRefusals a table n used marksLength ++ changeRefusals a table n used chapterLength marksLength i xs))
 
 abbrev pub exchangeFault : List ℕ → List ℕ → ℕ → List ℕ → ℕ → ℕ → ℕ → List ℕ → ℕ
 exchangeFault a table n used chapterLength marksLength i xs = refusal (exchangeRefusals a table n used chapterLength marksLength i xs)

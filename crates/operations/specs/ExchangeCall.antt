@@ -6,7 +6,8 @@ use Rattle.words.specs.Refusal.{Refusals}
 use Rattle.automaton.specs.StateSet.{StateSet}
 use Rattle.words.specs.Answer.{Answer}
 use Rattle.operations.specs.Marks.{sizeOf, storedSet}
-use Rattle.operations.specs.Exchange.{Outcome, exchangeRefusals, used, newTree, outcomes, exchangeAnswer, exchangeChapter, exchangeMarks}
+use Rattle.operations.specs.Exchange.{Outcome, exchangeRefusals, used, newTree, outcomes}
+use Rattle.operations.specs.Exchange.{exchangeAnswer, exchangeChapter, exchangeMarks}
 
 pub record ExchangeCall : Type 0 where
   pub alphabet : List ℕ

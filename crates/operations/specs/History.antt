@@ -56,4 +56,5 @@ plain a table chapterLength marksLength p c =
 -- the plain chapter behind a list of calls: it is "fed the calls alone, and no answers"
 unfoldable pub plains : List ℕ → List ℕ → ℕ → ℕ → List Call → List ℕ → List ℕ
 plains a table chapterLength marksLength [] p = p
-plains a table chapterLength marksLength (c ∷ cs) p = plains a table chapterLength marksLength cs (plain a table chapterLength marksLength p c)
+plains a table chapterLength marksLength (c ∷ cs) p =
+    plains a table chapterLength marksLength cs (plain a table chapterLength marksLength p c)

@@ -13,7 +13,8 @@ use Rattle.propagation.specs.declared.Progress.{Progress}
 use Rattle.propagation.specs.Propagation.{propagateStep, propagateFrom, initial, Propagable, PropagationStart}
 use Rattle.propagation.proofs.PropagationLaws.{step-small, propagate-continues, propagate-stops}
 
-pub record Propagating (a table ch : List ℕ) (root count : ℕ) (marks₀ marks array : List ℕ) (t : Progress) (top : ℕ) (keys known places owners rows pending : List ℕ) (i : ℕ) : Type 0 where
+pub record Propagating (a table ch : List ℕ) (root count : ℕ) (marks₀ marks array : List ℕ) (t : Progress) (top : ℕ)
+    (keys known places owners rows pending : List ℕ) (i : ℕ) : Type 0 where
   pub low : root ≤ i
   pub high : i ≤ length ch
   pub marks-long : length marks ≡ length marks₀
@@ -22,9 +23,11 @@ pub record Propagating (a table ch : List ℕ) (root count : ℕ) (marks₀ mark
   pub few-recomputed : t .recomputed ≤ count + i
   pub same : propagateFrom a table ch root (length ch - root) marks₀ (initial count) ≡ propagateFrom a table ch i (length ch - i) marks t
 
-module _ {a table index ch : List ℕ} {root count : ℕ} {marks₀ array₀ : List ℕ} {height : ℕ} {keys₀ known₀ places₀ owners₀ rows₀ pending₀ : List ℕ}
+module _ {a table index ch : List ℕ} {root count : ℕ} {marks₀ array₀ : List ℕ} {height : ℕ}
+    {keys₀ known₀ places₀ owners₀ rows₀ pending₀ : List ℕ}
     (pre : PropagationStart a table index ch root marks₀ array₀ height count keys₀ known₀ places₀ owners₀ rows₀ pending₀) where
-  pub propagating-none : Propagating a table ch root count marks₀ marks₀ array₀ (initial count) height keys₀ known₀ places₀ owners₀ rows₀ pending₀ root
+  pub propagating-none : Propagating a table ch root count marks₀ marks₀ array₀
+      (initial count) height keys₀ known₀ places₀ owners₀ rows₀ pending₀ root
   propagating-none = record {
     low = omega arith;
     high = pre .nodes .order;
@@ -45,7 +48,12 @@ module _ {a table index ch : List ℕ} {root count : ℕ} {marks₀ array₀ : L
           let r = g .few-recomputed in
           let c = pre .few in
           record {
-            at = record { workable = workable-long (g .marks-long) (pre .nodes .workable); indexed = pre .nodes .indexed; inside = l; prepared = g .prepared };
+            at = record {
+              workable = workable-long (g .marks-long) (pre .nodes .workable);
+              indexed = pre .nodes .indexed;
+              inside = l;
+              prepared = g .prepared;
+            };
             few-reached = omega arith;
             few-recomputed = omega arith;
           }
@@ -54,13 +62,15 @@ module _ {a table index ch : List ℕ} {root count : ℕ} {marks₀ array₀ : L
         one : length ch - i ≡ suc (length ch - suc i)
         one = omega arith
 
-        pub propagating-stops : next .active ≡ false → (m, next .recomputed) ≡ propagateFrom a table ch root (length ch - root) marks₀ (initial count)
+        pub propagating-stops : next .active ≡ false
+            → (m, next .recomputed) ≡ propagateFrom a table ch root (length ch - root) marks₀ (initial count)
         propagating-stops h =
             sym
             (g .same ∙ ap (λ (n : ℕ). propagateFrom a table ch i n marks t) one
             ∙ propagate-stops a table ch i marks t (length ch - suc i) m next e h)
 
-        pub propagating-more : next .active ≡ true → length m ≡ length marks → {array′ : List ℕ} {top′ : ℕ} {keys′ known′ places′ owners′ rows′ pending′ : List ℕ}
+        pub propagating-more : next .active ≡ true → length m ≡ length marks
+            → {array′ : List ℕ} {top′ : ℕ} {keys′ known′ places′ owners′ rows′ pending′ : List ℕ}
             → Maintained a table ch (i + 1) m array′ top′ keys′ known′ places′ owners′ rows′ pending′
             → Propagating a table ch root count marks₀ m array′ next top′ keys′ known′ places′ owners′ rows′ pending′ (i + 1)
         propagating-more h p d =

@@ -33,7 +33,8 @@ module _ (a table ch : List ℕ) (i : ℕ) (marks : List ℕ) where
   marked-same h =
       let at = i * sizeOf table in
       ap (λ (r : StateSet). paste marks at r (sizeOf table)) (same-words (setFrom a table ch marks i) (storedSet (sizeOf table) marks i) h)
-      ∙ ap (λ (u : List ℕ). (take at marks ++ u) ++ drop (at + sizeOf table) marks) (take-take (sizeOf table) (sizeOf table) (drop at marks) (omega arith))
+      ∙ ap (λ (u : List ℕ). (take at marks ++ u) ++ drop (at + sizeOf table) marks)
+      (take-take (sizeOf table) (sizeOf table) (drop at marks) (omega arith))
       ∙ sym (paste-same marks at at (sizeOf table) refl)
 
   pub recomputed-is : (b : Bool) → sameWords (setFrom a table ch marks i) (storedSet (sizeOf table) marks i) ≡ b
@@ -52,7 +53,9 @@ module _ {a table index ch : List ℕ} {i : ℕ} {marks array : List ℕ} {heigh
   row-fits = rw s (row-inside i (length ch) (sizeOf table) (length marks) (g .inside) (g .workable .marks-fit))
 
   pub row-small : i * size + size ≤ 131072
-  row-small = row-inside i (length ch) size 131072 (g .inside) (words-few (length ch) size (g .workable .tree .few) (rw s (workable-size (g .workable))))
+  row-small =
+      row-inside i (length ch) size 131072 (g .inside)
+      (words-few (length ch) size (g .workable .tree .few) (rw s (workable-size (g .workable))))
 
   pub row-few : size ≤ 32
   row-few = rw s (workable-size (g .workable))
@@ -118,7 +121,9 @@ module _ {a table index ch : List ℕ} {i : ℕ} {marks array : List ℕ} {heigh
       → Maintained a table ch (i + 1) marks array′ height′ keys known places owners rows pending
   node-passed p q =
       rw (p, q) (record {
-        represented = represented-more (g .prepared .represented) (g .workable .tree) (g .inside) (rankOf a (symbolOf (getD ch i 0))) refl i (omega arith) marks (λ j l. refl) refl;
+        represented =
+            represented-more (g .prepared .represented) (g .workable .tree) (g .inside) (rankOf a (symbolOf (getD ch i 0))) refl i
+            (omega arith) marks (λ j l. refl) refl;
         remembered = remembered-later (g .prepared .remembered);
       })
 
@@ -136,14 +141,16 @@ module _ (a table ch : List ℕ) (i : ℕ) (marks : List ℕ) (t : Progress) whe
   unfolding propagateStep
   step-beside k e h =
       ap beside e
-      ∙ sym (ap (λ (x : Bool). cond x (beside r) (ancestor (recomputeAt a table ch i marks))) (lt-ltb r (t .reach) (subst (λ (x : ℕ). x < t .reach) e h)))
+      ∙ sym (ap (λ (x : Bool). cond x (beside r) (ancestor (recomputeAt a table ch i marks)))
+      (lt-ltb r (t .reach) (subst (λ (x : ℕ). x < t .reach) e h)))
 
   pub step-ancestor : (k : ℕ) → k ≡ arity a (getD ch i 0) → t .reach ≤ k → (p : List ℕ × Bool) → p ≡ recomputeAt a table ch i marks
       → ancestor p ≡ propagateStep a table ch i marks t
   unfolding propagateStep
   step-ancestor k e h p q =
       ap ancestor q
-      ∙ sym (ap (λ (x : Bool). cond x (beside r) (ancestor (recomputeAt a table ch i marks))) (le-ltb r (t .reach) (subst (λ (x : ℕ). t .reach ≤ x) e h)))
+      ∙ sym (ap (λ (x : Bool). cond x (beside r) (ancestor (recomputeAt a table ch i marks)))
+      (le-ltb r (t .reach) (subst (λ (x : ℕ). t .reach ≤ x) e h)))
 
   -- what one node adds to the counts
   pub record Small (next : Progress) : Type 0 where
@@ -159,10 +166,12 @@ module _ (a table ch : List ℕ) (i : ℕ) (marks : List ℕ) (t : Progress) whe
       go false = record { reach = omega arith; recomputed = omega arith }
 
   module _ (n : ℕ) (m : List ℕ) (next : Progress) (e : (m, next) ≡ propagateStep a table ch i marks t) where
-    turn : propagateFrom a table ch i (suc n) marks t ≡ cond (next .active) (propagateFrom a table ch (suc i) n m next) (m, next .recomputed)
+    turn : propagateFrom a table ch i (suc n) marks t
+        ≡ cond (next .active) (propagateFrom a table ch (suc i) n m next) (m, next .recomputed)
     unfolding propagateFrom
     turn =
-        ap (λ (p : List ℕ × Progress). cond (p .1 .active) (propagateFrom a table ch (suc i) n (p .0) (p .1)) (p .0, p .1 .recomputed)) (sym e)
+        ap (λ (p : List ℕ × Progress). cond (p .1 .active) (propagateFrom a table ch (suc i) n (p .0) (p .1))
+        (p .0, p .1 .recomputed)) (sym e)
 
     pub propagate-continues : next .active ≡ true → propagateFrom a table ch i (suc n) marks t ≡ propagateFrom a table ch (suc i) n m next
     propagate-continues h = turn ∙ ap (λ (x : Bool). cond x (propagateFrom a table ch (suc i) n m next) (m, next .recomputed)) h

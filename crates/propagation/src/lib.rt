@@ -51,14 +51,17 @@ fn recompute(
     pending: &mut [u32],
 ) -> Recomputed
     requires { ⌜
-        AtNode (now alphabet) (now table) (now index) (now nodes) i (now marks) (now stack) height (now keys) (now known) (now places) (now owners) (now rows) (now pending)
+        AtNode (now alphabet) (now table) (now index) (now nodes) i (now marks) (now stack) height (now keys) (now known) (now places)
+        (now owners) (now rows) (now pending)
         ⌝ }
     ensures marks { λ r. ⌜
         (now (marks .exit), r .changed)
         ≡ recomputeAt (now (alphabet .entry)) (now (table .entry)) (now (nodes .entry)) i (now (marks .entry))
         ⌝ }
     ensures kept { λ r. ⌜
-        Maintained (now (alphabet .entry)) (now (table .entry)) (now (nodes .entry)) (i + 1) (now (marks .exit)) (now (stack .exit)) (r .height) (now (keys .exit)) (now (known .exit)) (now (places .exit)) (now (owners .exit)) (now (rows .exit)) (now (pending .exit))
+        Maintained (now (alphabet .entry)) (now (table .entry)) (now (nodes .entry)) (i + 1) (now (marks .exit)) (now (stack .exit))
+        (r .height) (now (keys .exit)) (now (known .exit)) (now (places .exit)) (now (owners .exit)) (now (rows .exit))
+        (now (pending .exit))
         ⌝ }
 {
     let size = set_size(table);
@@ -108,14 +111,17 @@ fn propagate_node(
     pending: &mut [u32],
 ) -> Passed
     requires { ⌜
-        Propagable (now alphabet) (now table) (now index) (now nodes) i (now marks) (now stack) height progress (now keys) (now known) (now places) (now owners) (now rows) (now pending)
+        Propagable (now alphabet) (now table) (now index) (now nodes) i (now marks) (now stack) height progress (now keys) (now known)
+        (now places) (now owners) (now rows) (now pending)
         ⌝ }
     ensures marks { λ r. ⌜
         (now (marks .exit), r .progress)
         ≡ propagateStep (now (alphabet .entry)) (now (table .entry)) (now (nodes .entry)) i (now (marks .entry)) progress
         ⌝ }
     ensures kept { λ r. ⌜
-        Maintained (now (alphabet .entry)) (now (table .entry)) (now (nodes .entry)) (i + 1) (now (marks .exit)) (now (stack .exit)) (r .height) (now (keys .exit)) (now (known .exit)) (now (places .exit)) (now (owners .exit)) (now (rows .exit)) (now (pending .exit))
+        Maintained (now (alphabet .entry)) (now (table .entry)) (now (nodes .entry)) (i + 1) (now (marks .exit)) (now (stack .exit))
+        (r .height) (now (keys .exit)) (now (known .exit)) (now (places .exit)) (now (owners .exit)) (now (rows .exit))
+        (now (pending .exit))
         ⌝ }
 {
     let children = rank(alphabet, (nodes[i] % LOW_BYTE) as usize);
@@ -178,11 +184,13 @@ pub fn propagate(
     pending: &mut [u32],
 ) -> usize
     requires { ⌜
-        PropagationStart (now alphabet) (now table) (now index) (now nodes) root (now marks) (now stack) height count (now keys) (now known) (now places) (now owners) (now rows) (now pending)
+        PropagationStart (now alphabet) (now table) (now index) (now nodes) root (now marks) (now stack) height count (now keys) (now known)
+        (now places) (now owners) (now rows) (now pending)
         ⌝ }
     ensures { λ r. ⌜
         (now (marks .exit), r)
-        ≡ propagateFrom (now (alphabet .entry)) (now (table .entry)) (now (nodes .entry)) root (length (now (nodes .entry)) - root) (now (marks .entry)) (initial count)
+        ≡ propagateFrom (now (alphabet .entry)) (now (table .entry)) (now (nodes .entry)) root (length (now (nodes .entry)) - root)
+        (now (marks .entry)) (initial count)
         ⌝ }
 {
     let mut progress = Progress {

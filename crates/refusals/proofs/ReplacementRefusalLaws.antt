@@ -32,7 +32,8 @@ result-length a used e s xs h q =
     ap (λ (i : ℕ). i + length xs + (length used - e - 1)) q ∙ omega (arith, length-splice (arity a) used e xs h)
 
 -- 16 is judged by that length
-pub judged-length : (table : List ℕ) (chapterLength marksLength : ℕ) {n m : ℕ} {b : Bool} → n ≡ m → b ≡ resultTooLong table n chapterLength marksLength
+pub judged-length : (table : List ℕ) (chapterLength marksLength : ℕ) {n m : ℕ} {b : Bool} → n ≡ m
+    → b ≡ resultTooLong table n chapterLength marksLength
     → resultTooLong table m chapterLength marksLength ≡ b
 judged-length table chapterLength marksLength l e = ap (λ (i : ℕ). resultTooLong table i chapterLength marksLength) (sym l) ∙ sym e
 

@@ -60,7 +60,8 @@ fn change_fault(
     ensures { λ r. ⌜
         r
         ≡ refusal
-        (changeRefusals (now (alphabet .entry)) (now (table .entry)) (length (now (used .entry))) (now (used .entry)) «chapter_length» «marks_length» element (now (replacement .entry)))
+        (changeRefusals (now (alphabet .entry)) (now (table .entry)) (length (now (used .entry)))
+        (now (used .entry)) «chapter_length» «marks_length» element (now (replacement .entry)))
         ⌝ }
 {
     if element >= used.len() {
@@ -90,7 +91,8 @@ pub fn exchange_fault(
 ) -> u32
     ensures { λ r. ⌜
         r
-        ≡ exchangeFault (now (alphabet .entry)) (now (table .entry)) count (take count (now (chapter .entry))) (length (now (chapter .entry))) «marks_length» element (now (replacement .entry))
+        ≡ exchangeFault (now (alphabet .entry)) (now (table .entry)) count (take count (now (chapter .entry)))
+        (length (now (chapter .entry))) «marks_length» element (now (replacement .entry))
         ⌝ }
 {
     let first = table_fault(alphabet, table);

@@ -77,7 +77,8 @@ unfolding matchesIn
 matches-below final [] i n h = tt
 matches-below final (r ∷ rs) i n h = go (contains r final) (matches-below final rs (suc i) n (omega arith))
   where
-    go : (b : Bool) → AllBelow n (matchesIn final (suc i) rs) → AllBelow n (cond b (i ∷ matchesIn final (suc i) rs) (matchesIn final (suc i) rs))
+    go : (b : Bool) → AllBelow n (matchesIn final (suc i) rs)
+        → AllBelow n (cond b (i ∷ matchesIn final (suc i) rs) (matchesIn final (suc i) rs))
     go true k = (omega arith, k)
     go false k = k
 

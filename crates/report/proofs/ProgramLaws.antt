@@ -67,7 +67,8 @@ module _ (input : List ℕ) where
         let q : 3 + n + m ≡ 3 + (n + m) = omega arith in
         rw (first-count, second-count, third-count, q, behind-counts (n + m))
         (ap (take k)
-        (sym (drop-drop m n (a ++ (e ++ (ch ++ rest)))) ∙ ap (drop m) (drop-at a (e ++ (ch ++ rest)) n alphabet) ∙ drop-at e (ch ++ rest) m rule)
+        (sym (drop-drop m n (a ++ (e ++ (ch ++ rest)))) ∙ ap (drop m) (drop-at a (e ++ (ch ++ rest)) n alphabet)
+        ∙ drop-at e (ch ++ rest) m rule)
         ∙ take-at ch rest k chapter)
 
     pub program-complete : programOutput input ≡ outputOf true (take 65 a) (take 65 e) (take 257 ch)

@@ -28,7 +28,8 @@ use Rattle.encoding.specs.ByteWriting.{BytesWritten}
 use Rattle.encoding.proofs.ByteWritingLaws.{bytes-written-same, bytes-written-whole}
 use Rattle.report.proofs.KeptLaws.{complete-output, early-output}
 use Rattle.report.proofs.OutputLength.{output-short}
-use Rattle.report.proofs.ReportedAnswerLaws.{compile-refused, chapter-over, run-refusal, list-not-refused, listed-long, listed-output}
+use Rattle.report.proofs.ReportedAnswerLaws.{compile-refused, chapter-over, run-refusal}
+use Rattle.report.proofs.ReportedAnswerLaws.{list-not-refused, listed-long, listed-output}
 
 -- the slices as they are lent first
 abbrev pub zeros : ℕ → List ℕ
@@ -39,7 +40,8 @@ many n = length-replicate {A = ℕ} n 0
 
 -- ---- the whole output, in a slice that it fits
 
-whole : (bs out out′ : List ℕ) (r : ℕ) → length bs ≤ 4096 → 4096 ≤ length out → BytesWritten 0 bs out out′ r → (r ≡ length bs) × (out′ ≡ bs ++ drop r out)
+whole : (bs out out′ : List ℕ) (r : ℕ) → length bs ≤ 4096 → 4096 ≤ length out → BytesWritten 0 bs out out′ r
+    → (r ≡ length bs) × (out′ ≡ bs ++ drop r out)
 whole bs out out′ r s fits w =
     let p = bytes-written-whole bs out out′ r w (omega arith) in
     (p .0, p .1 ∙ ap (λ (n : ℕ). bs ++ drop n out) (sym (p .0)))
@@ -48,12 +50,14 @@ module _ (complete : Bool) (a e ch : List ℕ) {out out′ : List ℕ} {r : ℕ}
   pub complete-whole : complete ≡ true → BytesWritten 0 (marklistOutput a e ch) out out′ r
       → (r ≡ length (outputOf complete a e ch)) × (out′ ≡ outputOf complete a e ch ++ drop r out)
   complete-whole t w =
-      whole (outputOf complete a e ch) out out′ r (output-short complete a e ch) fits (bytes-written-same w (sym (complete-output complete a e ch t)))
+      whole (outputOf complete a e ch) out out′ r (output-short complete a e ch) fits
+      (bytes-written-same w (sym (complete-output complete a e ch t)))
 
   pub early-whole : complete ≡ false → BytesWritten 0 (refusedLine 0) out out′ r
       → (r ≡ length (outputOf complete a e ch)) × (out′ ≡ outputOf complete a e ch ++ drop r out)
   early-whole t w =
-      whole (outputOf complete a e ch) out out′ r (output-short complete a e ch) fits (bytes-written-same w (sym (early-output complete a e ch t)))
+      whole (outputOf complete a e ch) out out′ r (output-short complete a e ch) fits
+      (bytes-written-same w (sym (early-output complete a e ch t)))
 
 -- ---- Compile
 
@@ -127,7 +131,8 @@ pub hits-most : (a table : List ℕ) (n : ℕ) (marks : List ℕ) {k : ℕ} (q :
 unfolding listAnswer
 hits-most a table n marks {k} q e h =
     let g : accepted (k ∷ []) ≡ listAnswer a table n marks (zeros 256) = rw e at h in
-    let v = accepted-values (listFault a table n (length marks) (length (zeros 256))) (length (matchesOf table n marks) ∷ []) (k ∷ []) (sym g) in
+    let v =
+    accepted-values (listFault a table n (length marks) (length (zeros 256))) (length (matchesOf table n marks) ∷ []) (k ∷ []) (sym g) in
     let fits = list-accepted a table n (length marks) (length (zeros 256)) (v .0) .list in
     let long = many 256 in
     let few = matchesOf-few table marks n in
@@ -154,7 +159,8 @@ module _ {a e table ch marks : List ℕ} (m : Marks a e table ch marks) where
   pub never-refused : {f : ℕ} (q : Listed) → q ≡ Listed·Refused f → answerInListed q ≡ listAnswer a table (length ch) marks (zeros 256) → ⊥
   never-refused {f} q told h =
       let g : refused f ≡ listAnswer a table (length ch) marks (zeros 256) = rw told at h in
-      list-not-refused a e ch (t .slice) (length table) (t .long) (t .answer) (m .few) (m .slice) (zeros 256) (m .long) (many 256) (m .nodes) (m .cells) runs f
+      list-not-refused a e ch (t .slice) (length table) (t .long) (t .answer) (m .few) (m .slice) (zeros 256) (m .long) (many 256)
+      (m .nodes) (m .cells) runs f
       (g ∙ same-answer)
 
   pub lines-written : {hits states x : ℕ} {out out′ list : List ℕ} (q : Listed) → q ≡ Matches hits
@@ -168,11 +174,13 @@ module _ {a e table ch marks : List ℕ} (m : Marks a e table ch marks) where
       wrote ∙ ap₂ (λ (l ms : List ℕ). listExit a l (length ch) ms (zeros 256)) (t .same) marks-are in
       let z : states ≡ automatonOf (compiledTable a e) .states = s ∙ ap (λ (l : List ℕ). automatonOf l .states) (t .same) in
       let n : hits ≡ length (take hits list) =
-      listed-long a e ch (t .slice) (length table) (t .long) (t .answer) (m .few) (m .slice) (zeros 256) (m .long) (many 256) (m .nodes) (m .cells) runs hits
+      listed-long a e ch (t .slice) (length table) (t .long) (t .answer) (m .few) (m .slice) (zeros 256) (m .long) (many 256) (m .nodes)
+      (m .cells) runs hits
       (g ∙ same-answer)
       ∙ sym (ap (λ (ls : List ℕ). length (take hits ls)) l) in
       bytes-written-same w
       (sym
-      (listed-output a e ch (t .slice) (length table) (t .long) (t .answer) (m .few) (m .slice) (zeros 256) (m .long) (many 256) (m .nodes) (m .cells) runs hits
+      (listed-output a e ch (t .slice) (length table) (t .long) (t .answer) (m .few) (m .slice) (zeros 256) (m .long) (many 256) (m .nodes)
+      (m .cells) runs hits
       (g ∙ same-answer)
       ∙ rw (← l, ← n, z)))

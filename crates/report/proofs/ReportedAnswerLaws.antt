@@ -20,7 +20,8 @@ use Rattle.operations.specs.Compile.{compiledTable, tableTooLong, ruleRefusals,
 use Rattle.operations.specs.Marks.{sizeOf, finalOf, nodeSets}
 use Rattle.operations.specs.Run.{wrongCount, marksTooShort, runFault, runMarks, runAnswer, runExit}
 use Rattle.operations.specs.Listing.{listFault, matchesIn, matchesOf, listAnswer, listExit}
-use Rattle.operations.proofs.AcceptedLaws.{accepted-values, RuleAccepted, rule-accepted, rule-alphabet, rule-expression, run-accepted, accepted-list}
+use Rattle.operations.proofs.AcceptedLaws.{accepted-values, RuleAccepted, rule-accepted, rule-alphabet}
+use Rattle.operations.proofs.AcceptedLaws.{rule-expression, run-accepted, accepted-list}
 use Rattle.operations.proofs.RunLaws.{run-exit, run-writes, run-length, matches-nodeSets}
 use Rattle.operations.proofs.CompileLaws.{CompileAccepted, compile-accepted}
 use Rattle.operations.proofs.Demand1.{refused-by}
@@ -48,7 +49,8 @@ module _ (a e : List ℕ) where
       go zero h = sym (number (compileRefusals a e 2048) (passes (ruleRefusals a e) refl refl h (next (table-enough h) none))) ∙ sym h
 
   -- a refused Compile: its number is printed
-  pub compile-refused : (ch slice : List ℕ) (n : ℕ) → length slice ≡ 2048 → refused n ≡ compileAnswer a e slice → marklistOutput a e ch ≡ refusedLine n
+  pub compile-refused : (ch slice : List ℕ) (n : ℕ) → length slice ≡ 2048 → refused n ≡ compileAnswer a e slice
+      → marklistOutput a e ch ≡ refusedLine n
   unfolding compileAnswer
   compile-refused ch slice n l h =
       let q = refused-by (length (compiledTable a e) ∷ []) (compileFault a e (length slice)) n (sym h) in
@@ -158,7 +160,8 @@ module _ (a e : List ℕ) where
           unfolding hitsOf finalOf
           matches-are =
               ap (matchesOf (compiledTable a e) (length ch)) (run-exit a (compiledTable a e) ch marks run-none)
-              ∙ matches-nodeSets a (compiledTable a e) ch (runMarks a (compiledTable a e) ch marks) (run-writes a (compiledTable a e) ch marks)
+              ∙ matches-nodeSets a (compiledTable a e) ch (runMarks a (compiledTable a e) ch marks)
+              (run-writes a (compiledTable a e) ch marks)
               ∙ ap (λ (A : Automaton). matchesIn (A .final) 0 (nodeSets a (compiledTable a e) ch)) (known .automaton)
 
           hit-count : length (matchesOf (compiledTable a e) (length ch) left) ≡ hits

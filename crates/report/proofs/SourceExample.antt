@@ -61,7 +61,8 @@ firsts f g (i ∷ is) = ap (λ (l : List ℕ). i ∷ l) (firsts f g is)
 
 final-is : finalOf (compiledTable alphabet rule) ≡ compiled alphabet rule .final
 unfolding
-    kindAt rankOf isConstant constantsFrom constantsOf arity hasEntries statesOf portOf ownTransitions portsFrom statesAfter transitionsFrom compiled
+    kindAt rankOf isConstant constantsFrom constantsOf arity hasEntries statesOf portOf ownTransitions portsFrom statesAfter
+    transitionsFrom compiled
     transitionsAt automatonOf finalOf flatMap
 final-is = refl
 
@@ -80,7 +81,8 @@ hits-are =
 no-fault : marklistFault alphabet rule chapter ≡ 0
 unfolding
     kindAt spareBitsClear isOf isEntry rankOf isConstant constantsFrom constantsOf noAlphabet wrongConstants isExpressionWord wrongLength
-    notExpressionWords isNode notNodes arity treesBy notOneTree hasEntries statesOf portOf ownTransitions portsFrom statesAfter transitionsFrom compiled
+    notExpressionWords isNode notNodes arity treesBy notOneTree hasEntries statesOf portOf ownTransitions portsFrom statesAfter
+    transitionsFrom compiled
     tooManyStates wrongChapter
 no-fault = refl
 

@@ -40,7 +40,8 @@ module _ (ws : List ℕ) where
         small = omega arith;
         same =
             ap₂ (λ (x y : ℕ). x + y) (g .same) (sym (add-zero (ones (getD ws k 0))))
-            ∙ sym (ap (λ (i : ℕ). cellsIn (take i ws)) (add-one k) ∙ ap cellsIn (take-suc ws k 0 h) ∙ cells-append (take k ws) (getD ws k 0 ∷ []));
+            ∙ sym (ap (λ (i : ℕ). cellsIn (take i ws)) (add-one k) ∙ ap cellsIn (take-suc ws k 0 h)
+            ∙ cells-append (take k ws) (getD ws k 0 ∷ []));
       }
 
   -- two words at once

@@ -37,7 +37,8 @@ word-past : (k : ℕ) (r t : StateSet) (i : ℕ) → k ≤ i → getD (joinedTo 
 unfolding joinedTo
 word-past zero r t i h = refl
 word-past (suc k) r t i h =
-    getD-set-other (joinedTo k r t) k i (bitOr (getD (joinedTo k r t) k 0) (getD t k 0)) 0 (λ e. omega arith) ∙ word-past k r t i (omega arith)
+    getD-set-other (joinedTo k r t) k i (bitOr (getD (joinedTo k r t) k 0) (getD t k 0)) 0 (λ e. omega arith)
+    ∙ word-past k r t i (omega arith)
 
 word-joined : (k : ℕ) (r t : StateSet) (i : ℕ) → i < k → i < length r → getD (joinedTo k r t) i 0 ≡ bitOr (getD r i 0) (getD t i 0)
 unfolding joinedTo
@@ -47,7 +48,8 @@ word-joined (suc k) r t i h l = go (ℕ-discrete i k) (λ m. word-joined k r t i
     v : ℕ
     v = bitOr (getD (joinedTo k r t) k 0) (getD t k 0)
 
-    go : Dec (i ≡ k) → (i < k → getD (joinedTo k r t) i 0 ≡ bitOr (getD r i 0) (getD t i 0)) → getD (set (joinedTo k r t) k v) i 0 ≡ bitOr (getD r i 0) (getD t i 0)
+    go : Dec (i ≡ k) → (i < k → getD (joinedTo k r t) i 0 ≡ bitOr (getD r i 0) (getD t i 0))
+        → getD (set (joinedTo k r t) k v) i 0 ≡ bitOr (getD r i 0) (getD t i 0)
     go (yes e) before =
         rw e (getD-set-same (joinedTo k r t) k v 0 (rw (joined-length k r t) (omega arith))
         ∙ ap (λ (x : ℕ). bitOr x (getD t k 0)) (word-past k r t k (omega arith)))
@@ -69,7 +71,8 @@ module _ (r t : StateSet) (e : length t ≡ length r) where
   bit : (q : ℕ) → q / 32 < length r
       → getD (joined r t) (q / 32) 0 / 2 ^ (q % 32) % 2 ≡ max (getD r (q / 32) 0 / 2 ^ (q % 32) % 2) (getD t (q / 32) 0 / 2 ^ (q % 32) % 2)
   bit q l =
-      ap (λ (x : ℕ). x / 2 ^ (q % 32) % 2) (word-joined (length t) r t (q / 32) (omega arith) l) ∙ or-bit (getD r (q / 32) 0) (getD t (q / 32) 0) (q % 32)
+      ap (λ (x : ℕ). x / 2 ^ (q % 32) % 2) (word-joined (length t) r t (q / 32) (omega arith) l)
+      ∙ or-bit (getD r (q / 32) 0) (getD t (q / 32) 0) (q % 32)
 
   within : (q : ℕ) (u : StateSet) → length u ≡ length r → contains u q ≡ true → q / 32 < length r
   within q u n h = go (decLt (q / 32) (length r))

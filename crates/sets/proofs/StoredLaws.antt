@@ -61,7 +61,8 @@ module _ (size : ℕ) (marks : List ℕ) (i : ℕ) (v : StateSet) (e : length v 
       let back : (l : List ℕ) → drop (j * size) l ≡ drop past (drop (i * size + size) l)
       = λ l. ap (λ (k : ℕ). drop k l) (sym n) ∙ sym (drop-drop past (i * size + size) l) in
       ap (take size)
-      (back (paste marks (i * size) v size) ∙ ap (drop past) (drop-paste marks (i * size) v size (omega arith) (omega arith)) ∙ sym (back marks))
+      (back (paste marks (i * size) v size) ∙ ap (drop past) (drop-paste marks (i * size) v size (omega arith) (omega arith))
+      ∙ sym (back marks))
 
   pub stored-other : (j : ℕ) → (j ≡ i → ⊥) → storedSet size (paste marks (i * size) v size) j ≡ storedSet size marks j
   stored-other j n = go (decLt j i)

@@ -25,7 +25,8 @@ module _ (l : List ℕ) (at t n : ℕ) (h : t ≤ n) (inside : n ≤ length l) (
   words = take at l ++ slice t n l
 
   pub length-moved : length (take at l ++ slice t n l) ≡ at + (n - t)
-  length-moved = length-append (take at l) (slice t n l) ∙ ap₂ (λ (i j : ℕ). i + j) (length-take-le at l (omega arith)) (length-slice t n l inside)
+  length-moved =
+      length-append (take at l) (slice t n l) ∙ ap₂ (λ (i j : ℕ). i + j) (length-take-le at l (omega arith)) (length-slice t n l inside)
 
   pub moved-tail : paste l at (drop t l) (n - t) ≡ words ++ drop (length words) l
   moved-tail =

@@ -22,7 +22,8 @@ use Rattle.closures.proofs.KeyedWordLaws.{starts-symbol, starts-target}
 
 -- ---- before the first transition
 
-pub node-seeding : {table index : List ℕ} {f size : ℕ} {marks children owners rows pending : List ℕ} → Steppable table index f marks children owners rows pending
+pub node-seeding : {table index : List ℕ} {f size : ℕ} {marks children owners rows pending : List ℕ}
+    → Steppable table index f marks children owners rows pending
     → size ≡ sizeOf table → Seeding table index f size marks children owners rows pending (replicate 32 0)
 node-seeding g e =
     record {
@@ -65,7 +66,9 @@ module _ {table : List ℕ} {f : ℕ} {marks children : List ℕ} (ready : Ready
   seeded : (ps : List ℕ) (q : ℕ) → List·Memᴰ (onSymbol f ps q) (A .transitions) → allContained ps rs ≡ true → contains r q ≡ true
   unfolding A
   seeded ps q m e =
-      let s = member-starts table (onSymbol f ps q) (subst (List·Memᴰ (onSymbol f ps q)) (sym (table-transitions (ready .alphabet) table (ready .checked))) m) in
+      let s =
+      member-starts table (onSymbol f ps q)
+      (subst (List·Memᴰ (onSymbol f ps q)) (sym (table-transitions (ready .alphabet) table (ready .checked))) m) in
       let t = starts-target table (s .index) (s .member) in
       rw (t .1) (g .satisfied (s .index) (s .inside) (starts-symbol table (s .index) (s .member)) (rw (t .0) at e))
 
@@ -80,7 +83,8 @@ module _ {table : List ℕ} {f : ℕ} {marks children : List ℕ} (ready : Ready
       let most = isTable-sizes (ready .alphabet) table (ready .checked) .size-most in
       let short = ready .short in
       let below = targets-below (isTable-automaton (ready .alphabet) (omega arith) table (ready .checked)) in
-      let long : length (x ++ replicate (32 - sizeFor (A .states)) 0) ≡ 32 = rw (length-append, length-stateSet A f rs, length-replicate {A = ℕ}) (omega arith) in
+      let long : length (x ++ replicate (32 - sizeFor (A .states)) 0) ≡ 32 =
+      rw (length-append, length-stateSet A f rs, length-replicate {A = ℕ}) (omega arith) in
       contains-determines r (x ++ replicate (32 - sizeFor (A .states)) 0) (g .growing .size ∙ sym long) (g .growing .words)
       (words-zeros x (32 - sizeFor (A .states)) (words-stateSet A f rs))
       (λ q.

@@ -46,7 +46,8 @@ pub record SourcesHeld (table : List ℕ) (at size : ℕ) (marks children : List
   pub rest : allContained (sourcesAt (drop at table)) (childSets size marks children)
       ≡ allContained (sourcesAt (drop (at + k) table)) (childSets size marks (drop k children))
 
-pub sources-held-none : {table : List ℕ} {at size : ℕ} {marks children : List ℕ} → Sources table at size marks children → SourcesHeld table at size marks children 0
+pub sources-held-none : {table : List ℕ} {at size : ℕ} {marks children : List ℕ} → Sources table at size marks children
+    → SourcesHeld table at size marks children 0
 sources-held-none {table} {at} {size} {marks} {children} s =
     let e : at + 0 ≡ at = omega arith in
     record {
@@ -60,7 +61,9 @@ module _ {table : List ℕ} {at size : ℕ} {marks children : List ℕ} {k : ℕ
   unfolding allContained
   sources-held-end h =
       let few = s .few in
-      sym (s .rest ∙ ap₂ allContained (none (sourcesAt (drop (at + k) table)) (omega (arith, s .left))) (ap (childSets size marks) (drop-of-length-le children h)))
+      sym (s .rest
+      ∙ ap₂ allContained (none (sourcesAt (drop (at + k) table)) (omega (arith, s .left)))
+      (ap (childSets size marks) (drop-of-length-le children h)))
     where
       none : (l : List ℕ) → length l ≡ 0 → l ≡ []
       none [] e = refl
@@ -93,7 +96,8 @@ module _ {table : List ℕ} {at size : ℕ} {marks children : List ℕ} {k : ℕ
           }
 
 -- a child's set is read as a part of the marks
-pub row-contains : (size : ℕ) (marks : List ℕ) (child q : ℕ) (b : Bool) → b ≡ contains (take (child * size + size - child * size) (drop (child * size) marks)) q
+pub row-contains : (size : ℕ) (marks : List ℕ) (child q : ℕ) (b : Bool)
+    → b ≡ contains (take (child * size + size - child * size) (drop (child * size) marks)) q
     → b ≡ contains (storedSet size marks child) q
 unfolding storedSet
 row-contains size marks child q b e =

@@ -23,7 +23,8 @@ use Rattle.index.proofs.ChainLaws.{FirstWith, SymbolWord, nextWith, next-some, 
 use Rattle.closures.proofs.KeyedWordLaws.{symbol-below, symbol-reached, symbol-sources}
 use Rattle.closures.proofs.FollowLaws.{InChain, left, states-most, keyed, chain-first, in-chain, chain-next, left-less}
 
-pub prepared-checked : {table index : List ℕ} {f : ℕ} {marks children : List ℕ} → Prepared table index f marks children → IndexedTable table index
+pub prepared-checked : {table index : List ℕ} {f : ℕ} {marks children : List ℕ} → Prepared table index f marks children
+    → IndexedTable table index
 prepared-checked p =
     record { alphabet = p .ready .alphabet; short = p .ready .short; checked = p .ready .checked; indexed = p .indexed }
 
@@ -87,7 +88,8 @@ module _ {table index : List ℕ} {size : ℕ} {marks children owners rows pendi
       → Joined table (keyOf (getD table i 0)) (childSets size marks children) i r r owners rows
   transition-still h = record { closures = g .seeding .steppable .closures; growing = g .seeding .growing; grown = λ q e. e; satisfied = h }
 
-  pub transition-more : allContained (sourcesAt (drop (i + 1) table)) (childSets size marks children) ≡ true → {t : StateSet} {owners′ rows′ : List ℕ}
+  pub transition-more : allContained (sourcesAt (drop (i + 1) table)) (childSets size marks children) ≡ true
+      → {t : StateSet} {owners′ rows′ : List ℕ}
       → JoinedClosure table (stateBelow (getD table i 0)) r t owners′ rows′
       → Joined table (keyOf (getD table i 0)) (childSets size marks children) i r t owners′ rows′
   transition-more h {t} j =
@@ -108,7 +110,8 @@ module _ {table index : List ℕ} {size : ℕ} {marks children owners rows pendi
 -- ---- all of them
 
 -- at word i of the chain, or at its end, where i is 0: the words before are followed
-pub record SymbolAt (table index : List ℕ) (f size : ℕ) (marks children owners rows pending : List ℕ) (r : StateSet) (pendingLength i : ℕ) : Type 0 where
+pub record SymbolAt (table index : List ℕ) (f size : ℕ) (marks children owners rows pending : List ℕ) (r : StateSet)
+    (pendingLength i : ℕ) : Type 0 where
   pub seeding : Seeding table index f size marks children owners rows pending r
   pub from : ℕ
   pub at : i ≡ nextWith table f from
@@ -138,7 +141,8 @@ module _ {table index : List ℕ} {f size : ℕ} {marks children owners rows pen
           satisfied = λ j l e. go j l e (decLt j (s .from));
         }
       where
-        go : (j : ℕ) → j < length table → keyOf (getD table j 0) ≡ f → Dec (j < s .from) → Satisfied table (childSets size marks children) r j
+        go : (j : ℕ) → j < length table → keyOf (getD table j 0) ≡ f → Dec (j < s .from)
+            → Satisfied table (childSets size marks children) r j
         go j l e (yes b) = s .followed j b l e
         go j l e (no b) = absurd (next-none (s .at) (keyed chain) key-below (omega arith) j (omega arith) l e)
 

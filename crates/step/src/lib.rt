@@ -54,7 +54,8 @@ fn follow_transition(
         SeedingAt (now table) (now index) size (now marks) (now children) (now owners) (now rows) (now pending) (now set) i
         ⌝ }
     ensures { λ _. ⌜
-        Joined (now (table .entry)) (keyOf (getD (now (table .entry)) i 0)) (childSets size (now (marks .entry)) (now (children .entry))) i (now (set .entry)) (now (set .exit)) (now (owners .exit)) (now (rows .exit))
+        Joined (now (table .entry)) (keyOf (getD (now (table .entry)) i 0)) (childSets size (now (marks .entry)) (now (children .entry))) i
+        (now (set .entry)) (now (set .exit)) (now (owners .exit)) (now (rows .exit))
         ⌝ }
 {
     let target = (table[i] % STATE_RANGE) as usize;
@@ -84,7 +85,8 @@ fn follow_symbol(
         Seeding (now table) (now index) symbol size (now marks) (now children) (now owners) (now rows) (now pending) (now set)
         ⌝ }
     ensures { λ _. ⌜
-        SymbolFollowed (now (table .entry)) symbol (childSets size (now (marks .entry)) (now (children .entry))) (now (set .exit)) (now (owners .exit)) (now (rows .exit))
+        SymbolFollowed (now (table .entry)) symbol (childSets size (now (marks .entry)) (now (children .entry))) (now (set .exit))
+        (now (owners .exit)) (now (rows .exit))
         ⌝ }
 {
     let mut i = index[symbol as usize] as usize;

@@ -9,7 +9,8 @@ use lib.ListN.{length}
 use lib.Dec.{ltb, leb}
 use borrow.Author.Tests.{eq-eqb, ne-eqb, lt-ltb, le-ltb}
 use Rattle.words.proofs.TestLaws.{and-none}
-use Rattle.words.specs.Word.{Kind, headKind, transitionKind, epsilonKind, sourceKind, kindNumber, numberOf, hasKind, spareBitsClear, isOf, symbolAbove, countAbove, stateAbove, stateBelow}
+use Rattle.words.specs.Word.{Kind, headKind, transitionKind, epsilonKind, sourceKind, kindNumber, numberOf}
+use Rattle.words.specs.Word.{hasKind, spareBitsClear, isOf, symbolAbove, countAbove, stateAbove, stateBelow}
 use Rattle.words.specs.Alphabet.{rankOf}
 use Rattle.automaton.specs.Table.{isHead, isTableWord, sourcesLeft}
 
@@ -80,10 +81,17 @@ module _ (a : List ℕ) (n w : ℕ) where
   above-outside (suc k) l e h = absurd (omega arith)
 
   module _ (clear : spareBitsClear w ≡ true) (state : stateBelow w < n) where
-    pub transition-next : (k : ℕ) → k ≤ 0 → numberOf w ≡ kindNumber transitionKind → symbolAbove w < length a → (r : ℕ) → r ≡ rankOf a (symbolAbove w) → Next k (r + 1)
+    pub transition-next : (k : ℕ) → k ≤ 0 → numberOf w ≡ kindNumber transitionKind → symbolAbove w < length a → (r : ℕ) → r ≡ rankOf a (symbolAbove w)
+        → Next k (r + 1)
     unfolding isTableWord sourcesLeft
     transition-next zero l e h r er =
-        sym (rw (is-of transitionKind w e clear, lt-ltb (symbolAbove w) (length a) h, lt-ltb (stateBelow w) n state, eq-eqb (numberOf w) (kindNumber transitionKind) e, ← er))
+        sym (rw (
+          is-of transitionKind w e clear,
+          lt-ltb (symbolAbove w) (length a) h,
+          lt-ltb (stateBelow w) n state,
+          eq-eqb (numberOf w) (kindNumber transitionKind) e,
+          ← er,
+        ))
     transition-next (suc k) l e h r er = absurd (omega arith)
 
     pub epsilon-next : (k : ℕ) → k ≤ 0 → numberOf w ≡ kindNumber epsilonKind → stateAbove w < n → Next k 1

@@ -8,7 +8,13 @@ reach-requires : tie.Need-reach-requires
 reach-requires c κs = add-puttable (c .before .before .before .before .before .before .pre)
 
 follow-pending-requires : tie.Need-follow-pending-requires
-follow-pending-requires c κs = record { checked = c .before .before .before .before .before .before .before .before .before .before .before .before .before .pre .closable .checked; stack = add-stack (c .before .before .before .before .before .before .before .before .before .before .before .before .before .pre) (c .before .before .before .before .before .before .reach .ensures) }
+follow-pending-requires c κs = record {
+  checked =
+      c .before .before .before .before .before .before .before .before .before .before .before .before .before .pre .closable .checked;
+  stack =
+      add-stack (c .before .before .before .before .before .before .before .before .before .before .before .before .before .pre)
+      (c .before .before .before .before .before .before .reach .ensures);
+}
 
 same-length : tie.Need-same-length
 same-length c = search needs
@@ -17,7 +23,11 @@ same-length-2 : tie.Need-same-length-2
 same-length-2 c = search needs
 
 returns : tie.Need-returns
-returns c = add-end (c .before .before .before .before .before .before .before .before .before .before .before .before .before .before .before .before .before .before .pre) (c .before .before .before .before .before .before .before .before .before .before .before .reach .ensures) (c .before .before .before .before .follow-pending .ensures)
+returns c =
+    add-end (c .before .before .before .before .before .before .before .before .before .before .before .before .before .before .before
+    .before .before .before .pre)
+    (c .before .before .before .before .before .before .before .before .before .before .before .reach .ensures)
+    (c .before .before .before .before .follow-pending .ensures)
 
 pub add-closure-spec : {M : Type 1} → statement M
 add-closure-spec =

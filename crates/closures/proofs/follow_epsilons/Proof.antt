@@ -4,7 +4,8 @@ use Prim.Native.Nat.{_+_}
 use native.Mathlib.Omega.{arith}
 use borrow.Author.Needs.{needs}
 use Rattle.closures.proofs.FollowLaws.{left, index-long}
-use Rattle.closures.proofs.EpsilonLaws.{EpsilonsAt, key-inside, epsilons-first, epsilons-in, epsilons-puttable, epsilons-less, epsilons-more, epsilons-end}
+use Rattle.closures.proofs.EpsilonLaws.{EpsilonsAt, key-inside, epsilons-first, epsilons-in}
+use Rattle.step.proofs.EpsilonLaws.{epsilons-puttable, epsilons-less, epsilons-more, epsilons-end}
 use Rattle.closures.proofs.follow_epsilons.Statement.{statement}
 use Rattle.closures.proofs.follow_epsilons.Tie as tie
 
@@ -63,7 +64,11 @@ shared-slice-read-i-2 c =
     epsilons-in (t .before .loop .inv) (t .loop-test .taken) .next-inside
 
 cast-i-2 : tie.Need-cast-i-2 Inv-loop μ-loop
-cast-i-2 c = omega (arith, c .shared-slice-known5 .given (1280 + c .before .before .before .before .before .before .before .before .before .before .loop .i))
+cast-i-2 c =
+    omega (
+      arith,
+      c .shared-slice-known5 .given (1280 + c .before .before .before .before .before .before .before .before .before .before .loop .i),
+    )
 
 loop-less : tie.Need-loop-less Inv-loop μ-loop
 loop-less c =
@@ -76,7 +81,8 @@ loop-again c =
     epsilons-more (t .before .loop .inv) (t .loop-test .taken) (c .before .before .before .before .before .reach .ensures)
 
 same-length : tie.Need-same-length Inv-loop μ-loop
-same-length c = c .before .loop .inv .stack .size ∙ sym (c .before .before .before .before .before .before .before .pre .closing .stack .size)
+same-length c =
+    c .before .loop .inv .stack .size ∙ sym (c .before .before .before .before .before .before .before .pre .closing .stack .size)
 
 same-length-2 : tie.Need-same-length-2 Inv-loop μ-loop
 same-length-2 c = c .before .loop .inv .size

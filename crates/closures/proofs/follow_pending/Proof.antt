@@ -6,7 +6,8 @@ use native.Mathlib.Omega.{arith}
 use lib.ListN.{length}
 use borrow.Author.Needs.{needs}
 use Rattle.closures.specs.Closure.{Followed, work}
-use Rattle.closures.proofs.EpsilonLaws.{pending-none, pending-stack, pending-present, pending-more, pending-less, pending-inside, pending-end}
+use Rattle.closures.proofs.EpsilonLaws.{pending-none, pending-stack, pending-present}
+use Rattle.step.proofs.EpsilonLaws.{pending-more, pending-less, pending-inside, pending-end}
 use Rattle.closures.proofs.follow_pending.Statement.{statement}
 use Rattle.closures.proofs.follow_pending.Tie as tie
 
@@ -37,7 +38,10 @@ follow-epsilons-requires c κs =
     let t = c .before .before .before in
     let v = t .before .loop .inv .1 in
     record {
-      closing = record { checked = t .before .before .before .before .before .before .pre .checked; stack = pending-stack v _ (omega arith) };
+      closing = record {
+        checked = t .before .before .before .before .before .before .pre .checked;
+        stack = pending-stack v _ (omega arith);
+      };
       present = pending-present v _ (omega arith);
     }
 

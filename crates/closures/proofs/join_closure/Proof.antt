@@ -9,7 +9,10 @@ keep-closure-requires : tie.Need-keep-closure-requires
 keep-closure-requires c κs = c .before .before .before .before .before .before .before .before .before .pre .keepable
 
 add-closure-requires : tie.Need-add-closure-requires
-add-closure-requires c κs = add-again (c .before .before .before .before .before .before .before .before .before .before .before .before .before .before .before .before .before .before .before .pre) (search needs)
+add-closure-requires c κs =
+    add-again
+    (c .before .before .before .before .before .before .before .before .before .before .before .before .before .before .before .before
+    .before .before .before .pre) (search needs)
 
 same-length : tie.Need-same-length
 same-length c = search needs
@@ -24,7 +27,12 @@ same-length-4 : tie.Need-same-length-4
 same-length-4 c = search needs
 
 returns : tie.Need-returns
-returns c = record { closures = c .before .before .before .before .before .before .before .before .before .before .before .before .before .before .keep-closure .ensures .closures; added = c .before .before .before .before .add-closure .ensures }
+returns c = record {
+  closures =
+      c .before .before .before .before .before .before .before .before .before .before .before .before .before .before .keep-closure
+      .ensures .closures;
+  added = c .before .before .before .before .add-closure .ensures;
+}
 
 mul-at : tie.Need-mul-at
 mul-at c = search needs
@@ -62,7 +70,9 @@ same-length-8 c = search needs
 returns-2 : tie.Need-returns-2
 returns-2 c =
     let k = c .before .before .before .before .before .before .before .before .before .before .before .before .before in
-    join-end (not-false _ (c .before .before .before .before .before .before .if1 .left)) (k .keep-closure .ensures) (c .before .before .before .before .before .before .before .before .before .before .before .before .before .before .before .before .before .before .before .before .before .before .before .pre .set) (c .before .before .join .ensures)
+    join-end (not-false _ (c .before .before .before .before .before .before .if1 .left)) (k .keep-closure .ensures)
+    (c .before .before .before .before .before .before .before .before .before .before .before .before .before .before .before .before
+    .before .before .before .before .before .before .before .pre .set) (c .before .before .join .ensures)
 
 pub join-closure-spec : {M : Type 1} → statement M
 join-closure-spec =

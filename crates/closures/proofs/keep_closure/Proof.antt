@@ -8,10 +8,20 @@ use Rattle.closures.proofs.keep_closure.Statement.{statement}
 use Rattle.closures.proofs.keep_closure.Tie as tie
 
 cast-owner : tie.Need-cast-owner
-cast-owner c = omega (arith, c .before .before .before .before .before .pre .closable .state, states-most (c .before .before .before .before .before .pre .closable .checked))
+cast-owner c =
+    omega (
+      arith,
+      c .before .before .before .before .before .pre .closable .state,
+      states-most (c .before .before .before .before .before .pre .closable .checked),
+    )
 
 add-owner : tie.Need-add-owner
-add-owner c = omega (arith, c .before .before .before .before .before .pre .closable .state, states-most (c .before .before .before .before .before .pre .closable .checked))
+add-owner c =
+    omega (
+      arith,
+      c .before .before .before .before .before .pre .closable .state,
+      states-most (c .before .before .before .before .before .pre .closable .checked),
+    )
 
 mul-found : tie.Need-mul-found
 mul-found c = search needs
@@ -35,13 +45,18 @@ slice-aggregate-write-set-at : tie.Need-slice-aggregate-write-set-at
 slice-aggregate-write-set-at c = sym (c .before .before .before .before .close-state .ensures .size)
 
 write-set-at-requires : tie.Need-write-set-at-requires
-write-set-at-requires c κs = rw (c .before .before .before .before .close-state .ensures .size) (closure-fits (c .before .before .before .before .before .before .before .before .before .before .before .before .before .before .pre))
+write-set-at-requires c κs =
+    rw (c .before .before .before .before .close-state .ensures .size)
+    (closure-fits (c .before .before .before .before .before .before .before .before .before .before .before .before .before .before .pre))
 
 mul-owners : tie.Need-mul-owners
 mul-owners c = search needs
 
 slice-write-owners : tie.Need-slice-write-owners
-slice-write-owners c = owner-inside (c .before .before .before .before .before .before .before .before .before .before .before .before .before .before .before .before .before .pre)
+slice-write-owners c =
+    owner-inside
+    (c .before .before .before .before .before .before .before .before .before .before .before .before .before .before .before .before
+    .before .pre)
 
 same-length : tie.Need-same-length
 same-length c = search needs
@@ -53,7 +68,10 @@ same-length-3 : tie.Need-same-length-3
 same-length-3 c = search needs
 
 returns-3 : tie.Need-returns-3
-returns-3 c = keep-new (c .before .before .before .before .before .before .before .before .before .before .before .before .before .before .before .before .before .pre) (c .before .before .before .before .before .before .before .close-state .ensures) (c .before .before .write-set-at .ensures)
+returns-3 c =
+    keep-new (c .before .before .before .before .before .before .before .before .before .before .before .before .before .before .before
+    .before .before .pre) (c .before .before .before .before .before .before .before .close-state .ensures)
+    (c .before .before .write-set-at .ensures)
 
 pub keep-closure-spec : {M : Type 1} → statement M
 keep-closure-spec =

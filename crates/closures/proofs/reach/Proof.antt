@@ -43,7 +43,9 @@ same-length-3 : tie.Need-same-length-3
 same-length-3 c = search needs
 
 returns-2 : tie.Need-returns-2
-returns-2 c = let d = c .before .before .before .before in put-one (sym (d .before .contains .ensures) ∙ d .if1 .left) (c .before .before .insert .ensures)
+returns-2 c =
+    let d = c .before .before .before .before in
+    put-one (sym (d .before .contains .ensures) ∙ d .if1 .left) (c .before .before .insert .ensures)
 
 pub reach-spec : {M : Type 1} → statement M
 reach-spec =

@@ -36,7 +36,8 @@ same-length-2 c = c .before .before .before .before .before .before .before .exc
 returns : tie.Need-returns
 returns c =
     let call = c .before .before .before .before .before .before .before in
-    exchanged-replaced _ _ _ (c .before .total .given .1) (call .exchange .ensures .0) (call .exchange .ensures .1 .0) (call .exchange .ensures .1 .1)
+    exchanged-replaced _ _ _ (c .before .total .given .1) (call .exchange .ensures .0) (call .exchange .ensures .1 .0)
+    (call .exchange .ensures .1 .1)
 
 same-length-3 : tie.Need-same-length-3
 same-length-3 c = c .before .before .before .before .before .before .before .exchange .kept .1 .1 .0
@@ -47,7 +48,8 @@ same-length-4 c = c .before .before .before .before .before .before .before .exc
 returns-2 : tie.Need-returns-2
 returns-2 c =
     let call = c .before .before .before .before .before .before .before in
-    exchanged-refused _ (c .before .number .given .1) (call .exchange .ensures .0) (call .exchange .ensures .1 .0) (call .exchange .ensures .1 .1)
+    exchanged-refused _ (c .before .number .given .1) (call .exchange .ensures .0) (call .exchange .ensures .1 .0)
+    (call .exchange .ensures .1 .1)
 
 pub haqbylur-exchange-spec : {M : Type 1} → statement M
 haqbylur-exchange-spec =

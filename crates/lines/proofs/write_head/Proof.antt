@@ -42,7 +42,8 @@ returns c =
     let third = fourth .before .before .before .before in
     let second = third .before .before .before .before .before in
     let first = second .before .before .before .before in
-    head-written _ _ _ (first .write-text .ensures) (second .write-field .ensures) (third .write-text2 .ensures) (fourth .write-field2 .ensures)
+    head-written _ _ _ (first .write-text .ensures) (second .write-field .ensures) (third .write-text2 .ensures)
+    (fourth .write-field2 .ensures)
     (fifth .write-text3 .ensures) (sixth .write-field3 .ensures)
 
 pub write-head-spec : {M : Type 1} → statement M

@@ -15,7 +15,13 @@ subtree-start-requires : tie.Need-subtree-start-requires
 subtree-start-requires c κs = tt
 
 sub-size : tie.Need-sub-size
-sub-size c = omega (arith, c .subtree-start .ensures, start-le (arity (c .before .before .before .before .args .alphabet .now)) (c .before .before .before .before .args .chapter .now) (c .before .before .before .before .args .hit))
+sub-size c =
+    omega (
+      arith,
+      c .subtree-start .ensures,
+      start-le (arity (c .before .before .before .before .args .alphabet .now)) (c .before .before .before .before .args .chapter .now)
+          (c .before .before .before .before .args .hit),
+    )
 
 write-field-requires : tie.Need-write-field-requires
 write-field-requires c κs = tt
@@ -39,7 +45,8 @@ returns c =
     let symbol = second .before in
     let first = symbol .before .before .before .before in
     let start = first .before .before in
-    hit-written _ _ _ _ _ (symbol .symbol-of .ensures) (start .subtree-start .ensures) (first .write-field .ensures) (second .write-field2 .ensures)
+    hit-written _ _ _ _ _ (symbol .symbol-of .ensures) (start .subtree-start .ensures) (first .write-field .ensures)
+    (second .write-field2 .ensures)
     (third .write-field3 .ensures)
 
 pub write-hit-spec : {M : Type 1} → statement M

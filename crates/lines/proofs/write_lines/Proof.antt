@@ -39,7 +39,8 @@ loop-again : tie.Need-loop-again Inv-loop μ-loop
 loop-again c =
     let at-call = c .before .before in
     let at-loop = at-call .before .before .before .before in
-    hit-more _ _ _ _ _ _ _ _ (at-loop .loop .inv) (at-call .before .before .before .loop-test .taken) _ _ (at-call .write-hit .kept .0) (at-call .write-hit .ensures)
+    hit-more _ _ _ _ _ _ _ _ (at-loop .loop .inv) (at-call .before .before .before .loop-test .taken) _ _ (at-call .write-hit .kept .0)
+    (at-call .write-hit .ensures)
 
 same-length : tie.Need-same-length Inv-loop μ-loop
 same-length c = c .before .loop .inv .long ∙ c .before .before .before .before .write-head .kept .0

@@ -45,7 +45,8 @@ array-share-prefix-alphabet : tie.Need-array-share-prefix-alphabet
 array-share-prefix-alphabet c = kept-fit _ (c .kept .ensures) (c .before .before .before .before .before .before .before .alphabet2 .given)
 
 slice-aggregate-report : tie.Need-slice-aggregate-report
-slice-aggregate-report c = kept-long _ _ (c .before .kept .ensures) (c .before .before .before .before .before .before .before .before .alphabet2 .given)
+slice-aggregate-report c =
+    kept-long _ _ (c .before .kept .ensures) (c .before .before .before .before .before .before .before .before .alphabet2 .given)
 
 kept-requires-2 : tie.Need-kept-requires-2
 kept-requires-2 c κs = tt
@@ -54,7 +55,8 @@ array-share-prefix-rule : tie.Need-array-share-prefix-rule
 array-share-prefix-rule c = kept-fit _ (c .kept2 .ensures) (c .before .before .before .before .before .before .rule2 .given)
 
 slice-aggregate-report-2 : tie.Need-slice-aggregate-report-2
-slice-aggregate-report-2 c = kept-long _ _ (c .before .kept2 .ensures) (c .before .before .before .before .before .before .before .rule2 .given)
+slice-aggregate-report-2 c =
+    kept-long _ _ (c .before .kept2 .ensures) (c .before .before .before .before .before .before .before .rule2 .given)
 
 kept-requires-3 : tie.Need-kept-requires-3
 kept-requires-3 c κs = tt

@@ -48,10 +48,13 @@ returns-2 : tie.Need-returns-2 Inv-loop μ-loop
 returns-2 c = λ e. absurd (false≢true e)
 
 array-share-prefix-buffer : tie.Need-array-share-prefix-buffer Inv-loop μ-loop
-array-share-prefix-buffer c = part-fits _ (c .before .before .before .read-full .last .1 .0) _ (omega arith) (c .before .before .before .read-full .kept .1 .0)
+array-share-prefix-buffer c =
+    part-fits _ (c .before .before .before .read-full .last .1 .0) _ (omega arith) (c .before .before .before .read-full .kept .1 .0)
 
 slice-aggregate-keep-words : tie.Need-slice-aggregate-keep-words Inv-loop μ-loop
-slice-aggregate-keep-words c = part-long _ (c .before .before .before .before .read-full .last .1 .0) _ (omega arith) (c .before .before .before .before .read-full .kept .1 .0)
+slice-aggregate-keep-words c =
+    part-long _ (c .before .before .before .before .read-full .last .1 .0) _ (omega arith)
+    (c .before .before .before .before .read-full .kept .1 .0)
 
 keep-words-requires : tie.Need-keep-words-requires Inv-loop μ-loop
 keep-words-requires c κs = tt
@@ -66,8 +69,11 @@ loop-again : tie.Need-loop-again Inv-loop μ-loop
 loop-again c =
     let call = c .before .before in
     let read = c .before .before .before .before .before .before .before in
-    so-far-more _ _ _ _ (c .before .before .before .before .before .before .before .before .before .before .before .before .loop .inv) (c .before .before .before .before .before .before .before .before .before .before .before .loop-test .taken) _ _ _ (c .before .before .before .before .before .before .before .before .before .before .part-bytes .ensures)
-    (part-long (c .before .before .before .before .before .before .before .before .before .buffer .result) (read .read-full .last .1 .0) _ (omega arith) (read .read-full .kept .1 .0)) (call .keep-words .ensures .0) (call .keep-words .ensures .1)
+    so-far-more _ _ _ _ (c .before .before .before .before .before .before .before .before .before .before .before .before .loop .inv)
+    (c .before .before .before .before .before .before .before .before .before .before .before .loop-test .taken) _ _ _
+    (c .before .before .before .before .before .before .before .before .before .before .part-bytes .ensures)
+    (part-long (c .before .before .before .before .before .before .before .before .before .buffer .result) (read .read-full .last .1 .0) _
+    (omega arith) (read .read-full .kept .1 .0)) (call .keep-words .ensures .0) (call .keep-words .ensures .1)
 
 same-length-2 : tie.Need-same-length-2 Inv-loop μ-loop
 same-length-2 c = c .before .loop .inv .long

@@ -18,7 +18,10 @@ rank-requires : tie.Need-rank-requires
 rank-requires c κs = search needs
 
 push-node-requires : tie.Need-push-node-requires
-push-node-requires c κs = node-pushable (c .before .before .before .before .before .before .before .before .before .before .before .before .before .before .before .before .pre .at)
+push-node-requires c κs =
+    node-pushable
+    (c .before .before .before .before .before .before .before .before .before .before .before .before .before .before .before
+    .before .pre .at)
 
 sub-t29 : tie.Need-sub-t29
 sub-t29 c = search needs
@@ -30,13 +33,29 @@ same-length : tie.Need-same-length
 same-length c = search needs
 
 returns : tie.Need-returns
-returns c = let k = c .before .before .before .before .before in let p = c .before .before in let g = c .before .before .before .before .before .before .before .before .before .before .before .before .before .before .before .before .before .before .before .pre .at in (step-beside _ _ _ _ _ _ _ (node-rank g _ (k .rank .ensures)) (c .before .before .before .before .if1 .taken), node-passed g (p .push-node .ensures .0) (p .push-node .ensures .1))
+returns c =
+    let k = c .before .before .before .before .before in
+    let p = c .before .before in
+    let g =
+    c .before .before .before .before .before .before .before .before .before .before .before .before .before .before .before .before
+    .before .before .before .pre .at in (
+      step-beside _ _ _ _ _ _ _ (node-rank g _ (k .rank .ensures)) (c .before .before .before .before .if1 .taken),
+      node-passed g (p .push-node .ensures .0) (p .push-node .ensures .1),
+    )
 
 recompute-requires : tie.Need-recompute-requires
-recompute-requires c κs = c .before .before .before .before .before .before .before .before .before .before .before .before .before .before .before .before .before .before .before .before .before .before .before .pre .at
+recompute-requires c κs =
+    c .before .before .before .before .before .before .before .before .before .before .before .before .before .before .before .before
+    .before .before .before .before .before .before .before .pre .at
 
 add-t21 : tie.Need-add-t21
-add-t21 c = omega (arith, c .before .before .before .before .before .before .before .before .before .before .before .before .before .before .before .before .before .before .before .before .before .before .before .before .before .before .before .before .before .before .before .before .before .before .before .before .before .before .before .before .pre .few-recomputed)
+add-t21 c =
+    omega (
+      arith,
+      c .before .before .before .before .before .before .before .before .before .before .before .before .before .before .before .before
+          .before .before .before .before .before .before .before .before .before .before .before .before .before .before .before .before
+          .before .before .before .before .before .before .before .before .pre .few-recomputed,
+    )
 
 same-length-2 : tie.Need-same-length-2
 same-length-2 c = search needs
@@ -63,7 +82,21 @@ same-length-9 : tie.Need-same-length-9
 same-length-9 c = search needs
 
 returns-2 : tie.Need-returns-2
-returns-2 c = let k = c .before .before .before .before .before .before .before .before .before .before .before .before .before .before .before .before .before .before .before .before .before .before .before .before .before .before in let r = c .before .before .before .before .before .before .before .before .before .before .before .before .before .before .before .before in (step-ancestor _ _ _ _ _ _ _ (node-rank (c .before .before .before .before .before .before .before .before .before .before .before .before .before .before .before .before .before .before .before .before .before .before .before .before .before .before .before .before .before .before .before .before .before .before .before .before .before .before .before .before .pre .at) _ (k .rank .ensures)) (c .before .before .before .before .before .before .before .before .before .before .before .before .before .before .before .before .before .before .before .before .before .before .before .before .before .if1 .left) _ (r .recompute .ensures .0), r .recompute .ensures .1)
+returns-2 c =
+    let k =
+    c .before .before .before .before .before .before .before .before .before .before .before .before .before .before .before .before
+    .before .before .before .before .before .before .before .before .before .before in
+    let r =
+    c .before .before .before .before .before .before .before .before .before .before .before .before .before .before .before .before in (
+      step-ancestor _ _ _ _ _ _ _
+          (node-rank
+          (c .before .before .before .before .before .before .before .before .before .before .before .before .before .before .before .before
+          .before .before .before .before .before .before .before .before .before .before .before .before .before .before .before .before
+          .before .before .before .before .before .before .before .before .pre .at) _ (k .rank .ensures))
+          (c .before .before .before .before .before .before .before .before .before .before .before .before .before .before .before .before
+          .before .before .before .before .before .before .before .before .before .if1 .left) _ (r .recompute .ensures .0),
+      r .recompute .ensures .1,
+    )
 
 pub propagate-node-spec : {M : Type 1} → statement M
 propagate-node-spec =

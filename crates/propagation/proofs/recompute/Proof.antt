@@ -38,13 +38,23 @@ write-set-requires : tie.Need-write-set-requires
 write-set-requires c κs = let s = c .before .before .before in row-part (start s .pre) _ (s .set-size .ensures)
 
 mark-node-requires : tie.Need-mark-node-requires
-mark-node-requires c κs = c .before .before .before .before .before .before .before .before .before .before .before .before .before .before .before .before .before .before .before .before .before .before .before .before .before .before .pre
+mark-node-requires c κs =
+    c .before .before .before .before .before .before .before .before .before .before .before .before .before .before .before .before
+    .before .before .before .before .before .before .before .before .before .before .pre
 
 add-same-words : tie.Need-add-same-words
-add-same-words c = let s = c .before .before .before .before .before .before .before .before .before .before .before .before .before .before .before .before .before .before .before .before .before .before .before .before .before .before .before .before .before .before in let l = row-small (start s .pre) _ (s .set-size .ensures) in omega arith
+add-same-words c =
+    let s =
+    c .before .before .before .before .before .before .before .before .before .before .before .before .before .before .before .before
+    .before .before .before .before .before .before .before .before .before .before .before .before .before .before in
+    let l = row-small (start s .pre) _ (s .set-size .ensures) in omega arith
 
 mul-same-words : tie.Need-mul-same-words
-mul-same-words c = let s = c .before .before .before .before .before .before .before .before .before .before .before .before .before .before .before .before .before .before .before .before .before .before .before .before .before .before .before .before .before .before in let l = row-small (start s .pre) _ (s .set-size .ensures) in omega arith
+mul-same-words c =
+    let s =
+    c .before .before .before .before .before .before .before .before .before .before .before .before .before .before .before .before
+    .before .before .before .before .before .before .before .before .before .before .before .before .before .before in
+    let l = row-small (start s .pre) _ (s .set-size .ensures) in omega arith
 
 sub-same-words : tie.Need-sub-same-words
 sub-same-words c = search needs
@@ -53,13 +63,39 @@ part-same-words-start : tie.Need-part-same-words-start
 part-same-words-start c = search needs
 
 part-same-words-end : tie.Need-part-same-words-end
-part-same-words-end c = let s = c .before .before .before .before .before .before .before .before .before .before .before .before .before .before .before .before .before .before .before .before .before .before .before .before .before .before .before .before .before .before .before in omega (arith, row-fits (start s .pre) _ (s .set-size .ensures), c .before .before .before .before .before .before .before .before .before .before .before .before .before .before .before .before .before .mark-node .kept .1 .1 .1 .1 .1 .0)
+part-same-words-end c =
+    let s =
+    c .before .before .before .before .before .before .before .before .before .before .before .before .before .before .before .before
+    .before .before .before .before .before .before .before .before .before .before .before .before .before .before .before in
+    omega (
+      arith,
+      row-fits (start s .pre) _ (s .set-size .ensures),
+      c .before .before .before .before .before .before .before .before .before .before .before .before .before .before .before .before
+          .before .mark-node .kept .1 .1 .1 .1 .1 .0,
+    )
 
 array-share-prefix-before : tie.Need-array-share-prefix-before
-array-share-prefix-before c = let s = c .before .before .before .before .before .before .before .before .before .before .before .before .before .before .before .before .before .before .before .before .before .before .before .before .before .before .before .before .before .before .before .before in omega (arith, row-few (start s .pre) _ (s .set-size .ensures), c .before .before .before .before .before .before .before .before .before .before .before .before .before .before .before .before .before .before .before .before .before .before .before .before .before .before .before .before .write-set .kept .0, length-replicate {A = ℕ} 32 0)
+array-share-prefix-before c =
+    let s =
+    c .before .before .before .before .before .before .before .before .before .before .before .before .before .before .before .before
+    .before .before .before .before .before .before .before .before .before .before .before .before .before .before .before .before in
+    omega (
+      arith,
+      row-few (start s .pre) _ (s .set-size .ensures),
+      c .before .before .before .before .before .before .before .before .before .before .before .before .before .before .before .before
+          .before .before .before .before .before .before .before .before .before .before .before .before .write-set .kept .0,
+      length-replicate {A = ℕ} 32 0,
+    )
 
 slice-aggregate-same-words : tie.Need-slice-aggregate-same-words
-slice-aggregate-same-words c = let s = c .before .before .before .before .before .before .before .before .before .before .before .before .before .before .before .before .before .before .before .before .before .before .before .before .before .before .before .before .before .before .before .before .before in before-length (start s .pre) _ (s .set-size .ensures) _ _ (c .before .before .before .before .before .before .before .before .before .before .before .before .before .before .before .before .before .before .before .before .before .before .before .before .before .before .before .before .before .write-set .ensures)
+slice-aggregate-same-words c =
+    let s =
+    c .before .before .before .before .before .before .before .before .before .before .before .before .before .before .before .before
+    .before .before .before .before .before .before .before .before .before .before .before .before .before .before .before
+    .before .before in
+    before-length (start s .pre) _ (s .set-size .ensures) _ _
+    (c .before .before .before .before .before .before .before .before .before .before .before .before .before .before .before .before
+    .before .before .before .before .before .before .before .before .before .before .before .before .before .write-set .ensures)
 
 same-words-requires : tie.Need-same-words-requires
 same-words-requires c κs = search needs
@@ -89,7 +125,20 @@ same-length-8 : tie.Need-same-length-8
 same-length-8 c = search needs
 
 returns : tie.Need-returns
-returns c = let s = c .before .before .before .before .before .before .before .before .before .before .before .before .before .before .before .before .before .before .before .before .before .before .before .before .before .before .before .before .before .before .before .before .before .before in let m = c .before .before .before .before .before .before .before .before .before .before .before .before .before .before .before .before .before .before .before .before in (node-recomputed (start s .pre) _ (s .set-size .ensures) _ _ (c .before .before .before .before .before .before .before .before .before .before .before .before .before .before .before .before .before .before .before .before .before .before .before .before .before .before .before .before .before .before .write-set .ensures) _ (m .mark-node .ensures .0) _ (c .same-words .ensures), m .mark-node .ensures .1)
+returns c =
+    let s =
+    c .before .before .before .before .before .before .before .before .before .before .before .before .before .before .before .before
+    .before .before .before .before .before .before .before .before .before .before .before .before .before .before .before .before
+    .before .before in
+    let m =
+    c .before .before .before .before .before .before .before .before .before .before .before .before .before .before .before .before
+    .before .before .before .before in (
+      node-recomputed (start s .pre) _ (s .set-size .ensures) _ _
+          (c .before .before .before .before .before .before .before .before .before .before .before .before .before .before .before .before
+          .before .before .before .before .before .before .before .before .before .before .before .before .before .before .write-set
+          .ensures) _ (m .mark-node .ensures .0) _ (c .same-words .ensures),
+      m .mark-node .ensures .1,
+    )
 
 pub recompute-spec : {M : Type 1} → statement M
 recompute-spec =

@@ -13,7 +13,9 @@ same-length : tie.Need-same-length
 same-length c = c .before .before .write-refused .kept .0
 
 returns : tie.Need-returns
-returns c = early-whole _ _ _ _ (c .before .before .before .before .before .before .before .before .before .pre) (not-true _ (c .before .before .before .before .if1 .taken)) (c .before .before .write-refused .ensures)
+returns c =
+    early-whole _ _ _ _ (c .before .before .before .before .before .before .before .before .before .pre)
+    (not-true _ (c .before .before .before .before .if1 .taken)) (c .before .before .write-refused .ensures)
 
 slice-aggregate-compile : tie.Need-slice-aggregate-compile
 slice-aggregate-compile c = search needs
@@ -25,10 +27,14 @@ enum-known-size : tie.Need-enum-known-size
 enum-known-size c = search needs
 
 array-share-prefix-table : tie.Need-array-share-prefix-table
-array-share-prefix-table c = table-fits _ _ _ _ (c .before .size .given .1) (c .before .before .before .before .compile .ensures .0) (c .before .before .before .before .compile .ensures .1)
+array-share-prefix-table c =
+    table-fits _ _ _ _ (c .before .size .given .1) (c .before .before .before .before .compile .ensures .0)
+    (c .before .before .before .before .compile .ensures .1)
 
 slice-aggregate-report-chapter : tie.Need-slice-aggregate-report-chapter
-slice-aggregate-report-chapter c = table-counted _ _ _ _ (c .before .before .size .given .1) (c .before .before .before .before .before .compile .ensures .0) (c .before .before .before .before .before .compile .ensures .1)
+slice-aggregate-report-chapter c =
+    table-counted _ _ _ _ (c .before .before .size .given .1) (c .before .before .before .before .before .compile .ensures .0)
+    (c .before .before .before .before .before .compile .ensures .1)
 
 report-chapter-requires : tie.Need-report-chapter-requires
 report-chapter-requires c κs = tt
@@ -45,16 +51,23 @@ same-length-2 c = c .before .before .report-chapter .kept .1 .1 .1 .0
 returns-2 : tie.Need-returns-2
 returns-2 c =
     let call = c .before .before .before .before .before .before .before .before .before .compile in
-    complete-whole _ _ _ _ (c .before .before .before .before .before .before .before .before .before .before .before .before .before .before .before .before .pre) (not-false _ (c .before .before .before .before .before .before .before .before .before .before .before .if1 .left))
-    (c .before .before .report-chapter .ensures _ (compiles _ _ _ _ (c .before .before .before .before .before .before .size .given .1) (call .ensures .0) (call .ensures .1) (many 2048)))
+    complete-whole _ _ _ _
+    (c .before .before .before .before .before .before .before .before .before .before .before .before .before .before .before .before .pre)
+    (not-false _ (c .before .before .before .before .before .before .before .before .before .before .before .if1 .left))
+    (c .before .before .report-chapter .ensures _
+    (compiles _ _ _ _ (c .before .before .before .before .before .before .size .given .1) (call .ensures .0) (call .ensures .1)
+    (many 2048)))
 
 same-length-3 : tie.Need-same-length-3
 same-length-3 c = c .before .before .write-refused2 .kept .0
 
 returns-3 : tie.Need-returns-3
 returns-3 c =
-    complete-whole _ _ _ _ (c .before .before .before .before .before .before .before .before .before .before .before .before .before .before .before .pre) (not-false _ (c .before .before .before .before .before .before .before .before .before .before .if1 .left))
-    (refused-compiled _ _ _ _ (c .before .before .before .before .before .number .given .1) (c .before .before .before .before .before .before .before .before .compile .ensures .0) (c .before .before .write-refused2 .ensures))
+    complete-whole _ _ _ _
+    (c .before .before .before .before .before .before .before .before .before .before .before .before .before .before .before .pre)
+    (not-false _ (c .before .before .before .before .before .before .before .before .before .before .if1 .left))
+    (refused-compiled _ _ _ _ (c .before .before .before .before .before .number .given .1)
+    (c .before .before .before .before .before .before .before .before .compile .ensures .0) (c .before .before .write-refused2 .ensures))
 
 pub report-spec : {M : Type 1} → statement M
 report-spec =

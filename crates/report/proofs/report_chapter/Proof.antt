@@ -40,14 +40,18 @@ same-length-2 c = c .before .before .report-hits .kept .1 .1 .1 .1 .0
 returns-2 : tie.Need-returns-2
 returns-2 c = λ rule t.
     let call = c .before .before .before .before .before .before .before .before .run in
-    c .before .before .report-hits .ensures rule (marked t _ (c .before .before .before .before .before .before .before .before .before .before .if1 .left) _ (c .before .before .before .before .before .enum-told .given .1) (call .ensures .0) (call .ensures .1))
+    c .before .before .report-hits .ensures rule
+    (marked t _ (c .before .before .before .before .before .before .before .before .before .before .if1 .left) _
+    (c .before .before .before .before .before .enum-told .given .1) (call .ensures .0) (call .ensures .1))
 
 same-length-3 : tie.Need-same-length-3
 same-length-3 c = c .before .before .write-refused2 .kept .0
 
 returns-3 : tie.Need-returns-3
 returns-3 c = λ rule t.
-    refused-ran t _ (c .before .before .before .before .before .before .before .before .before .before .if1 .left) _ (c .before .before .before .before .before .number .given .1) (c .before .before .before .before .before .before .before .before .run .ensures .0) (c .before .before .write-refused2 .ensures)
+    refused-ran t _ (c .before .before .before .before .before .before .before .before .before .before .if1 .left) _
+    (c .before .before .before .before .before .number .given .1)
+    (c .before .before .before .before .before .before .before .before .run .ensures .0) (c .before .before .write-refused2 .ensures)
 
 pub report-chapter-spec : {M : Type 1} → statement M
 report-chapter-spec =

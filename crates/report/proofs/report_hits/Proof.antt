@@ -21,7 +21,9 @@ state-count-requires c κs = tt
 
 array-share-prefix-hits : tie.Need-array-share-prefix-hits
 array-share-prefix-hits c =
-    let n = hits-most _ _ _ _ _ (c .before .before .before .count .given .1) (c .before .before .before .before .before .before .list .ensures .0) in
+    let n =
+    hits-most _ _ _ _ _ (c .before .before .before .count .given .1)
+    (c .before .before .before .before .before .before .list .ensures .0) in
     omega arith
 
 slice-aggregate-write-lines : tie.Need-slice-aggregate-write-lines
@@ -47,13 +49,17 @@ returns : tie.Need-returns
 returns c = λ rule m.
     let told = c .before .before .before .before .before .before .before .count in
     let call = c .before .before .before .before .before .before .before .before .before .before .list in
-    lines-written m _ (told .given .1) (call .ensures .0) (call .ensures .1) (c .before .before .before .before .state-count .ensures) (c .before .before .write-lines .ensures)
+    lines-written m _ (told .given .1) (call .ensures .0) (call .ensures .1) (c .before .before .before .before .state-count .ensures)
+    (c .before .before .write-lines .ensures)
 
 same-length-2 : tie.Need-same-length-2
 same-length-2 c = c .before .before .write-refused .kept .0
 
 returns-2 : tie.Need-returns-2
-returns-2 c = λ rule m. absurd (never-refused m _ (c .before .before .before .before .before .number .given .1) (c .before .before .before .before .before .before .before .before .list .ensures .0))
+returns-2 c =
+    λ rule m. absurd
+    (never-refused m _ (c .before .before .before .before .before .number .given .1)
+    (c .before .before .before .before .before .before .before .before .list .ensures .0))
 
 pub report-hits-spec : {M : Type 1} → statement M
 report-hits-spec =

@@ -25,22 +25,32 @@ same-length : tie.Need-same-length
 same-length c = search needs
 
 returns : tie.Need-returns
-returns c = transition-still (c .before .before .before .before .before .before .before .before .before .before .before .before .pre) (λ _. sym (c .before .contains .ensures) ∙ c .if1 .taken)
+returns c =
+    transition-still (c .before .before .before .before .before .before .before .before .before .before .before .before .pre)
+    (λ _. sym (c .before .contains .ensures) ∙ c .if1 .taken)
 
 add-sources-contained : tie.Need-add-sources-contained
-add-sources-contained c = omega (arith, transition-few (c .before .before .before .before .before .before .before .before .before .before .before .before .pre))
+add-sources-contained c =
+    omega (arith, transition-few (c .before .before .before .before .before .before .before .before .before .before .before .before .pre))
 
 sources-contained-requires : tie.Need-sources-contained-requires
-sources-contained-requires c κs = transition-sources (c .before .before .before .before .before .before .before .before .before .before .before .before .pre)
+sources-contained-requires c κs =
+    transition-sources (c .before .before .before .before .before .before .before .before .before .before .before .before .pre)
 
 same-length-2 : tie.Need-same-length-2
 same-length-2 c = search needs
 
 returns-2 : tie.Need-returns-2
-returns-2 c = transition-still (c .before .before .before .before .before .before .before .before .before .before .before .before .before .before .pre) (λ y. absurd (true≢false (sym y ∙ sym (c .before .sources-contained .ensures) ∙ not-true _ (c .if2 .taken))))
+returns-2 c =
+    transition-still
+    (c .before .before .before .before .before .before .before .before .before .before .before .before .before .before .pre)
+    (λ y. absurd (true≢false (sym y ∙ sym (c .before .sources-contained .ensures) ∙ not-true _ (c .if2 .taken))))
 
 join-closure-requires : tie.Need-join-closure-requires
-join-closure-requires c κs = transition-joinable (c .before .before .before .before .before .before .before .before .before .before .before .before .before .before .before .before .before .before .pre)
+join-closure-requires c κs =
+    transition-joinable
+    (c .before .before .before .before .before .before .before .before .before .before .before .before .before .before .before .before
+    .before .before .pre)
 
 same-length-3 : tie.Need-same-length-3
 same-length-3 c = search needs
@@ -55,7 +65,14 @@ same-length-6 : tie.Need-same-length-6
 same-length-6 c = search needs
 
 returns-3 : tie.Need-returns-3
-returns-3 c = transition-more (c .before .before .before .before .before .before .before .before .before .before .before .before .before .before .before .before .before .before .before .before .before .before .before .before .before .before .before .pre) (sym (c .before .before .before .before .before .before .before .before .before .before .before .before .before .before .sources-contained .ensures) ∙ not-false _ (c .before .before .before .before .before .before .before .before .before .before .before .before .before .if2 .left)) (c .before .before .before .before .before .before .before .before .join-closure .ensures)
+returns-3 c =
+    transition-more
+    (c .before .before .before .before .before .before .before .before .before .before .before .before .before .before .before .before
+    .before .before .before .before .before .before .before .before .before .before .before .pre)
+    (sym (c .before .before .before .before .before .before .before .before .before .before .before .before .before .before
+    .sources-contained .ensures)
+    ∙ not-false _ (c .before .before .before .before .before .before .before .before .before .before .before .before .before .if2 .left))
+    (c .before .before .before .before .before .before .before .before .join-closure .ensures)
 
 pub follow-transition-spec : {M : Type 1} → statement M
 follow-transition-spec =

@@ -11,7 +11,9 @@ slice-aggregate-follow-symbol : tie.Need-slice-aggregate-follow-symbol
 slice-aggregate-follow-symbol c = search needs
 
 follow-symbol-requires : tie.Need-follow-symbol-requires
-follow-symbol-requires c κs = node-seeding (c .before .before .before .before .before .before .before .before .before .before .before .before .pre) (c .before .before .before .before .set-size .ensures)
+follow-symbol-requires c κs =
+    node-seeding (c .before .before .before .before .before .before .before .before .before .before .before .before .pre)
+    (c .before .before .before .before .set-size .ensures)
 
 same-length : tie.Need-same-length
 same-length c = search needs
@@ -23,7 +25,14 @@ same-length-3 : tie.Need-same-length-3
 same-length-3 c = search needs
 
 returns : tie.Need-returns
-returns c = let s = c .before .before .before .before .before .before .before .follow-symbol .ensures in (node-end (c .before .before .before .before .before .before .before .before .before .before .before .before .before .before .before .before .before .before .before .before .pre .prepared .ready) (c .before .before .before .before .before .before .before .before .before .before .before .before .set-size .ensures) s, s .closures)
+returns c =
+    let s = c .before .before .before .before .before .before .before .follow-symbol .ensures in (
+      node-end
+          (c .before .before .before .before .before .before .before .before .before .before .before .before .before .before .before .before
+          .before .before .before .before .pre .prepared .ready)
+          (c .before .before .before .before .before .before .before .before .before .before .before .before .set-size .ensures) s,
+      s .closures,
+    )
 
 pub node-set-spec : {M : Type 1} → statement M
 node-set-spec =

@@ -4,7 +4,8 @@ use native.Mathlib.Omega.{arith}
 use lib.ListN.{length}
 use borrow.Author.Needs.{needs}
 use borrow.Author.Tests.{not-true, not-false}
-use Rattle.step.proofs.SourceSetLaws.{SourcesHeld, sources-held-none, sources-held-inside, sources-held-more, sources-held-fails, sources-held-end, row-contains}
+use Rattle.step.proofs.SourceSetLaws.{SourcesHeld, sources-held-none, sources-held-inside}
+use Rattle.step.proofs.SourceSetLaws.{sources-held-more, sources-held-fails, sources-held-end, row-contains}
 use Rattle.step.proofs.sources_contained.Statement.{statement}
 use Rattle.step.proofs.sources_contained.Tie as tie
 

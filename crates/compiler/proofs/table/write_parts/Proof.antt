@@ -110,7 +110,9 @@ push-constants-requires c κs =
 
 write-words-requires : tie.Need-write-words-requires
 write-words-requires c κs =
-    let p = c .before .before .before .before .before .before .before .before .before .before .before .before .before .before .before .before .before .before .pre in
+    let p =
+    c .before .before .before .before .before .before .before .before .before .before .before .before .before .before .before .before
+    .before .before .pre in
     let m = wrote-next _ _ _ _ _ _ (c .before .before .before .before .before .before .before .push .ensures) in
     let n = wrote-next _ _ _ _ _ _ (c .before .before .before .push-constants .ensures) in
     record { accepted = p .accepted; constants = p .constants; early = omega arith }
@@ -120,11 +122,16 @@ same-length c = search needs
 
 returns : tie.Need-returns
 returns c =
-    let p = c .before .before .before .before .before .before .before .before .before .before .before .before .before .before .before .before .before .before .before .before .before .pre in
-    let a = c .before .before .before .before .before .before .before .before .before .before .before .before .before .before .before .before .before .before .before .before .before .args in
+    let p =
+    c .before .before .before .before .before .before .before .before .before .before .before .before .before .before .before .before
+    .before .before .before .before .before .pre in
+    let a =
+    c .before .before .before .before .before .before .before .before .before .before .before .before .before .before .before .before
+    .before .before .before .before .before .args in
     let e = expression-passed _ _ (p .accepted .expression) in
     wrote-table (a .alphabet .now) (a .constants .now) (a .expression .now) (e .some) _ _ _ _ _ _ _ _ _ _ (p .constants)
-    (c .before .before .before .before .before .before .before .before .before .before .before .before .before .before .states-after .ensures .0)
+    (c .before .before .before .before .before .before .before .before .before .before .before .before .before .before .states-after
+    .ensures .0)
     (c .before .before .before .before .before .before .before .before .before .before .before .before .before .states-of .ensures .0)
     (c .before .before .before .before .before .before .before .before .before .before .before .before .word-port .ensures)
     (c .before .before .before .before .before .before .before .before .before .before .push .ensures)

@@ -7,7 +7,8 @@ use lib.ListN.{length}
 use borrow.Author.Needs.{needs}
 use Rattle.words.proofs.AcceptedAlphabet.{alphabet-accepted}
 use Rattle.compiler.proofs.AcceptedRuleLaws.{expression-passed}
-use Rattle.compiler.proofs.EmittedLaws.{Emitted, emitted-none, emitted-word, emitted-children, emitted-height, emitted-emits, emitted-takes, emitted-more, emitted-end}
+use Rattle.compiler.proofs.EmittedLaws.{Emitted, emitted-none, emitted-word, emitted-children, emitted-height}
+use Rattle.compiler.proofs.EmittedLaws.{emitted-emits, emitted-takes, emitted-more, emitted-end}
 use Rattle.compiler.proofs.table.write_words.Statement.{statement}
 use Rattle.compiler.proofs.table.write_words.Tie as tie
 
@@ -79,33 +80,39 @@ mul-stack : tie.Need-mul-stack Inv-loop μ-loop
 mul-stack c =
     let h = emitted-height (c .before .before .before .before .before .before .before .before .before .before .loop .inv)
     (c .before .before .before .before .before .before .before .before .before .loop-test .taken)
-    (c .before .before .before .before .before .before .before .before .before .before .before .before .before .before .before .pre .accepted .expression) in
+    (c .before .before .before .before .before .before .before .before .before .before .before .before .before .before .before .pre
+    .accepted .expression) in
     omega arith
 
 array-write-stack : tie.Need-array-write-stack Inv-loop μ-loop
 array-write-stack c =
     let h = emitted-height (c .before .before .before .before .before .before .before .before .before .before .loop .inv)
     (c .before .before .before .before .before .before .before .before .before .loop-test .taken)
-    (c .before .before .before .before .before .before .before .before .before .before .before .before .before .before .before .pre .accepted .expression) in
+    (c .before .before .before .before .before .before .before .before .before .before .before .before .before .before .before .pre
+    .accepted .expression) in
     omega arith
 
 add-height : tie.Need-add-height Inv-loop μ-loop
 add-height c =
     let h = emitted-height (c .before .before .before .before .before .before .before .before .before .before .loop .inv)
     (c .before .before .before .before .before .before .before .before .before .loop-test .taken)
-    (c .before .before .before .before .before .before .before .before .before .before .before .before .before .before .before .pre .accepted .expression) in
+    (c .before .before .before .before .before .before .before .before .before .before .before .before .before .before .before .pre
+    .accepted .expression) in
     omega arith
 
 states-of-requires : tie.Need-states-of-requires Inv-loop μ-loop
 states-of-requires c κs =
-    let p = c .before .before .before .before .before .before .before .before .before .before .before .before .before .before .before .pre in
+    let p =
+    c .before .before .before .before .before .before .before .before .before .before .before .before .before .before .before .pre in
     let l = ap length (p .constants) in
     let few = alphabet-accepted _ (p .accepted .alphabet) .fewConstants in
     record { constants = l; few = omega arith }
 
 add-state : tie.Need-add-state Inv-loop μ-loop
 add-state c =
-    let p = c .before .before .before .before .before .before .before .before .before .before .before .before .before .before .before .before .pre in
+    let p =
+    c .before .before .before .before .before .before .before .before .before .before .before .before .before .before .before
+    .before .pre in
     let low = c .before .before .before .before .before .before .before .before .before .before .before .loop .inv .low in
     let h = c .before .before .before .before .before .before .before .before .before .before .loop-test .taken in
     let few = expression-passed _ _ (p .accepted .expression) .few in
@@ -120,7 +127,9 @@ loop-less c = search needs
 
 loop-again : tie.Need-loop-again Inv-loop μ-loop
 loop-again c =
-    let p = c .before .before .before .before .before .before .before .before .before .before .before .before .before .before .before .before .pre in
+    let p =
+    c .before .before .before .before .before .before .before .before .before .before .before .before .before .before .before
+    .before .pre in
     let m = c .before .before .before .before .before .before .before .before .before .before .before .loop .inv in
     let e = expression-passed _ _ (p .accepted .expression) in
     emitted-more m _ _ _ _ _ _ (p .constants)

@@ -4,12 +4,14 @@ use native.Mathlib.Omega.{arith}
 use lib.ListN.{length}
 use borrow.Author.Needs.{needs}
 use Rattle.emitter.specs.Emission.{targetsIn}
-use Rattle.emitter.proofs.EntryEpsilonLaws.{EntriesWritten, entriesWritten-none, entriesWritten-room, entriesWritten-more, entriesWritten-end}
+use Rattle.emitter.proofs.EntryEpsilonLaws.{EntriesWritten, entriesWritten-none, entriesWritten-room}
+use Rattle.emitter.proofs.EntryEpsilonLaws.{entriesWritten-more, entriesWritten-end}
 use Rattle.emitter.proofs.entries.push_entries.Statement.{statement}
 use Rattle.emitter.proofs.entries.push_entries.Tie as tie
 
 abbrev Inv-loop : tie.InvT-loop
-Inv-loop constants ports out₀ at exit targets next₀ k₀ out next k = EntriesWritten constants (targetsIn constants ports exit targets) exit at out₀ out next k
+Inv-loop constants ports out₀ at exit targets next₀ k₀ out next k =
+    EntriesWritten constants (targetsIn constants ports exit targets) exit at out₀ out next k
 
 abbrev μ-loop : tie.MeasureT-loop
 μ-loop constants ports out₀ at exit targets next₀ k₀ out next k = length constants - k
@@ -47,7 +49,8 @@ same-length : tie.Need-same-length Inv-loop μ-loop
 same-length c = c .before .loop .inv .long
 
 returns : tie.Need-returns Inv-loop μ-loop
-returns c = let p = c .before .before .before .before .before .pre in entriesWritten-end (c .before .loop .inv) (c .loop-test .left) (p .0 .few)
+returns c =
+    let p = c .before .before .before .before .before .pre in entriesWritten-end (c .before .loop .inv) (c .loop-test .left) (p .0 .few)
 
 pub push-entries-spec : {M : Type 1} → statement M
 push-entries-spec =

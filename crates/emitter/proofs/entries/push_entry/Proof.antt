@@ -29,7 +29,8 @@ same-length c = search needs
 returns : tie.Need-returns
 returns c =
     let a = c .before .before .before .before .before .before .before .before .before .args in
-    targets-children (a .constants .now) (a .ports .now) (a .exit) (a .exit + 1 + a .k) _ _ _ _ _ _ (c .before .before .before .before .enum-told .given .1)
+    targets-children (a .constants .now) (a .ports .now) (a .exit) (a .exit + 1 + a .k) _ _ _ _ _ _
+    (c .before .before .before .before .enum-told .given .1)
     (c .before .before .push-to-children .ensures)
 
 same-length-2 : tie.Need-same-length-2
@@ -38,7 +39,8 @@ same-length-2 c = search needs
 returns-2 : tie.Need-returns-2
 returns-2 c =
     let a = c .before .before .before .before .before .before .before .before .before .before .args in
-    targets-product (a .constants .now) (a .ports .now) (a .exit) (a .exit + 1 + a .k) _ _ _ _ _ _ _ (c .before .before .before .before .before .targets .given .1)
+    targets-product (a .constants .now) (a .ports .now) (a .exit) (a .exit + 1 + a .k) _ _ _ _ _ _ _
+    (c .before .before .before .before .before .targets .given .1)
     (c .before .before .push-product-entry .ensures)
 
 same-length-3 : tie.Need-same-length-3
@@ -47,7 +49,8 @@ same-length-3 c = search needs
 returns-3 : tie.Need-returns-3
 returns-3 c =
     let a = c .before .before .before .before .before .before .before .before .before .before .args in
-    targets-closure (a .constants .now) (a .ports .now) (a .exit) (a .exit + 1 + a .k) _ _ _ _ _ _ _ (c .before .before .before .before .before .targets2 .given .1)
+    targets-closure (a .constants .now) (a .ports .now) (a .exit) (a .exit + 1 + a .k) _ _ _ _ _ _ _
+    (c .before .before .before .before .before .targets2 .given .1)
     (c .before .before .push-closure-entry .ensures)
 
 pub push-entry-spec : {M : Type 1} → statement M

@@ -31,7 +31,8 @@ loop-again : tie.Need-loop-again Inv-loop μ-loop
 loop-again c =
     let at-call = c .before .before in
     let at-loop = at-call .before .before .before .before in
-    texted-more _ _ _ _ _ _ (at-loop .loop .inv) (at-call .before .before .before .loop-test .taken) _ _ (at-call .write-byte .kept .0) (at-call .write-byte .ensures)
+    texted-more _ _ _ _ _ _ (at-loop .loop .inv) (at-call .before .before .before .loop-test .taken) _ _ (at-call .write-byte .kept .0)
+    (at-call .write-byte .ensures)
 
 same-length : tie.Need-same-length Inv-loop μ-loop
 same-length c = c .before .loop .inv .long

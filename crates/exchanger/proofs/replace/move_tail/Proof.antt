@@ -22,7 +22,8 @@ same-length c = search needs
 returns : tie.Need-returns
 returns c =
     let start = c .before .before .before .before .before .before .before .before .before in
-    tail-moved _ _ _ _ (start .pre) _ _ (c .before .before .before .before .before .before .move-words .ensures) (c .before .before .clear-words .ensures)
+    tail-moved _ _ _ _ (start .pre) _ _ (c .before .before .before .before .before .before .move-words .ensures)
+    (c .before .before .clear-words .ensures)
 
 pub move-tail-spec : {M : Type 1} → statement M
 move-tail-spec =

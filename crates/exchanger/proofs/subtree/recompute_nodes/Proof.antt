@@ -43,7 +43,12 @@ slice-aggregate-mark-nodes-8 : tie.Need-slice-aggregate-mark-nodes-8
 slice-aggregate-mark-nodes-8 c = search needs
 
 mark-nodes-requires : tie.Need-mark-nodes-requires
-mark-nodes-requires c κs = nodes-marks (c .before .before .before .before .before .before .before .before .before .before .before .before .before .before .before .before .before .before .before .pre) (c .before .before .before .before .before .before .before .before .before .before .before .before .before .write-index .ensures) (search needs) (c .before .before .before .before .before .before .before .before .before .before .stack-nodes .ensures)
+mark-nodes-requires c κs =
+    nodes-marks
+    (c .before .before .before .before .before .before .before .before .before .before .before .before .before .before .before .before
+    .before .before .before .pre)
+    (c .before .before .before .before .before .before .before .before .before .before .before .before .before .write-index .ensures)
+    (search needs) (c .before .before .before .before .before .before .before .before .before .before .stack-nodes .ensures)
 
 slice-aggregate-propagate : tie.Need-slice-aggregate-propagate
 slice-aggregate-propagate c = search needs
@@ -52,7 +57,10 @@ slice-aggregate-propagate-2 : tie.Need-slice-aggregate-propagate-2
 slice-aggregate-propagate-2 c = search needs
 
 sub-propagate : tie.Need-sub-propagate
-sub-propagate c = c .before .before .before .before .before .before .before .before .before .before .before .before .before .before .before .before .before .before .before .before .before .before .before .before .before .before .before .before .before .before .before .before .pre .order
+sub-propagate c =
+    c .before .before .before .before .before .before .before .before .before .before .before .before .before .before .before .before
+    .before .before .before .before .before .before .before .before .before .before .before .before .before .before .before .before
+    .pre .order
 
 slice-aggregate-propagate-3 : tie.Need-slice-aggregate-propagate-3
 slice-aggregate-propagate-3 c = search needs
@@ -73,13 +81,27 @@ slice-aggregate-propagate-8 : tie.Need-slice-aggregate-propagate-8
 slice-aggregate-propagate-8 c = search needs
 
 propagate-requires : tie.Need-propagate-requires
-propagate-requires c κs = let m = c .before .before .before .before .before .before .before .before .before .before .before .before .before .before .before .before .before .before in nodes-propagate (c .before .before .before .before .before .before .before .before .before .before .before .before .before .before .before .before .before .before .before .before .before .before .before .before .before .before .before .before .before .before .before .before .before .before .before .before .before .before .pre) (c .before .before .before .before .before .before .before .before .before .before .before .before .before .before .before .before .before .before .before .before .before .before .before .before .before .before .before .before .before .before .before .before .write-index .ensures) (m .mark-nodes .kept .1 .1 .1 .1 .1 .1 .0) (m .mark-nodes .ensures .1)
+propagate-requires c κs =
+    let m =
+    c .before .before .before .before .before .before .before .before .before .before .before .before .before .before .before .before
+    .before .before in
+    nodes-propagate
+    (c .before .before .before .before .before .before .before .before .before .before .before .before .before .before .before .before
+    .before .before .before .before .before .before .before .before .before .before .before .before .before .before .before .before .before
+    .before .before .before .before .before .pre)
+    (c .before .before .before .before .before .before .before .before .before .before .before .before .before .before .before .before
+    .before .before .before .before .before .before .before .before .before .before .before .before .before .before .before .before
+    .write-index .ensures) (m .mark-nodes .kept .1 .1 .1 .1 .1 .1 .0) (m .mark-nodes .ensures .1)
 
 same-length : tie.Need-same-length
 same-length c = search needs
 
 returns : tie.Need-returns
-returns c = nodes-exchanged _ _ _ _ _ _ _ (c .before .before .before .before .before .before .before .before .before .before .before .before .before .before .before .before .before .before .before .before .before .before .before .before .before .before .before .before .mark-nodes .ensures .0) _ (c .before .before .before .before .before .before .before .before .before .propagate .ensures)
+returns c =
+    nodes-exchanged _ _ _ _ _ _ _
+    (c .before .before .before .before .before .before .before .before .before .before .before .before .before .before .before .before
+    .before .before .before .before .before .before .before .before .before .before .before .before .mark-nodes .ensures .0) _
+    (c .before .before .before .before .before .before .before .before .before .propagate .ensures)
 
 pub recompute-nodes-spec : {M : Type 1} → statement M
 recompute-nodes-spec =

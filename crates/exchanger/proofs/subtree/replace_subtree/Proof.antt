@@ -135,8 +135,10 @@ returns c =
     let qs = p .subtree-start .ensures in
     let qz = sized p .set-size .ensures in
     let left =
-    marks-exit (q .alphabet .now) (q .table .now) (q .chapter .now) (q .marks .now) (q .count) (q .element) (q .replacement .now) pre _ qs _ qz
-    _ _ (t .move-tail .ensures) (f .copy-words .ensures) _ (w .move-tail2 .ensures) (w .move-tail2 .kept .0) _ _ (k .recompute-nodes .ensures) in (
+    marks-exit (q .alphabet .now) (q .table .now) (q .chapter .now) (q .marks .now) (q .count) (q .element)
+    (q .replacement .now) pre _ qs _ qz
+    _ _ (t .move-tail .ensures) (f .copy-words .ensures) _ (w .move-tail2 .ensures) (w .move-tail2 .kept .0) _ _
+    (k .recompute-nodes .ensures) in (
       ap₂ (λ (i j : ℕ). accepted (i ∷ j ∷ [])) (facts p .total) (left .count-is),
       (
         chapter-exit _ _ _ _ _ _ _ pre _ qs _ qz _ _ (t .move-tail .ensures) (f .copy-words .ensures),

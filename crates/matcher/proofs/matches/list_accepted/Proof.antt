@@ -30,7 +30,8 @@ start l = l .before .before .before .before .before .before .before
 
 -- node i's words lie inside the marks
 row : (c : tie.In-loop Inv-loop μ-loop)
-    → c .before .loop .i * c .before .before .before .set-size .result + c .before .before .before .set-size .result ≤ length (start (c .before) .args .marks .now)
+    → c .before .loop .i * c .before .before .before .set-size .result + c .before .before .before .set-size .result ≤ length
+    (start (c .before) .args .marks .now)
 row c = list-row _ _ _ _ _ (start (c .before) .pre) _ (c .before .before .before .set-size .ensures) _ (c .loop-test .taken)
 
 mul-at : tie.Need-mul-at Inv-loop μ-loop

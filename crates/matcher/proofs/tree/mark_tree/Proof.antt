@@ -35,7 +35,10 @@ slice-aggregate-mark-nodes-8 : tie.Need-slice-aggregate-mark-nodes-8
 slice-aggregate-mark-nodes-8 c = search needs
 
 mark-nodes-requires : tie.Need-mark-nodes-requires
-mark-nodes-requires c κs = tree-nodes (c .before .before .before .before .before .before .before .before .before .before .before .before .before .before .before .before .pre) (c .before .before .before .before .before .before .before .before .before .before .write-index .ensures)
+mark-nodes-requires c κs =
+    tree-nodes
+    (c .before .before .before .before .before .before .before .before .before .before .before .before .before .before .before .before .pre)
+    (c .before .before .before .before .before .before .before .before .before .before .write-index .ensures)
 
 same-length : tie.Need-same-length
 same-length c = search needs

@@ -15,28 +15,43 @@ set-size-requires : tie.Need-set-size-requires
 set-size-requires c κs = search needs
 
 node-set-requires : tie.Need-node-set-requires
-node-set-requires c κs = c .before .before .before .before .before .before .before .before .before .before .before .before .before .pre .steppable
+node-set-requires c κs =
+    c .before .before .before .before .before .before .before .before .before .before .before .before .before .pre .steppable
 
 array-share-prefix-set : tie.Need-array-share-prefix-set
-array-share-prefix-set c = let n = c .before .before .before .before .before .before .before in set-long (start n .pre) _ (n .node-set .ensures .0) _ (sized n .set-size .ensures)
+array-share-prefix-set c =
+    let n = c .before .before .before .before .before .before .before in
+    set-long (start n .pre) _ (n .node-set .ensures .0) _ (sized n .set-size .ensures)
 
 slice-aggregate-representative : tie.Need-slice-aggregate-representative
-slice-aggregate-representative c = let n = c .before .before .before .before .before .before .before .before in set-length (start n .pre) _ (n .node-set .ensures .0) _ (sized n .set-size .ensures)
+slice-aggregate-representative c =
+    let n = c .before .before .before .before .before .before .before .before in
+    set-length (start n .pre) _ (n .node-set .ensures .0) _ (sized n .set-size .ensures)
 
 representative-requires : tie.Need-representative-requires
-representative-requires c κs = let n = c .before .before .before .before .before .before .before .before .before in set-placeable (start n .pre) _ (n .node-set .ensures .0) _ (sized n .set-size .ensures)
+representative-requires c κs =
+    let n = c .before .before .before .before .before .before .before .before .before in
+    set-placeable (start n .pre) _ (n .node-set .ensures .0) _ (sized n .set-size .ensures)
 
 mul-write-set-at : tie.Need-mul-write-set-at
-mul-write-set-at c = let n = c .before .before .before .before .before .before .before .before .before .before .before .before .before in let l = set-few (start n .pre) _ (n .node-set .ensures .0) _ (sized n .set-size .ensures) in omega arith
+mul-write-set-at c =
+    let n = c .before .before .before .before .before .before .before .before .before .before .before .before .before in
+    let l = set-few (start n .pre) _ (n .node-set .ensures .0) _ (sized n .set-size .ensures) in omega arith
 
 array-share-prefix-set-2 : tie.Need-array-share-prefix-set-2
-array-share-prefix-set-2 c = let n = c .before .before .before .before .before .before .before .before .before .before .before .before .before in set-long (start n .pre) _ (n .node-set .ensures .0) _ (sized n .set-size .ensures)
+array-share-prefix-set-2 c =
+    let n = c .before .before .before .before .before .before .before .before .before .before .before .before .before in
+    set-long (start n .pre) _ (n .node-set .ensures .0) _ (sized n .set-size .ensures)
 
 slice-aggregate-write-set-at : tie.Need-slice-aggregate-write-set-at
-slice-aggregate-write-set-at c = let n = c .before .before .before .before .before .before .before .before .before .before .before .before .before .before in set-length (start n .pre) _ (n .node-set .ensures .0) _ (sized n .set-size .ensures)
+slice-aggregate-write-set-at c =
+    let n = c .before .before .before .before .before .before .before .before .before .before .before .before .before .before in
+    set-length (start n .pre) _ (n .node-set .ensures .0) _ (sized n .set-size .ensures)
 
 write-set-at-requires : tie.Need-write-set-at-requires
-write-set-at-requires c κs = let n = c .before .before .before .before .before .before .before .before .before .before .before .before .before .before in set-fits (start n .pre) _ (n .node-set .ensures .0) _ (sized n .set-size .ensures)
+write-set-at-requires c κs =
+    let n = c .before .before .before .before .before .before .before .before .before .before .before .before .before .before in
+    set-fits (start n .pre) _ (n .node-set .ensures .0) _ (sized n .set-size .ensures)
 
 same-length : tie.Need-same-length
 same-length c = search needs
@@ -54,7 +69,14 @@ same-length-5 : tie.Need-same-length-5
 same-length-5 c = search needs
 
 returns : tie.Need-returns
-returns c = let n = c .before .before .before .before .before .before .before .before .before .before .before .before .before .before .before .before .before in (set-new (start n .pre) _ (n .node-set .ensures .0) _ (sized n .set-size .ensures) _ (c .before .before .before .before .before .before .before .representative .ensures) _ (c .before .before .write-set-at .ensures), n .node-set .ensures .1)
+returns c =
+    let n =
+    c .before .before .before .before .before .before .before .before .before .before .before .before .before .before .before .before
+    .before in (
+      set-new (start n .pre) _ (n .node-set .ensures .0) _ (sized n .set-size .ensures) _
+          (c .before .before .before .before .before .before .before .representative .ensures) _ (c .before .before .write-set-at .ensures),
+      n .node-set .ensures .1,
+    )
 
 pub mark-new-spec : {M : Type 1} → statement M
 mark-new-spec =

@@ -39,16 +39,27 @@ slice-read-known : tie.Need-slice-read-known
 slice-read-known c = search needs
 
 cast-known : tie.Need-cast-known
-cast-known c = let t = c .before .before in let l = found-few (start (slot t) .pre) _ (slot t .before .step-key .ensures) _ (slot t .slot-of .ensures) (t .if1 .taken) in omega arith
+cast-known c =
+    let t = c .before .before in
+    let l = found-few (start (slot t) .pre) _ (slot t .before .step-key .ensures) _ (slot t .slot-of .ensures) (t .if1 .taken) in
+    omega arith
 
 copy-known-requires : tie.Need-copy-known-requires
-copy-known-requires c κs = let n = c .before .before in let t = n .before in found-copyable (start (slot t) .pre) _ (slot t .before .step-key .ensures) _ (slot t .slot-of .ensures) (t .if1 .taken) _ (n .set-size .ensures)
+copy-known-requires c κs =
+    let n = c .before .before in
+    let t = n .before in
+    found-copyable (start (slot t) .pre) _ (slot t .before .step-key .ensures) _ (slot t .slot-of .ensures) (t .if1 .taken) _
+    (n .set-size .ensures)
 
 same-length : tie.Need-same-length
 same-length c = search needs
 
 returns : tie.Need-returns
-returns c = let n = c .before .before .before .before .before in let t = n .before in found-next (start (slot t) .pre) _ (slot t .before .step-key .ensures) _ (slot t .slot-of .ensures) (t .if1 .taken) _ (n .set-size .ensures) _ (c .before .before .copy-known .ensures)
+returns c =
+    let n = c .before .before .before .before .before in
+    let t = n .before in
+    found-next (start (slot t) .pre) _ (slot t .before .step-key .ensures) _ (slot t .slot-of .ensures) (t .if1 .taken) _
+    (n .set-size .ensures) _ (c .before .before .copy-known .ensures)
 
 sub-mark-new : tie.Need-sub-mark-new
 sub-mark-new c = search needs
@@ -72,7 +83,9 @@ mul-keys : tie.Need-mul-keys
 mul-keys c = search needs
 
 slice-write-keys : tie.Need-slice-write-keys
-slice-write-keys c = let m = c .before .before .before .before .before .before .before .before .before .before in omega (arith, free m .slot-of .ensures, start (free m) .pre .remembered .memo .keys-are)
+slice-write-keys c =
+    let m = c .before .before .before .before .before .before .before .before .before .before in
+    omega (arith, free m .slot-of .ensures, start (free m) .pre .remembered .memo .keys-are)
 
 cast-nodes : tie.Need-cast-nodes
 cast-nodes c = search needs
@@ -81,7 +94,9 @@ mul-nodes : tie.Need-mul-nodes
 mul-nodes c = search needs
 
 slice-write-nodes : tie.Need-slice-write-nodes
-slice-write-nodes c = let m = c .before .before .before .before .before .before .before .before .before .before in omega (arith, free m .slot-of .ensures, start (free m) .pre .remembered .memo .nodes-are)
+slice-write-nodes c =
+    let m = c .before .before .before .before .before .before .before .before .before .before in
+    omega (arith, free m .slot-of .ensures, start (free m) .pre .remembered .memo .nodes-are)
 
 same-length-2 : tie.Need-same-length-2
 same-length-2 c = search needs
@@ -105,7 +120,10 @@ same-length-8 : tie.Need-same-length-8
 same-length-8 c = search needs
 
 returns-2 : tie.Need-returns-2
-returns-2 c = let m = c .before .before .before .before .before .before .before .before .before .before in stored-next (start (free m) .pre) _ (free m .before .step-key .ensures) _ (free m .slot-of .ensures) _ _ (m .mark-new .ensures .0) (search needs) (m .mark-new .ensures .1) (search needs)
+returns-2 c =
+    let m = c .before .before .before .before .before .before .before .before .before .before in
+    stored-next (start (free m) .pre) _ (free m .before .step-key .ensures) _ (free m .slot-of .ensures) _ _ (m .mark-new .ensures .0)
+    (search needs) (m .mark-new .ensures .1) (search needs)
 
 pub mark-next-spec : {M : Type 1} → statement M
 mark-next-spec =

@@ -32,11 +32,17 @@ add-mixed : tie.Need-add-mixed Inv-loop μ-loop
 add-mixed c = let l = c .before .loop-test .taken in omega (arith, c .before .before .before .pre)
 
 mul-mixed-3 : tie.Need-mul-mixed-3 Inv-loop μ-loop
-mul-mixed-3 c = let l = mixed-word _ (c .before .before .loop .k) (c .shared-slice-known .given (c .before .before .loop .k) .fits) (let l = c .before .loop-test .taken in omega (arith, c .before .before .before .pre)) in omega arith
+mul-mixed-3 c =
+    let l =
+    mixed-word _ (c .before .before .loop .k) (c .shared-slice-known .given (c .before .before .loop .k) .fits)
+    (let l = c .before .loop-test .taken in omega (arith, c .before .before .before .pre)) in
+    omega arith
 
 add-mixed-2 : tie.Need-add-mixed-2 Inv-loop μ-loop
 add-mixed-2 c =
-    let l = mixed-word _ (c .before .before .loop .k) (c .shared-slice-known .given (c .before .before .loop .k) .fits) (let l = c .before .loop-test .taken in omega (arith, c .before .before .before .pre)) in
+    let l =
+    mixed-word _ (c .before .before .loop .k) (c .shared-slice-known .given (c .before .before .loop .k) .fits)
+    (let l = c .before .loop-test .taken in omega (arith, c .before .before .before .pre)) in
     let t = c .before .loop-test .taken in
     omega (arith, c .before .before .before .pre, c .before .before .loop .inv .few)
 
@@ -48,7 +54,9 @@ loop-less c = search needs
 
 loop-again : tie.Need-loop-again Inv-loop μ-loop
 loop-again c =
-    let l = mixed-word _ (c .before .before .loop .k) (c .shared-slice-known .given (c .before .before .loop .k) .fits) (let l = c .before .loop-test .taken in omega (arith, c .before .before .before .pre)) in
+    let l =
+    mixed-word _ (c .before .before .loop .k) (c .shared-slice-known .given (c .before .before .loop .k) .fits)
+    (let l = c .before .loop-test .taken in omega (arith, c .before .before .before .pre)) in
     let t = c .before .loop-test .taken in
     record { inside = omega arith; few = omega (arith, c .before .before .loop .inv .few) }
 

@@ -39,22 +39,33 @@ part-mark-next-end : tie.Need-part-mark-next-end
 part-mark-next-end c = let n = c .before .before in let l = node-height (start n .pre) _ (n .rank .ensures) in omega arith
 
 mark-next-requires : tie.Need-mark-next-requires
-mark-next-requires c κs = let n = c .before .before .before .before .before .before .before .before .before in node-next (start n .pre) _ (n .rank .ensures)
+mark-next-requires c κs =
+    let n = c .before .before .before .before .before .before .before .before .before in node-next (start n .pre) _ (n .rank .ensures)
 
 sub-below : tie.Need-sub-below
-sub-below c = let n = ranked (c .before .before .before .before .before .before .before .before .before .before .before .before .before .before) in node-fits (start n .pre) _ (n .rank .ensures)
+sub-below c =
+    let n = ranked (c .before .before .before .before .before .before .before .before .before .before .before .before .before .before) in
+    node-fits (start n .pre) _ (n .rank .ensures)
 
 cast-stack : tie.Need-cast-stack
-cast-stack c = let m = c .before .before .before .before .before .before .before .before .before .before .before .before .before .before in let h = start (ranked m) .pre in omega (arith, m .mark-next .ensures .new .low, h .inside, h .workable .tree .few)
+cast-stack c =
+    let m = c .before .before .before .before .before .before .before .before .before .before .before .before .before .before in
+    let h = start (ranked m) .pre in omega (arith, m .mark-next .ensures .new .low, h .inside, h .workable .tree .few)
 
 mul-stack : tie.Need-mul-stack
-mul-stack c = let n = ranked (c .before .before .before .before .before .before .before .before .before .before .before .before .before .before) in let l = node-few (start n .pre) _ (n .rank .ensures) in omega arith
+mul-stack c =
+    let n = ranked (c .before .before .before .before .before .before .before .before .before .before .before .before .before .before) in
+    let l = node-few (start n .pre) _ (n .rank .ensures) in omega arith
 
 slice-write-stack : tie.Need-slice-write-stack
-slice-write-stack c = let n = ranked (c .before .before .before .before .before .before .before .before .before .before .before .before .before .before) in let l = node-height (start n .pre) _ (n .rank .ensures) in omega arith
+slice-write-stack c =
+    let n = ranked (c .before .before .before .before .before .before .before .before .before .before .before .before .before .before) in
+    let l = node-height (start n .pre) _ (n .rank .ensures) in omega arith
 
 add-result : tie.Need-add-result
-add-result c = let n = ranked (c .before .before .before .before .before .before .before .before .before .before .before .before .before .before) in let l = node-few (start n .pre) _ (n .rank .ensures) in omega arith
+add-result c =
+    let n = ranked (c .before .before .before .before .before .before .before .before .before .before .before .before .before .before) in
+    let l = node-few (start n .pre) _ (n .rank .ensures) in omega arith
 
 same-length : tie.Need-same-length
 same-length c = search needs
@@ -81,7 +92,12 @@ same-length-8 : tie.Need-same-length-8
 same-length-8 c = search needs
 
 returns : tie.Need-returns
-returns c = let m = c .before .before .before .before .before .before .before .before .before .before .before .before .before .before in let n = ranked m in (node-words (start n .pre) _ (n .rank .ensures) (m .mark-next .ensures), node-kept (start n .pre) _ (n .rank .ensures) (m .mark-next .ensures))
+returns c =
+    let m = c .before .before .before .before .before .before .before .before .before .before .before .before .before .before in
+    let n = ranked m in (
+      node-words (start n .pre) _ (n .rank .ensures) (m .mark-next .ensures),
+      node-kept (start n .pre) _ (n .rank .ensures) (m .mark-next .ensures),
+    )
 
 pub mark-node-spec : {M : Type 1} → statement M
 mark-node-spec =

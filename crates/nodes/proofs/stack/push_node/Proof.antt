@@ -37,7 +37,9 @@ same-length : tie.Need-same-length
 same-length c = search needs
 
 returns : tie.Need-returns
-returns c = let s = c .before .before .before .before .before .args in (ap (λ (k : ℕ). s .height - k + 1) (c .rank .ensures), ap (λ (k : ℕ). set (s .stack .now) (s .height - k) (s .i)) (c .rank .ensures))
+returns c =
+    let s = c .before .before .before .before .before .args in
+    (ap (λ (k : ℕ). s .height - k + 1) (c .rank .ensures), ap (λ (k : ℕ). set (s .stack .now) (s .height - k) (s .i)) (c .rank .ensures))
 
 pub push-node-spec : {M : Type 1} → statement M
 push-node-spec =

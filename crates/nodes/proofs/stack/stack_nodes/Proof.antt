@@ -16,16 +16,23 @@ loop-holds : tie.Need-loop-holds Inv-loop μ-loop
 loop-holds c = stacking-none (c .before .before .before .pre)
 
 push-node-requires : tie.Need-push-node-requires Inv-loop μ-loop
-push-node-requires c κs = stacking-pushable (c .before .before .before .before .before .before .pre) (c .before .before .loop .inv) (c .before .loop-test .taken)
+push-node-requires c κs =
+    stacking-pushable (c .before .before .before .before .before .before .pre) (c .before .before .loop .inv) (c .before .loop-test .taken)
 
 add-i : tie.Need-add-i Inv-loop μ-loop
-add-i c = let p = c .before .before .before .before .before .before .before .before .before .pre in omega (arith, c .before .before .before .before .loop-test .taken, p .within, p .tree .few)
+add-i c =
+    let p = c .before .before .before .before .before .before .before .before .before .pre in
+    omega (arith, c .before .before .before .before .loop-test .taken, p .within, p .tree .few)
 
 loop-less : tie.Need-loop-less Inv-loop μ-loop
 loop-less c = omega (arith, c .before .before .before .before .loop-test .taken)
 
 loop-again : tie.Need-loop-again Inv-loop μ-loop
-loop-again c = let m = c .before .before in stacking-more (c .before .before .before .before .before .before .before .before .before .pre) (c .before .before .before .before .before .loop .inv) (c .before .before .before .before .loop-test .taken) _ _ (m .push-node .ensures .0) (m .push-node .ensures .1)
+loop-again c =
+    let m = c .before .before in
+    stacking-more (c .before .before .before .before .before .before .before .before .before .pre)
+    (c .before .before .before .before .before .loop .inv) (c .before .before .before .before .loop-test .taken) _ _
+    (m .push-node .ensures .0) (m .push-node .ensures .1)
 
 same-length : tie.Need-same-length Inv-loop μ-loop
 same-length c = c .before .loop .inv .long ∙ sym (c .before .before .before .before .before .pre .long)

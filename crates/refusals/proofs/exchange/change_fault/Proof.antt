@@ -20,7 +20,8 @@ use Rattle.refusals.proofs.exchange.change_fault.Tie as tie
 abbrev asked : tie.Start → Refusals
 asked s =
     let q = s .args in
-    changeRefusals (q .alphabet .now) (q .table .now) (length (q .used .now)) (q .used .now) (q .chapter-length) (q .marks-length) (q .element) (q .replacement .now)
+    changeRefusals (q .alphabet .now) (q .table .now) (length (q .used .now)) (q .used .now) (q .chapter-length) (q .marks-length)
+    (q .element) (q .replacement .now)
 
 returns : tie.Need-returns
 unfolding noElement

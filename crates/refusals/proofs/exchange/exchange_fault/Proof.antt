@@ -24,7 +24,8 @@ used c = let q = start c .args in take (q .count) (q .chapter .now)
 abbrev asked : tie.After-table-fault → Refusals
 asked c =
     let q = start c .args in
-    exchangeRefusals (q .alphabet .now) (q .table .now) (q .count) (used c) (length (q .chapter .now)) (q .marks-length) (q .element) (q .replacement .now)
+    exchangeRefusals (q .alphabet .now) (q .table .now) (q .count) (used c) (length (q .chapter .now)) (q .marks-length) (q .element)
+    (q .replacement .now)
 
 abbrev marked : tie.After-table-fault → ℕ → Refusals
 marked c k = let q = start c .args in markedRefusals (q .alphabet .now) (q .table .now) k (used c) (q .marks-length)
@@ -32,7 +33,8 @@ marked c k = let q = start c .args in markedRefusals (q .alphabet .now) (q .tabl
 abbrev change : tie.After-table-fault → ℕ → Refusals
 change c k =
     let q = start c .args in
-    changeRefusals (q .alphabet .now) (q .table .now) k (used c) (length (q .chapter .now)) (q .marks-length) (q .element) (q .replacement .now)
+    changeRefusals (q .alphabet .now) (q .table .now) k (used c) (length (q .chapter .now)) (q .marks-length) (q .element)
+    (q .replacement .now)
 
 table-fault-requires : tie.Need-table-fault-requires
 table-fault-requires c κs = search needs

@@ -39,7 +39,15 @@ count-pair-requires : tie.Need-count-pair-requires Inv-loop μ-loop
 count-pair-requires c κs = search needs
 
 add-cells : tie.Need-add-cells Inv-loop μ-loop
-add-cells c = omega (arith, pair-few _ _ _ (c .before .before .shared-slice-known2 .given (c .before .before .before .before .loop .k) .fits) (c .before .shared-slice-known3 .given (c .before .before .before .before .loop .k + 1) .fits) (c .count-pair .ensures), c .before .before .before .before .loop .inv .small, c .before .before .before .before .loop .inv .few, c .before .before .before .before .before .before .pre)
+add-cells c =
+    omega (
+      arith,
+      pair-few _ _ _ (c .before .before .shared-slice-known2 .given (c .before .before .before .before .loop .k) .fits)
+          (c .before .shared-slice-known3 .given (c .before .before .before .before .loop .k + 1) .fits) (c .count-pair .ensures),
+      c .before .before .before .before .loop .inv .small,
+      c .before .before .before .before .loop .inv .few,
+      c .before .before .before .before .before .before .pre,
+    )
 
 add-k : tie.Need-add-k Inv-loop μ-loop
 add-k c = omega (arith, c .before .before .before .loop-test .taken, c .before .before .before .before .before .before .pre)
@@ -48,7 +56,10 @@ loop-less : tie.Need-loop-less Inv-loop μ-loop
 loop-less c = omega (arith, c .before .before .before .loop-test .taken)
 
 loop-again : tie.Need-loop-again Inv-loop μ-loop
-loop-again c = summed-pair _ _ _ _ (c .before .before .before .before .loop .inv) (c .before .before .before .loop-test .taken) (c .before .before .shared-slice-known2 .given (c .before .before .before .before .loop .k) .fits) (c .before .shared-slice-known3 .given (c .before .before .before .before .loop .k + 1) .fits) (c .count-pair .ensures)
+loop-again c =
+    summed-pair _ _ _ _ (c .before .before .before .before .loop .inv) (c .before .before .before .loop-test .taken)
+    (c .before .before .shared-slice-known2 .given (c .before .before .before .before .loop .k) .fits)
+    (c .before .shared-slice-known3 .given (c .before .before .before .before .loop .k + 1) .fits) (c .count-pair .ensures)
 
 mul-cells : tie.Need-mul-cells Inv-loop μ-loop
 mul-cells c = omega (arith, c .if1 .taken, c .before .before .before .before .pre)
@@ -60,10 +71,20 @@ cast-cells : tie.Need-cast-cells Inv-loop μ-loop
 cast-cells c = omega (arith, ones-le 32 _ (c .shared-slice-known4 .given (c .before .before .before .loop .k) .fits))
 
 add-cells-2 : tie.Need-add-cells-2 Inv-loop μ-loop
-add-cells-2 c = omega (arith, ones-le 32 _ (c .shared-slice-known4 .given (c .before .before .before .loop .k) .fits), c .before .before .before .loop .inv .small, c .before .before .before .loop .inv .few, c .before .before .before .before .before .pre)
+add-cells-2 c =
+    omega (
+      arith,
+      ones-le 32 _ (c .shared-slice-known4 .given (c .before .before .before .loop .k) .fits),
+      c .before .before .before .loop .inv .small,
+      c .before .before .before .loop .inv .few,
+      c .before .before .before .before .before .pre,
+    )
 
 returns : tie.Need-returns Inv-loop μ-loop
-returns c = summed-end _ _ _ (summed-more _ _ _ (c .before .before .before .loop .inv) (c .before .if1 .taken) (c .shared-slice-known4 .given (c .before .before .before .loop .k) .fits)) (omega (arith, c .before .before .loop-test .left))
+returns c =
+    summed-end _ _ _
+    (summed-more _ _ _ (c .before .before .before .loop .inv) (c .before .if1 .taken)
+    (c .shared-slice-known4 .given (c .before .before .before .loop .k) .fits)) (omega (arith, c .before .before .loop-test .left))
 
 returns-2 : tie.Need-returns-2 Inv-loop μ-loop
 returns-2 c = summed-end _ _ _ (c .before .before .loop .inv) (omega (arith, c .if1 .left))

@@ -12,7 +12,12 @@ add-result : tie.Need-add-result
 add-result c = search needs
 
 cast-result : tie.Need-cast-result
-cast-result c = omega (arith, pair-few (c .args .low) (c .args .high) _ (c .fits .low .fits) (c .fits .high .fits) (pair-ones (c .args .low) (c .args .high) (c .fits .low .fits)))
+cast-result c =
+    omega (
+      arith,
+      pair-few (c .args .low) (c .args .high) _ (c .fits .low .fits) (c .fits .high .fits)
+          (pair-ones (c .args .low) (c .args .high) (c .fits .low .fits)),
+    )
 
 returns : tie.Need-returns
 returns c = pair-ones (c .args .low) (c .args .high) (c .fits .low .fits)

@@ -36,7 +36,8 @@ loop-less : tie.Need-loop-less Inv-loop μ-loop
 loop-less c = search needs
 
 loop-again : tie.Need-loop-again Inv-loop μ-loop
-loop-again c = copied-more _ _ _ _ _ _ _ _ (c .before .before .loop .inv) (c .before .loop-test .taken) (omega arith) (omega arith) (omega arith) refl
+loop-again c =
+    copied-more _ _ _ _ _ _ _ _ (c .before .before .loop .inv) (c .before .loop-test .taken) (omega arith) (omega arith) (omega arith) refl
 
 same-length : tie.Need-same-length Inv-loop μ-loop
 same-length c = search needs
