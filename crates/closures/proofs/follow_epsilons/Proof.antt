@@ -1,4 +1,4 @@
--- `step::closure::follow_epsilons` meets its contract: the words of the state's chain before the current one are followed.
+-- `closures::follow_epsilons` meets its contract: the words of the state's chain before the current one are followed.
 use mathlib.Core.Path.{sym, _∙_}
 use Prim.Native.Nat.{_+_}
 use native.Mathlib.Omega.{arith}

@@ -1,4 +1,4 @@
--- `step::closure::follow_pending` meets its contract: each turn takes a state from the stack and follows its epsilon
+-- `closures::follow_pending` meets its contract: each turn takes a state from the stack and follows its epsilon
 -- transitions, and the turns end since a state is pushed only when it is new.
 use mathlib.Core.Path.{_≡_, refl, sym, _∙_}
 use Prim.Native.Nat.{_-_}

@@ -1,4 +1,4 @@
--- `step::closure::join_closure` meets its contract: the closure is in its row, and the row is joined; or it is searched in the set.
+-- `closures::join_closure` meets its contract: the closure is in its row, and the row is joined; or it is searched in the set.
 use borrow.Author.Tests.{not-false}
 use Rattle.closures.proofs.KeptClosureLaws.{add-again, join-end}
 use borrow.Author.Needs.{needs}

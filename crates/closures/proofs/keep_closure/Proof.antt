@@ -1,4 +1,4 @@
--- `step::closure::keep_closure` meets its contract: the row has the closure already, is another state's, or gets it.
+-- `closures::keep_closure` meets its contract: the row has the closure already, is another state's, or gets it.
 use mathlib.Core.Path.{sym}
 use native.Mathlib.Omega.{arith}
 use Rattle.closures.proofs.FollowLaws.{states-most}

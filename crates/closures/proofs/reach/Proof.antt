@@ -1,4 +1,4 @@
--- `step::closure::reach` meets its contract by those of `contains` and `insert`.
+-- `closures::reach` meets its contract by those of `contains` and `insert`.
 use mathlib.Core.Path.{sym, _∙_}
 use native.Mathlib.Omega.{arith}
 use borrow.Author.Needs.{needs}

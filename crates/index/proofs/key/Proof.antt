@@ -1,4 +1,4 @@
--- `step::index::key` meets its contract: only the transitions have a key.
+-- `index::key` meets its contract: only the transitions have a key.
 use mathlib.Core.Path.{refl, sym}
 use mathlib.Core.List.{[], _∷_}
 use native.Mathlib.Omega.{arith}

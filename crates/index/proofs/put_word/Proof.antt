@@ -1,4 +1,4 @@
--- `step::index::put_word` meets its contract by that of `key`.
+-- `index::put_word` meets its contract by that of `key`.
 use lib.ListN.{length-set}
 use native.Mathlib.Omega.{arith}
 use borrow.Author.Needs.{needs}

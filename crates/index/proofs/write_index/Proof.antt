@@ -1,4 +1,4 @@
--- `step::index::write_index` meets its contract: before each turn the words from i on are indexed.
+-- `index::write_index` meets its contract: before each turn the words from i on are indexed.
 use mathlib.Core.Path.{ap, sym, _∙_, subst}
 use native.Mathlib.Omega.{arith}
 use lib.ListN.{length, length-replicate}

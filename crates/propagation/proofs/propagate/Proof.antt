@@ -1,4 +1,4 @@
--- `propagate::propagate` meets its contract: the loop keeps that what is still to be done gives what the whole gives, and that the stack
+-- `propagation::propagate` meets its contract: the loop keeps that what is still to be done gives what the whole gives, and that the stack
 -- and what is kept from node to node are right.
 use Prim.Native.Nat.{_-_}
 use mathlib.Core.Path.{sym, _∙_}

@@ -1,4 +1,4 @@
--- `propagate::propagate_node` meets its contract: the rank tells whether the node is an ancestor.
+-- `propagation::propagate_node` meets its contract: the rank tells whether the node is an ancestor.
 use native.Mathlib.Omega.{arith}
 use Rattle.propagation.proofs.PropagationLaws.{node-rank, node-pushable, node-passed, step-beside, step-ancestor}
 use borrow.Author.Needs.{needs}

@@ -1,4 +1,4 @@
--- `propagate::recompute` meets its contract: the words that the node gets are compared with those that stood there, which are kept beside.
+-- `propagation::recompute` meets its contract: the words that the node gets are compared with those that stood there, which are kept beside.
 use native.Mathlib.Omega.{arith}
 use Prim.Native.Nat.{ℕ}
 use lib.ListN.{length-replicate}

@@ -1,4 +1,4 @@
--- `step::node::follow_symbol` meets its contract: the words of the symbol's chain before the current one are followed.
+-- `step::follow_symbol` meets its contract: the words of the symbol's chain before the current one are followed.
 use mathlib.Core.Path.{sym, _∙_}
 use Prim.Native.Nat.{_+_}
 use native.Mathlib.Omega.{arith}

@@ -1,4 +1,4 @@
--- `step::node::follow_transition` meets its contract: the set has the target already, the part states are not in the children's
+-- `step::follow_transition` meets its contract: the set has the target already, the part states are not in the children's
 -- sets, or the closure of the target joins the set.
 use mathlib.Core.Path.{sym, _∙_}
 use mathlib.Core.Bool.{true≢false}

@@ -1,4 +1,4 @@
--- `step::node::node_set` meets its contract: from the empty set all transitions on the symbol are followed.
+-- `step::node_set` meets its contract: from the empty set all transitions on the symbol are followed.
 use Rattle.step.proofs.NodeStepLaws.{node-seeding, node-end}
 use borrow.Author.Needs.{needs}
 use Rattle.step.proofs.node_set.Statement.{statement}

@@ -1,4 +1,4 @@
--- `step::node::sources_contained` meets its contract: before each child, what is left is judged as the whole was.
+-- `step::sources_contained` meets its contract: before each child, what is left is judged as the whole was.
 use Prim.Native.Nat.{_-_}
 use native.Mathlib.Omega.{arith}
 use lib.ListN.{length}
