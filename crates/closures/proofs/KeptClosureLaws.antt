@@ -16,7 +16,7 @@ use Rattle.sets.proofs.StoredLaws.{stored-written, stored-other}
 use Rattle.sets.specs.Joined.{joined}
 use Rattle.sets.proofs.JoinLaws.{joined-length, words-joined, joined-cases, joined-left, joined-right}
 use Rattle.closures.specs.Closure.{PendingStack, Settled, Puttable, Put, Followed, Closable, ClosureOf}
-use Rattle.step.specs.Closure.{Closures, ClosedSet, Addable, Added, Keepable, Kept, Joinable, JoinedClosure}
+use Rattle.closures.specs.Closure.{Closures, ClosedSet, Addable, Added, Keepable, Kept, Joinable, JoinedClosure}
 use Rattle.closures.proofs.TransitionStartLaws.{member-starts, table-transitions}
 use Rattle.closures.proofs.KeyedWordLaws.{closed-at}
 use Rattle.closures.proofs.PendingStackLaws.{missing-most, stack-puttable, stack-put, put-cases}

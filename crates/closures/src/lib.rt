@@ -2,7 +2,7 @@
 ghost use Prim.Native.Nat.{_+_};
 ghost use lib.ListN.{length};
 ghost use Rattle.closures.specs.Closure.{Puttable, Put, Closing, ClosingAt, Followed, Closable, ClosureOf};
-ghost use Rattle.step.specs.Closure.{Addable, Added, Keepable, Kept, Joinable, JoinedClosure};
+ghost use Rattle.closures.specs.Closure.{Addable, Added, Keepable, Kept, Joinable, JoinedClosure};
 use index::KEYS;
 use index::STATE_KEYS;
 use sets::state::contains;

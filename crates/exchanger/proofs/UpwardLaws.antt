@@ -21,7 +21,7 @@ use Rattle.nodes.proofs.MarkLaws.{MarksHolding, holding-set, setFrom-rows, mark
 use Rattle.propagation.specs.declared.Progress.{Progress}
 use Rattle.propagation.specs.Propagation.{propagateFrom}
 use Rattle.propagation.proofs.PropagationLaws.{recomputed-is, recomputed-same, step-beside}
-use Rattle.exchanger.proofs.PropagationLaws.{step-ancestor, propagate-continues, propagate-stops}
+use Rattle.propagation.proofs.PropagationLaws.{step-ancestor, propagate-continues, propagate-stops}
 
 -- two functions that agree from i and from j on
 module _ {A : Type 0} (f g : ℕ → A) (i j : ℕ) (h : (t : ℕ) → f (i + t) ≡ g (j + t)) where

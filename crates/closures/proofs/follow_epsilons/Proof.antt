@@ -5,7 +5,7 @@ use native.Mathlib.Omega.{arith}
 use borrow.Author.Needs.{needs}
 use Rattle.closures.proofs.FollowLaws.{left, index-long}
 use Rattle.closures.proofs.EpsilonLaws.{EpsilonsAt, key-inside, epsilons-first, epsilons-in}
-use Rattle.step.proofs.EpsilonLaws.{epsilons-puttable, epsilons-less, epsilons-more, epsilons-end}
+use Rattle.closures.proofs.EpsilonLaws.{epsilons-puttable, epsilons-less, epsilons-more, epsilons-end}
 use Rattle.closures.proofs.follow_epsilons.Statement.{statement}
 use Rattle.closures.proofs.follow_epsilons.Tie as tie
 

@@ -7,7 +7,7 @@ use lib.ListN.{length}
 use borrow.Author.Needs.{needs}
 use Rattle.closures.specs.Closure.{Followed, work}
 use Rattle.closures.proofs.EpsilonLaws.{pending-none, pending-stack, pending-present}
-use Rattle.step.proofs.EpsilonLaws.{pending-more, pending-less, pending-inside, pending-end}
+use Rattle.closures.proofs.EpsilonLaws.{pending-more, pending-less, pending-inside, pending-end}
 use Rattle.closures.proofs.follow_pending.Statement.{statement}
 use Rattle.closures.proofs.follow_pending.Tie as tie
 

@@ -6,7 +6,7 @@ use native.Mathlib.Omega.{arith}
 use lib.ListN.{length}
 use borrow.Author.Tests.{not-true, not-false}
 use Rattle.propagation.proofs.ProgressLaws.{Propagating, propagating-none, propagating-at}
-use Rattle.exchanger.proofs.ProgressLaws.{propagating-stops, propagating-more, propagating-end}
+use Rattle.propagation.proofs.ProgressLaws.{propagating-stops, propagating-more, propagating-end}
 use Rattle.propagation.proofs.propagate.Statement.{statement}
 use Rattle.propagation.proofs.propagate.Tie as tie
 
