@@ -12,7 +12,7 @@ use ports::port::entry_at;
 
 // Where a word's entry for a constant leads: to the children's entries for it, in a product over c at c not to the first
 // child's, in a closure over c at c also to the word's own exit.
-pub enum Targets {
+pub(crate) enum Targets {
     Children,
     Product(u32),
     Closure(u32),

@@ -21,13 +21,13 @@ pub struct Progress {
 }
 
 // A node that was recomputed: whether its words changed, and the stack's height behind it.
-pub struct Recomputed {
+struct Recomputed {
     pub changed: bool,
     pub height: usize,
 }
 
 // A node that was passed: how far the loop is behind it, and the stack's height.
-pub struct Passed {
+struct Passed {
     pub progress: Progress,
     pub height: usize,
 }
