@@ -35,7 +35,7 @@ exit-of-requires-2 c κs = search needs
 push-to-requires : tie.Need-push-to-requires
 push-to-requires c κs =
     let p = c .before .before .before .before .before .before .before .before .before .before .before .before .before .before .before .pre .0 in
-    let room = p .room in
+    let fits = p .fits in
     let n = wrote-next _ _ _ _ _ _ (c .before .before .before .before .before .push-epsilon .ensures) in
     let x = c .exit-of2 .ensures .1 in
     (omega arith, (omega arith, c .before .before .before .before .before .before .before .before .before .entry-at .ensures .low))
