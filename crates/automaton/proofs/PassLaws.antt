@@ -84,7 +84,8 @@ module _ (P : ℕ → Type 0) where
   within-either true r s w v = w
   within-either false r s w v = v
 
-  epsilonStep-within : (t : Transition) (r : StateSet) → ((p q : ℕ) → epsilon p q ≡ t → P p → P q) → StatesWithin P r → StatesWithin P (epsilonStep t r)
+  epsilonStep-within : (t : Transition) (r : StateSet) → ((p q : ℕ) → epsilon p q ≡ t → P p → P q) → StatesWithin P r
+      → StatesWithin P (epsilonStep t r)
   epsilonStep-within (onSymbol g ps q) r c w = w
   epsilonStep-within (epsilon p q) r c w = within-if (contains r p) r q (λ e. c p q refl (w p e)) w
 
@@ -104,7 +105,8 @@ module _ (P : ℕ → Type 0) where
       (epsilonClosure-within n ts (epsilonPass ts r) c (epsilonPass-within ts r c w))
 
   symbolStep-within : (f : ℕ) (rs : List StateSet) (t : Transition) (r : StateSet)
-      → ((ps : List ℕ) (q : ℕ) → onSymbol f ps q ≡ t → allContained ps rs ≡ true → P q) → StatesWithin P r → StatesWithin P (symbolStep f rs t r)
+      → ((ps : List ℕ) (q : ℕ) → onSymbol f ps q ≡ t → allContained ps rs ≡ true → P q) → StatesWithin P r
+      → StatesWithin P (symbolStep f rs t r)
   symbolStep-within f rs (epsilon p q) r c w = w
   symbolStep-within f rs (onSymbol g ps q) r c w =
       within-if (eqb g f && allContained ps rs) r q

@@ -4,7 +4,8 @@ ghost use mathlib.Core.List.{[], _∷_};
 ghost use Prim.Native.Nat.{_+_, _≤_, _<_};
 ghost use lib.ListN.{length, getD};
 ghost use Rattle.automaton.specs.Transition.{epsilon, sourceWords, transitionsWords};
-ghost use Rattle.automaton.specs.Numbering.{symbolTransitions, unionTransitions, productTransitions, closureTransitions, ownTransitions, fullPort};
+ghost use Rattle.automaton.specs.Numbering.{symbolTransitions, unionTransitions, productTransitions};
+ghost use Rattle.automaton.specs.Numbering.{closureTransitions, ownTransitions, fullPort};
 ghost use Rattle.emitter.specs.Writing.{Wrote, lastIndex};
 ghost use Rattle.ports.specs.Ports.{exitsIn, portIn, portsIn};
 ghost use Rattle.emitter.specs.Emission.{Emits, ListedConstant, Takes};
@@ -94,7 +95,8 @@ fn push_union(constants: &[u32], ports: &[u32], out: &mut [u32], at: usize, exit
     ensures { λ r. ⌜
         Wrote 85 at
         (transitionsWords (unionTransitions (fullPort (now (constants .entry)) exit)
-        (portIn (now (constants .entry)) (getD (now (ports .entry)) 0 0)) (portIn (now (constants .entry)) (getD (now (ports .entry)) 1 0))))
+        (portIn (now (constants .entry)) (getD (now (ports .entry)) 0 0))
+        (portIn (now (constants .entry)) (getD (now (ports .entry)) 1 0))))
         (now (out .entry)) (now (out .exit)) r
         ⌝ }
 {
@@ -118,7 +120,8 @@ fn push_product(
     ensures { λ r. ⌜
         Wrote 85 at
         (transitionsWords (productTransitions c (fullPort (now (constants .entry)) exit)
-        (portIn (now (constants .entry)) (getD (now (ports .entry)) 0 0)) (portIn (now (constants .entry)) (getD (now (ports .entry)) 1 0))))
+        (portIn (now (constants .entry)) (getD (now (ports .entry)) 0 0))
+        (portIn (now (constants .entry)) (getD (now (ports .entry)) 1 0))))
         (now (out .entry)) (now (out .exit)) r
         ⌝ }
 {

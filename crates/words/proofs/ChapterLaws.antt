@@ -51,7 +51,8 @@ module _ {a words : List ℕ} {made i : ℕ} (s : ChapterJudged a words made i) 
       rank-arity : r ≡ arity a (getD words i 0)
       rank-arity = e ∙ sym (isNode-facts a (getD words i 0) node .arity-rank)
 
-      pub judged-lacks : made < r → (b : Bool) → b ≡ all (isNode a) (take (length words - i) (drop i words)) → b ≡ true → 11 ≡ treeFault a words
+      pub judged-lacks : made < r → (b : Bool) → b ≡ all (isNode a) (take (length words - i) (drop i words)) → b ≡ true
+          → 11 ≡ treeFault a words
       unfolding notNodes notOneTree
       judged-lacks l b eb t = sym (rw (rest b eb ∙ t, s .shape ∙ trees-lacks (arity a) words made i 1 r h rank-arity l))
 

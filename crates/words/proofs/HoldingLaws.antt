@@ -34,7 +34,8 @@ module _ (arity : ℕ → ℕ) (ws : List ℕ) (i j d : ℕ) (h : HoldingTree ar
   takes-others l =
       let high = h .high in
       let q : r + (d - r) ≡ d = omega arith in
-      let s : startFromBy arity ws (startFromBy arity ws j r) (d - r) ≡ h .end = sym (startFrom-add arity ws j r (d - r)) ∙ ap (startFromBy arity ws j) q ∙ h .begins in
+      let s : startFromBy arity ws (startFromBy arity ws j r) (d - r) ≡ h .end =
+      sym (startFrom-add arity ws j r (d - r)) ∙ ap (startFromBy arity ws j) q ∙ h .begins in
       rw (lt-ltb i j behind, start-parts arity ws j)
       (lt-leb (startFromBy arity ws j r) i (omega (arith, s, startFrom-le arity ws (startFromBy arity ws j r) (d - r))))
 
@@ -43,7 +44,9 @@ module _ (arity : ℕ → ℕ) (ws : List ℕ) (i j d : ℕ) (h : HoldingTree ar
       let q : d - r + r ≡ d = omega arith in
       record {
         end = h .end;
-        begins = ap (startFromBy arity ws (suc j)) (add-one (d - r)) ∙ startFrom-more arity ws j (d - r) ∙ ap (startFromBy arity ws j) q ∙ h .begins;
+        begins =
+            ap (startFromBy arity ws (suc j)) (add-one (d - r)) ∙ startFrom-more arity ws j (d - r) ∙ ap (startFromBy arity ws j) q
+            ∙ h .begins;
         low = h .low;
         high = h .high;
       }
@@ -52,7 +55,8 @@ module _ (arity : ℕ → ℕ) (ws : List ℕ) (i j d : ℕ) (h : HoldingTree ar
   begins-before l =
       let low = h .low in
       let q : d + 1 + (r - (d + 1)) ≡ r = omega arith in
-      let s : startFromBy arity ws j (d + 1) ≡ startFromBy arity ws (h .end) 1 = startFrom-add arity ws j d 1 ∙ ap (λ (k : ℕ). startFromBy arity ws k 1) (h .begins) in
+      let s : startFromBy arity ws j (d + 1) ≡ startFromBy arity ws (h .end) 1 =
+      startFrom-add arity ws j d 1 ∙ ap (λ (k : ℕ). startFromBy arity ws k 1) (h .begins) in
       let t : startFromBy arity ws j r ≡ startFromBy arity ws (startFromBy arity ws j (d + 1)) (r - (d + 1)) =
       ap (startFromBy arity ws j) (sym q) ∙ startFrom-add arity ws j (d + 1) (r - (d + 1)) in
       rw (start-parts arity ws j, t) (omega (arith, s, startFrom-le arity ws (startFromBy arity ws j (d + 1)) (r - (d + 1))))

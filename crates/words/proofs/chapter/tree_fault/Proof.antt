@@ -5,7 +5,8 @@ use Prim.Native.Nat.{_-_}
 use lib.ListN.{length}
 use borrow.Author.Needs.{needs}
 use borrow.Author.Tests.{not-true, not-false}
-use Rattle.words.proofs.ChapterLaws.{ChapterJudged, judged-none, judged-no-node, judged-lacks, judged-later, judged-more, judged-one, judged-not-one}
+use Rattle.words.proofs.ChapterLaws.{ChapterJudged, judged-none, judged-no-node, judged-lacks}
+use Rattle.words.proofs.ChapterLaws.{judged-later, judged-more, judged-one, judged-not-one}
 use Rattle.words.proofs.chapter.tree_fault.Statement.{statement}
 use Rattle.words.proofs.chapter.tree_fault.Tie as tie
 
