@@ -427,7 +427,7 @@ def main(arguments):
             return 2
         sys.stdout.flush()
     except BrokenPipeError:
-        # Nobody reads any more. What is still in the buffer goes nowhere, or the interpreter would try it again at its end.
+        # Nobody reads any more. What is still in the buffer is dropped, or the interpreter would try it again at its end.
         os.dup2(os.open(os.devnull, os.O_WRONLY), sys.stdout.fileno())
         return 141
     except RecursionError:

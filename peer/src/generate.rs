@@ -23,7 +23,7 @@ pub fn alphabet(random: &mut Random) -> Vec<u32> {
 
 /// Words of one tree in postfix order within a budget of words: `choose` names a word and how many children it takes,
 /// at most one less than the budget it is given. The words are found root first and from right to left, then turned;
-/// what a leaf leaves of its budget goes to the next word.
+/// the next word gets what a leaf leaves of its budget.
 fn grow<T>(
     random: &mut Random,
     budget: usize,

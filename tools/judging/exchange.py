@@ -29,7 +29,7 @@ class Left(NamedTuple):
 
 
 def numbers_in(content, file, names):
-    """The lines of a file, each a name and its numbers; a name that stands several times goes on."""
+    """The lines of a file, each a name and its numbers; a name that stands several times adds to its numbers."""
     found = {}
     for number, line in enumerate(content.decode('utf-8', 'replace').splitlines(), 1):
         name, *words = line.split('#')[0].split() or ['']

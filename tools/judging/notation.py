@@ -37,7 +37,7 @@ def list_of(name, items, form=str, width=PER_LINE, of='ℕ'):
 
 
 def part_of(name, items, form=str, width=PER_LINE):
-    """A part of a list: the list that begins with these items and goes on with `rest`."""
+    """A part of a list: the list that begins with these items and continues with `rest`."""
     return f'abbrev pub {name} : List ℕ → List ℕ\n{name} rest =\n    {rows(items, form, width, "rest")}\n'
 
 

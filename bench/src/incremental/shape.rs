@@ -59,7 +59,7 @@ pub enum Fault {
 }
 
 /// After each word of a tree, the number of trees that no node has taken yet. A node's own tree is the last of them, so
-/// its subtree goes back as far as the numbers are not below its own, and the next node with no more takes it.
+/// its subtree reaches back as far as the numbers are not below its own, and the next node with no more takes it.
 pub struct Shape {
     open: Vec<u16>,
 }

@@ -14,7 +14,7 @@ use Rattle.automaton.specs.Table.{TransitionOver, TransitionsOver, Autom
 use Rattle.automaton.proofs.BitLaws.{Words, words-replicate, words-insert, contains-replicate, contains-determines}
 use Rattle.automaton.proofs.KeepLaws.{symbolPass-keeps, epsilonClosure-keeps}
 use Rattle.automaton.proofs.SetLength.{length-symbolPass, length-stateSet}
-use Rattle.automaton.proofs.PassLaws.{Seeded, ClosedUnder, Within, In, epsilonClosure-grows, symbolPass-adds}
+use Rattle.automaton.proofs.PassLaws.{Seeded, ClosedUnder, StatesWithin, In, epsilonClosure-grows, symbolPass-adds}
 use Rattle.automaton.proofs.PassLaws.{symbolPass-within, epsilonClosure-within, epsilonClosure-closed}
 
 -- ---- targets
@@ -48,7 +48,7 @@ pub record IsStateSet (A : Automaton) (f : ℕ) (rs : List StateSet) (r : StateS
   pub words : Words r
   pub seeded : Seeded (A .transitions) f rs (In r)
   pub closed : ClosedUnder (A .transitions) (In r)
-  pub reached : Within (Reached (A .transitions) f rs) r
+  pub reached : StatesWithin (Reached (A .transitions) f rs) r
 
 pub seeded-closed-all : (ts : List Transition) (f : ℕ) (rs : List StateSet) (P : ℕ → Type 0)
     → Seeded ts f rs P → ClosedUnder ts P → {q : ℕ} → Reached ts f rs q → P q
@@ -78,7 +78,7 @@ module _ (A : Automaton) (f : ℕ) (rs : List StateSet) where
       (symbolPass-keeps Words words-insert f rs (A .transitions) (emptySet (A .states)) (words-replicate (sizeFor (A .states))))
 
   -- it holds only what is reached, whatever the targets
-  stateSet-within : Within (Reached (A .transitions) f rs) (stateSet A f rs)
+  stateSet-within : StatesWithin (Reached (A .transitions) f rs) (stateSet A f rs)
   unfolding stateSet
   stateSet-within =
       let r = emptySet (A .states) in

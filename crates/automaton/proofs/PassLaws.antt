@@ -27,24 +27,24 @@ Seeded ts f rs P = (ps : List ℕ) (q : ℕ) → List·Memᴰ (onSymbol f ps q) 
 abbrev pub ClosedUnder : List Transition → (ℕ → Type 0) → Type 0
 ClosedUnder ts P = (p q : ℕ) → List·Memᴰ (epsilon p q) ts → P p → P q
 
-abbrev pub Within : (ℕ → Type 0) → StateSet → Type 0
-Within P r = (q : ℕ) → contains r q ≡ true → P q
+abbrev pub StatesWithin : (ℕ → Type 0) → StateSet → Type 0
+StatesWithin P r = (q : ℕ) → contains r q ≡ true → P q
 
 abbrev pub In : StateSet → ℕ → Type 0
 In r q = contains r q ≡ true
 
 -- ---- a pass keeps each state that is in the set
 
-pub epsilonStep-grows : (t : Transition) (r : StateSet) → Within (In (epsilonStep t r)) r
+pub epsilonStep-grows : (t : Transition) (r : StateSet) → StatesWithin (In (epsilonStep t r)) r
 epsilonStep-grows t r q = epsilonStep-keeps (λ x. In x q) (λ x s. insert-keeps x s q) t r
 
-pub epsilonPass-grows : (ts : List Transition) (r : StateSet) → Within (In (epsilonPass ts r)) r
+pub epsilonPass-grows : (ts : List Transition) (r : StateSet) → StatesWithin (In (epsilonPass ts r)) r
 epsilonPass-grows ts r q = epsilonPass-keeps (λ x. In x q) (λ x s. insert-keeps x s q) ts r
 
-pub epsilonClosure-grows : (n : ℕ) (ts : List Transition) (r : StateSet) → Within (In (epsilonClosure n ts r)) r
+pub epsilonClosure-grows : (n : ℕ) (ts : List Transition) (r : StateSet) → StatesWithin (In (epsilonClosure n ts r)) r
 epsilonClosure-grows n ts r q = epsilonClosure-keeps (λ x. In x q) (λ x s. insert-keeps x s q) n ts r
 
-pub symbolPass-grows : (f : ℕ) (rs : List StateSet) (ts : List Transition) (r : StateSet) → Within (In (symbolPass f rs ts r)) r
+pub symbolPass-grows : (f : ℕ) (rs : List StateSet) (ts : List Transition) (r : StateSet) → StatesWithin (In (symbolPass f rs ts r)) r
 symbolPass-grows f rs ts r q = symbolPass-keeps (λ x. In x q) (λ x s. insert-keeps x s q) f rs ts r
 
 -- ---- what a pass adds
@@ -72,7 +72,7 @@ symbolPass-adds f rs (t ∷ ts) r ps q (List·Memᴰ·tail m) l h =
 -- ---- a pass adds nothing else
 
 module _ (P : ℕ → Type 0) where
-  within-if : (b : Bool) (r : StateSet) (q : ℕ) → (b ≡ true → P q) → Within P r → Within P (cond b (insert r q) r)
+  within-if : (b : Bool) (r : StateSet) (q : ℕ) → (b ≡ true → P q) → StatesWithin P r → StatesWithin P (cond b (insert r q) r)
   within-if false r q h w s e = w s e
   within-if true r q h w s e = go (ℕ-discrete s q)
     where
@@ -80,23 +80,24 @@ module _ (P : ℕ → Type 0) where
       go (yes i) = rw i (h refl)
       go (no i) = w s (sym (insert-other r q s i) ∙ e)
 
-  within-either : (b : Bool) (r s : StateSet) → Within P r → Within P s → Within P (cond b r s)
+  within-either : (b : Bool) (r s : StateSet) → StatesWithin P r → StatesWithin P s → StatesWithin P (cond b r s)
   within-either true r s w v = w
   within-either false r s w v = v
 
-  epsilonStep-within : (t : Transition) (r : StateSet) → ((p q : ℕ) → epsilon p q ≡ t → P p → P q) → Within P r → Within P (epsilonStep t r)
+  epsilonStep-within : (t : Transition) (r : StateSet) → ((p q : ℕ) → epsilon p q ≡ t → P p → P q) → StatesWithin P r
+      → StatesWithin P (epsilonStep t r)
   epsilonStep-within (onSymbol g ps q) r c w = w
   epsilonStep-within (epsilon p q) r c w = within-if (contains r p) r q (λ e. c p q refl (w p e)) w
 
-  pub epsilonPass-within : (ts : List Transition) (r : StateSet) → ClosedUnder ts P → Within P r → Within P (epsilonPass ts r)
+  pub epsilonPass-within : (ts : List Transition) (r : StateSet) → ClosedUnder ts P → StatesWithin P r → StatesWithin P (epsilonPass ts r)
   unfolding epsilonPass
   epsilonPass-within [] r c w = w
   epsilonPass-within (t ∷ ts) r c w =
       epsilonPass-within ts (epsilonStep t r) (λ p q m. c p q (List·Memᴰ·tail m))
       (epsilonStep-within t r (λ p q e. c p q (List·Memᴰ·head e)) w)
 
-  pub epsilonClosure-within : (n : ℕ) (ts : List Transition) (r : StateSet) → ClosedUnder ts P → Within P r
-      → Within P (epsilonClosure n ts r)
+  pub epsilonClosure-within : (n : ℕ) (ts : List Transition) (r : StateSet) → ClosedUnder ts P → StatesWithin P r
+      → StatesWithin P (epsilonClosure n ts r)
   unfolding epsilonClosure
   epsilonClosure-within zero ts r c w = w
   epsilonClosure-within (suc n) ts r c w =
@@ -104,14 +105,15 @@ module _ (P : ℕ → Type 0) where
       (epsilonClosure-within n ts (epsilonPass ts r) c (epsilonPass-within ts r c w))
 
   symbolStep-within : (f : ℕ) (rs : List StateSet) (t : Transition) (r : StateSet)
-      → ((ps : List ℕ) (q : ℕ) → onSymbol f ps q ≡ t → allContained ps rs ≡ true → P q) → Within P r → Within P (symbolStep f rs t r)
+      → ((ps : List ℕ) (q : ℕ) → onSymbol f ps q ≡ t → allContained ps rs ≡ true → P q) → StatesWithin P r
+      → StatesWithin P (symbolStep f rs t r)
   symbolStep-within f rs (epsilon p q) r c w = w
   symbolStep-within f rs (onSymbol g ps q) r c w =
       within-if (eqb g f && allContained ps rs) r q
       (λ e. let b = and-true (eqb g f) (allContained ps rs) e in c ps q (ap (λ x. onSymbol x ps q) (sym (eqb-true g f (b .0)))) (b .1)) w
 
-  pub symbolPass-within : (f : ℕ) (rs : List StateSet) (ts : List Transition) (r : StateSet) → Seeded ts f rs P → Within P r
-      → Within P (symbolPass f rs ts r)
+  pub symbolPass-within : (f : ℕ) (rs : List StateSet) (ts : List Transition) (r : StateSet) → Seeded ts f rs P → StatesWithin P r
+      → StatesWithin P (symbolPass f rs ts r)
   unfolding symbolPass
   symbolPass-within f rs [] r c w = w
   symbolPass-within f rs (t ∷ ts) r c w =

@@ -17,7 +17,7 @@ use Rattle.words.specs.Expression.{isExpressionWord, wrongLength, notExpression
 use Rattle.words.proofs.TestLaws.{and-true, or-false, picked}
 use Rattle.words.proofs.RefusalLaws.{none-applies}
 use Rattle.automaton.specs.Numbering.{Port, statesOf, portOf, ownTransitions}
-use Rattle.automaton.proofs.PortStates.{PortIn, portOf-in, portIn-from, Stack, bottom, push, Children, children-le, taken}
+use Rattle.automaton.proofs.PortStates.{PortIn, portOf-in, portIn-from, PortStack, bottom, push, Children, children-le, taken}
 use Rattle.automaton.proofs.OwnTransitions.{Own, own}
 
 -- the children of word w
@@ -29,7 +29,7 @@ pub record WordRead (a : List ℕ) (n w : ℕ) (stack : List Port) : Type 0 wher
   pub low : ℕ
   pub children : Children a low n (childrenOn a w stack)
   pub number : length (childrenOn a w stack) ≡ arity a w
-  pub rest : Stack a low (drop (arity a w) stack)
+  pub rest : PortStack a low (drop (arity a w) stack)
   pub port : PortIn a n (n + statesOf a w) (portOf a n w)
   pub own : Own a (n + statesOf a w) w (portOf a n w) (childrenOn a w stack) (ownTransitions w (portOf a n w) (childrenOn a w stack))
 
@@ -40,7 +40,7 @@ pub data Reading (a : List ℕ) : ℕ → List ℕ → List Port → Type 0 wher
       → Reading a (n + statesOf a w) ws (portOf a n w ∷ drop (arity a w) stack) → Reading a n (w ∷ ws) stack
 
 module _ (a : List ℕ) where
-  word-read : (n w : ℕ) (stack : List Port) → isExpressionWord a w ≡ true → arity a w ≤ length stack → Stack a n stack
+  word-read : (n w : ℕ) (stack : List Port) → isExpressionWord a w ≡ true → arity a w ≤ length stack → PortStack a n stack
       → WordRead a n w stack
   word-read n w stack h r s =
       let t = taken a (arity a w) n stack s in
@@ -55,7 +55,7 @@ module _ (a : List ℕ) where
       }
 
   pub reading : (ws : List ℕ) (n t : ℕ) (stack : List Port) → all (isExpressionWord a) ws ≡ true → trees a (length stack) ws t ≡ true
-      → Stack a n stack → Reading a n ws stack
+      → PortStack a n stack → Reading a n ws stack
   unfolding treesBy
   reading [] n t stack h r s = ended
   reading (w ∷ ws) n t stack h r s =

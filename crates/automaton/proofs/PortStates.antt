@@ -116,9 +116,9 @@ portIn-from l p =
 
 module _ (a : List ℕ) where
   -- ports with the last on top: the states of each lie behind those of the ports below it, and all below n
-  pub data Stack : ℕ → List Port → Type 0 where
-    bottom : {n : ℕ} → Stack n []
-    push : {m n : ℕ} {P : Port} {Ps : List Port} → PortIn a m n P → Stack m Ps → Stack n (P ∷ Ps)
+  pub data PortStack : ℕ → List Port → Type 0 where
+    bottom : {n : ℕ} → PortStack n []
+    push : {m n : ℕ} {P : Port} {Ps : List Port} → PortIn a m n P → PortStack m Ps → PortStack n (P ∷ Ps)
 
   -- ports from left to right: the states of each lie before those of the next, all from lo on and below hi
   pub data Children : ℕ → ℕ → List Port → Type 0 where
@@ -133,14 +133,14 @@ module _ (a : List ℕ) where
   pub record Taken (r n : ℕ) (stack right : List Port) : Type 0 where
     pub low : ℕ
     pub children : Children low n (reverseAux (take r stack) right)
-    pub rest : Stack low (drop r stack)
+    pub rest : PortStack low (drop r stack)
 
-  take-more : (r : ℕ) (m n : ℕ) (stack right : List Port) → Stack m stack → Children m n right → Taken r n stack right
+  take-more : (r : ℕ) (m n : ℕ) (stack right : List Port) → PortStack m stack → Children m n right → Taken r n stack right
   take-more zero m n stack right s c = record { low = m; children = c; rest = s }
   take-more (suc r) m n [] right s c = record { low = m; children = c; rest = s }
   take-more (suc r) m n (P ∷ stack) right (push {m = l} p s) c =
       let t = take-more r l n stack (P ∷ right) s (child p c) in
       record { low = t .low; children = t .children; rest = t .rest }
 
-  pub taken : (r n : ℕ) (stack : List Port) → Stack n stack → Taken r n stack []
+  pub taken : (r n : ℕ) (stack : List Port) → PortStack n stack → Taken r n stack []
   taken r n stack s = take-more r n n stack [] s (noChild (le-refl n))

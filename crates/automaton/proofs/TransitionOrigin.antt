@@ -14,7 +14,7 @@ use Rattle.automaton.specs.Transition.{Transition, onSymbol, epsilon}
 use Rattle.automaton.specs.Numbering.{Port, statesOf, portOf, entryFor, epsilons, entryEpsilons}
 use Rattle.automaton.specs.Numbering.{symbolTargets, unionTargets, productTargets, closureTargets}
 use Rattle.automaton.proofs.EveryEntryLaws.{to-epsilons, to-entryEpsilons}
-use Rattle.automaton.proofs.PortStates.{statesIn, PortIn, Stack, push, Children, child, children-le}
+use Rattle.automaton.proofs.PortStates.{statesIn, PortIn, PortStack, push, Children, child, children-le}
 use Rattle.automaton.proofs.OwnTransitions.{Own, leaf, ofSymbol, ofUnion, ofProduct, ofClosure}
 use Rattle.automaton.proofs.PortReading.{WordRead, childrenOn}
 
@@ -35,7 +35,7 @@ exit-child : {a : List ℕ} {lo hi p : ℕ} {Ps : List Port} → Children a lo h
 exit-child (child p c) (List·Memᴰ·head e) = let l = children-le _ c in (omega arith, omega arith)
 exit-child (child p c) (List·Memᴰ·tail m) = let b = exit-child c m in (omega arith, b .1)
 
-exit-stack : {a : List ℕ} {n p : ℕ} {stack : List Port} → Stack a n stack → List·Memᴰ p (exitsOf stack) → p < n
+exit-stack : {a : List ℕ} {n p : ℕ} {stack : List Port} → PortStack a n stack → List·Memᴰ p (exitsOf stack) → p < n
 exit-stack (push p s) (List·Memᴰ·head e) = omega arith
 exit-stack (push p s) (List·Memᴰ·tail m) = let b = exit-stack s m in omega arith
 

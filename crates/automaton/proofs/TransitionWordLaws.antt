@@ -8,7 +8,8 @@ use native.Mathlib.Omega.{arith}
 use lib.ListN.{length}
 use lib.Dec.{ltb}
 use borrow.Author.Tests.{eq-eqb, ne-eqb, eqb-true, lt-ltb, ltb-true}
-use Rattle.words.specs.Word.{transitionKind, epsilonKind, sourceKind, numberOf, isOf, wordOf, symbolAbove, stateAbove, stateBelow, kindNumber}
+use Rattle.words.specs.Word.{transitionKind, epsilonKind, sourceKind, numberOf, isOf}
+use Rattle.words.specs.Word.{wordOf, symbolAbove, stateAbove, stateBelow, kindNumber}
 use Rattle.words.specs.Alphabet.{isSymbol, rankOf}
 use Rattle.words.proofs.TestLaws.{and-true, true-and, or-true}
 use Rattle.words.proofs.KindLaws.{isOf-facts, isOf-wordOf}

@@ -15,7 +15,7 @@ use Rattle.words.proofs.RefusalLaws.{conditionOf, none-applies}
 use Rattle.words.proofs.ListLaws.{sets-whole}
 use Rattle.words.proofs.AcceptedAlphabet.{alphabet-accepted}
 use Rattle.automaton.proofs.PortReading.{expression-length}
-use Rattle.compiler.specs.Compiling.{Counted}
+use Rattle.compiler.specs.Compiling.{ConstantsCounted}
 
 pub record AcceptedExpression (a e : List ℕ) : Type 0 where
   pub some : 0 < length e
@@ -36,7 +36,7 @@ expression-passed a e h =
     }
 
 -- the number of the constants
-pub constants-counted : (a cs : List ℕ) → alphabetFault a ≡ 0 → cs ≡ constantsOf a → Counted a (length cs)
+pub constants-counted : (a cs : List ℕ) → alphabetFault a ≡ 0 → cs ≡ constantsOf a → ConstantsCounted a (length cs)
 constants-counted a cs h known =
     let l = ap length known in
     let few = alphabet-accepted a h .fewConstants in

@@ -146,7 +146,7 @@ module _ {a cs e : List ℕ} {at : ℕ} {out out′ stack : List ℕ} {height st
         few = rw known (h .fewConstants);
         children = rw (length-part stack base height (omega arith) (omega arith)) (omega arith);
         low = omega arith;
-        room = omega arith;
+        fits = omega arith;
       }
 
   pub emitted-takes : (r base : ℕ) → cs ≡ constantsOf a → i < length e → length e ≤ 64 → r ≡ arity a (getD e i 0)

@@ -19,7 +19,7 @@ use Rattle.words.proofs.ConstantLaws.{constants-ascending}
 use Rattle.words.proofs.ExpressionWordLaws.{ExpressionWord, symbolWord, emptyWord, unionWord, productWord, closureWord, expressionWord}
 use Rattle.automaton.specs.Numbering.{numbered, lookup}
 use Rattle.ports.specs.Ports.{EachOnce}
-use Rattle.emitter.specs.Emission.{Listed, Takes}
+use Rattle.emitter.specs.Emission.{ListedConstant, Takes}
 
 -- ---- each constant stands once
 
@@ -57,11 +57,11 @@ module _ (a cs : List ℕ) (known : cs ≡ constantsOf a) where
 
   -- ---- the c of a word is a constant
 
-  member-listed : (c : ℕ) (ds : List ℕ) → List·Memᴰ c ds → Listed ds c
+  member-listed : (c : ℕ) (ds : List ℕ) → List·Memᴰ c ds → ListedConstant ds c
   member-listed c (d ∷ ds) (List·Memᴰ·head e) = (0, omega arith, sym e)
   member-listed c (d ∷ ds) (List·Memᴰ·tail m) = let (k, h, e) = member-listed c ds m in (suc k, omega arith, e)
 
-  constant-listed : (c : ℕ) → isConstant a c ≡ true → Listed cs c
+  constant-listed : (c : ℕ) → isConstant a c ≡ true → ListedConstant cs c
   constant-listed c h = rw known (member-listed c (constantsOf a) (constantsOf-isConstant a c .1 h))
 
   pub word-takes : (ps : List ℕ) (w : ℕ) → isExpressionWord a w ≡ true → length ps ≡ arity a w → Takes cs ps w
@@ -82,14 +82,14 @@ module _ (a cs : List ℕ) (known : cs ≡ constantsOf a) where
       union (productWord q c s) e = r ∙ s
       union (closureWord q c s) e = never (cc)
 
-      product : ExpressionWord a w → kindOf w ≡ productKind → (length ps ≡ 2) × Listed cs (lowByte w)
+      product : ExpressionWord a w → kindOf w ≡ productKind → (length ps ≡ 2) × ListedConstant cs (lowByte w)
       product (symbolWord q l s) e = never (cc)
       product (emptyWord q s) e = never (cc)
       product (unionWord q s) e = never (cc)
       product (productWord q c s) e = (r ∙ s, constant-listed (lowByte w) c)
       product (closureWord q c s) e = never (cc)
 
-      closure : ExpressionWord a w → kindOf w ≡ closureKind → (length ps ≡ 1) × Listed cs (lowByte w)
+      closure : ExpressionWord a w → kindOf w ≡ closureKind → (length ps ≡ 1) × ListedConstant cs (lowByte w)
       closure (symbolWord q l s) e = never (cc)
       closure (emptyWord q s) e = never (cc)
       closure (unionWord q s) e = never (cc)

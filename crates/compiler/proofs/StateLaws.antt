@@ -89,7 +89,10 @@ module _ (a : List ℕ) (x w r p : ℕ) (e : r ≡ arity a w) (low : x < 2048) w
   unfolding leaf
   port-constant few l z k q =
       ap (portIn (constantsOf a)) q ∙ port-fields (constantsOf a) x (lowByte w) low (omega arith)
-      ∙ rw (entries-own (constantsOf a) x (lowByte w) (λ m. omega arith) (λ m. omega arith), portOf-leaf z true (eq-eqb (numberOf w) (kindNumber symbolKind) k))
+      ∙ rw (
+        entries-own (constantsOf a) x (lowByte w) (λ m. omega arith) (λ m. omega arith),
+        portOf-leaf z true (eq-eqb (numberOf w) (kindNumber symbolKind) k),
+      )
 
   pub port-empty : r ≡ 0 → (numberOf w ≡ kindNumber symbolKind → ⊥) → p ≡ x * 128 + 65 → portIn (constantsOf a) p ≡ portOf a x w
   unfolding leaf

@@ -8,7 +8,7 @@ use Rattle.words.specs.Alphabet.{constantsOf, alphabetFault}
 use Rattle.words.specs.Expression.{isExpressionWord, expressionFault}
 
 -- the number of an alphabet's constants
-pub record Counted (a : List ℕ) (count : ℕ) : Type 0 where
+pub record ConstantsCounted (a : List ℕ) (count : ℕ) : Type 0 where
   pub constants : count ≡ length (constantsOf a)
   pub few : count ≤ 16
 

@@ -5,7 +5,7 @@ ghost use lib.ListN.{length};
 ghost use Rattle.words.specs.Alphabet.{constantsOf};
 ghost use Rattle.automaton.specs.Numbering.{statesOf, statesAfter, portOf};
 ghost use Rattle.ports.specs.Ports.{portIn};
-ghost use Rattle.compiler.specs.Compiling.{Counted, Exited};
+ghost use Rattle.compiler.specs.Compiling.{ConstantsCounted, Exited};
 use ports::port::EVERY;
 use ports::port::NONE;
 use ports::port::port_of;
@@ -16,7 +16,7 @@ use words::word::kind_of;
 
 // How many states a word has, where `count` is the number of constants.
 pub(crate) fn states_of(alphabet: &[u32], count: usize, w: u32) -> u32
-    requires { ⌜ Counted (now alphabet) count ⌝ }
+    requires { ⌜ ConstantsCounted (now alphabet) count ⌝ }
     ensures { λ r. ⌜ (r ≡ statesOf (now (alphabet .entry)) w) × (r ≤ 17) ⌝ }
 {
     if arity(alphabet, w) == 0 {
@@ -27,7 +27,7 @@ pub(crate) fn states_of(alphabet: &[u32], count: usize, w: u32) -> u32
 
 // The first state behind those of the words.
 pub(crate) fn states_after(alphabet: &[u32], count: usize, expression: &[u32]) -> u32
-    requires { ⌜ Counted (now alphabet) count ⌝ }
+    requires { ⌜ ConstantsCounted (now alphabet) count ⌝ }
     requires { ⌜ length (now expression) ≤ 64 ⌝ }
     ensures { λ r. ⌜ (r ≡ statesAfter (now (alphabet .entry)) 0 (now (expression .entry))) × (r ≤ 17 * length (now (expression .entry))) ⌝ }
 {

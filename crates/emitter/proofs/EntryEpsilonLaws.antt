@@ -45,8 +45,8 @@ entriesWritten-none cs targets x at out = record { within = omega arith; long = 
 module _ {cs : List ℕ} {targets : ℕ → List ℕ} {x at : ℕ} {out out′ : List ℕ} {next k : ℕ}
     (w : EntriesWritten cs targets x at out out′ next k) where
   -- there is room for the next constant's transitions
-  pub entriesWritten-room : k < length cs → length cs ≤ 16 → at + 80 ≤ lastIndex → next + 5 ≤ lastIndex
-  entriesWritten-room h few room = let n = wrote-next _ _ _ _ _ _ (w .wrote) in omega arith
+  pub entriesWritten-fits : k < length cs → length cs ≤ 16 → at + 80 ≤ lastIndex → next + 5 ≤ lastIndex
+  entriesWritten-fits h few fits = let n = wrote-next _ _ _ _ _ _ (w .wrote) in omega arith
 
   pub entriesWritten-more : (m : ℕ) (out″ : List ℕ) (r : ℕ) → k < length cs → m ≤ 5 → length out″ ≡ length out′
       → Wrote m next (transitionsWords (epsilons (x + 1 + k) (targets (getD cs k 0)))) out′ out″ r

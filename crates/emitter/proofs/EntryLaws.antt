@@ -109,7 +109,7 @@ emits-behind cs ps x at n p =
       few = p .few;
       children = rw (behindFirst-drop ps, length-drop 1 ps) (omega arith);
       low = p .low;
-      room = p .room;
+      fits = p .fits;
     }
 
 module _ (cs ps : List ℕ) (from b c at : ℕ) (out out′ : List ℕ) (r : ℕ) where

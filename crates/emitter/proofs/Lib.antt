@@ -4,4 +4,4 @@ pub mod EntryEpsilonLaws
 pub mod OwnLaws
 pub mod SourceLaws
 pub mod ConstantTransitionLaws
-pub mod KindLaws
+pub mod OwnKindLaws

@@ -21,13 +21,13 @@ use Rattle.emitter.proofs.SourceLaws.{sources-exits}
 -- what is left of the room behind a word's first transitions
 pub emits-later : (cs ps : List ℕ) (x at next : ℕ) → Emits cs ps x at 85 → next ≤ at + 5 → Emits cs ps x next 80
 emits-later cs ps x at next p h =
-    let room = p .room in
+    let fits = p .fits in
     record {
       once = p .once;
       few = p .few;
       children = p .children;
       low = p .low;
-      room = omega arith;
+      fits = omega arith;
     }
 
 -- ---- children that are one or two

@@ -35,20 +35,20 @@ pub record Emits (cs ps : List ℕ) (x at n : ℕ) : Type 0 where
   pub few : length cs ≤ 16
   pub children : length ps ≤ 4
   pub low : x < 2048
-  pub room : at + n ≤ lastIndex
+  pub fits : at + n ≤ lastIndex
 
 -- c is one of the constants
-abbrev pub Listed : List ℕ → ℕ → Type 0
-Listed cs c = (k : ℕ) × (k < length cs) × (getD cs k 0 ≡ c)
+abbrev pub ListedConstant : List ℕ → ℕ → Type 0
+ListedConstant cs c = (k : ℕ) × (k < length cs) × (getD cs k 0 ≡ c)
 
 -- word w takes children with ports ps, and its c is one of the constants
 pub record Takes (cs ps : List ℕ) (w : ℕ) : Type 0 where
   pub union : numberOf w ≡ kindNumber unionKind → length ps ≡ 2
-  pub product : numberOf w ≡ kindNumber productKind → (length ps ≡ 2) × Listed cs (lowByte w)
-  pub closure : numberOf w ≡ kindNumber closureKind → (length ps ≡ 1) × Listed cs (lowByte w)
+  pub product : numberOf w ≡ kindNumber productKind → (length ps ≡ 2) × ListedConstant cs (lowByte w)
+  pub closure : numberOf w ≡ kindNumber closureKind → (length ps ≡ 1) × ListedConstant cs (lowByte w)
 
 -- the constants are few and symbols, and their moves may be written from index `at` on
 pub record Symbols (cs : List ℕ) (at : ℕ) : Type 0 where
   pub few : length cs ≤ 16
   pub symbols : (k : ℕ) → k < length cs → getD cs k 0 < 256
-  pub room : at + 16 ≤ lastIndex
+  pub fits : at + 16 ≤ lastIndex

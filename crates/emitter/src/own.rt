@@ -4,10 +4,11 @@ ghost use mathlib.Core.List.{[], _∷_};
 ghost use Prim.Native.Nat.{_+_, _≤_, _<_};
 ghost use lib.ListN.{length, getD};
 ghost use Rattle.automaton.specs.Transition.{epsilon, sourceWords, transitionsWords};
-ghost use Rattle.automaton.specs.Numbering.{symbolTransitions, unionTransitions, productTransitions, closureTransitions, ownTransitions, fullPort};
+ghost use Rattle.automaton.specs.Numbering.{symbolTransitions, unionTransitions, productTransitions};
+ghost use Rattle.automaton.specs.Numbering.{closureTransitions, ownTransitions, fullPort};
 ghost use Rattle.emitter.specs.Writing.{Wrote, lastIndex};
 ghost use Rattle.ports.specs.Ports.{exitsIn, portIn, portsIn};
-ghost use Rattle.emitter.specs.Emission.{Emits, Listed, Takes};
+ghost use Rattle.emitter.specs.Emission.{Emits, ListedConstant, Takes};
 use super::entries::Targets;
 use super::entries::push_entries;
 use super::entries::push_to;
@@ -24,7 +25,7 @@ use words::word::kind_of;
 
 // The index of a constant.
 fn index_of(constants: &[u32], c: u32) -> usize
-    requires { ⌜ Listed (now constants) c ⌝ }
+    requires { ⌜ ListedConstant (now constants) c ⌝ }
     ensures { λ r. ⌜ (r < length (now (constants .entry))) × (getD (now (constants .entry)) r 0 ≡ c) ⌝ }
 {
     let mut k = 0;
@@ -94,7 +95,8 @@ fn push_union(constants: &[u32], ports: &[u32], out: &mut [u32], at: usize, exit
     ensures { λ r. ⌜
         Wrote 85 at
         (transitionsWords (unionTransitions (fullPort (now (constants .entry)) exit)
-        (portIn (now (constants .entry)) (getD (now (ports .entry)) 0 0)) (portIn (now (constants .entry)) (getD (now (ports .entry)) 1 0))))
+        (portIn (now (constants .entry)) (getD (now (ports .entry)) 0 0))
+        (portIn (now (constants .entry)) (getD (now (ports .entry)) 1 0))))
         (now (out .entry)) (now (out .exit)) r
         ⌝ }
 {
@@ -114,11 +116,12 @@ fn push_product(
     c: u32,
 ) -> usize
     requires { ⌜ Emits (now constants) (now ports) exit at 85 ⌝ }
-    requires { ⌜ (length (now ports) ≡ 2) × Listed (now constants) c ⌝ }
+    requires { ⌜ (length (now ports) ≡ 2) × ListedConstant (now constants) c ⌝ }
     ensures { λ r. ⌜
         Wrote 85 at
         (transitionsWords (productTransitions c (fullPort (now (constants .entry)) exit)
-        (portIn (now (constants .entry)) (getD (now (ports .entry)) 0 0)) (portIn (now (constants .entry)) (getD (now (ports .entry)) 1 0))))
+        (portIn (now (constants .entry)) (getD (now (ports .entry)) 0 0))
+        (portIn (now (constants .entry)) (getD (now (ports .entry)) 1 0))))
         (now (out .entry)) (now (out .exit)) r
         ⌝ }
 {
@@ -138,7 +141,7 @@ fn push_closure(
     c: u32,
 ) -> usize
     requires { ⌜ Emits (now constants) (now ports) exit at 85 ⌝ }
-    requires { ⌜ (length (now ports) ≡ 1) × Listed (now constants) c ⌝ }
+    requires { ⌜ (length (now ports) ≡ 1) × ListedConstant (now constants) c ⌝ }
     ensures { λ r. ⌜
         Wrote 85 at
         (transitionsWords (closureTransitions c (fullPort (now (constants .entry)) exit)

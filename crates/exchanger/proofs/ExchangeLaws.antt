@@ -38,7 +38,7 @@ use Rattle.exchanger.proofs.CallNumberLaws.{CallNumbers, call-numbers, 
 use Rattle.exchanger.proofs.MovedLaws.{gapSets, behindUse}
 
 -- the marks at exit, and the number worked out
-pub record Left (a table chapter marks : List ℕ) (n element : ℕ) (xs : List ℕ) (marks′ : List ℕ) (count : ℕ) : Type 0 where
+pub record ExchangeLeft (a table chapter marks : List ℕ) (n element : ℕ) (xs : List ℕ) (marks′ : List ℕ) (count : ℕ) : Type 0 where
   pub words : marks′ ≡ refit (n * sizeOf table) (flatten (map setIn (outcomes a table chapter marks n element xs))) marks
   pub count-is : count ≡ recomputedIn (outcomes a table chapter marks n element xs)
 
@@ -251,7 +251,7 @@ module _ (a table chapter marks : List ℕ) (n element : ℕ) (xs : List ℕ) (o
         → (marks′, count)
         ≡ exchangedFrom a table (splice a (take n chapter) element xs) (startOf a (take n chapter) element)
         (startOf a (take n chapter) element + length xs - 1) moved
-        → Left a table chapter marks n element xs marks′ count
+        → ExchangeLeft a table chapter marks n element xs marks′ count
     unfolding outcomes refit
     left-outcomes marks′ count q =
         let g = accepted-call a table chapter marks n element xs ok in

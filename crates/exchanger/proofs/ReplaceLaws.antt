@@ -12,7 +12,7 @@ use Rattle.operations.specs.Exchange.{fault, newTree}
 use Rattle.exchanger.specs.Exchanging.{exchangedFrom, Exchangeable}
 use Rattle.exchanger.proofs.CallNumberLaws.{CallNumbers, call-numbers, result-workable}
 use Rattle.exchanger.proofs.MovedLaws.{moved-holds}
-use Rattle.exchanger.proofs.ExchangeLaws.{Left, left-outcomes, chapter-left, nodes-left}
+use Rattle.exchanger.proofs.ExchangeLaws.{ExchangeLeft, left-outcomes, chapter-left, nodes-left}
 
 module _ (a table chapter marks : List ℕ) (n element : ℕ) (xs : List ℕ) (ok : fault a table chapter marks n element xs ≡ 0)
     (s : ℕ) (qs : s ≡ startOf a (take n chapter) element) (size : ℕ) (qz : size ≡ sizeOf table) where
@@ -54,7 +54,7 @@ module _ (a table chapter marks : List ℕ) (n element : ℕ) (xs : List ℕ) (o
 
       pub marks-exit : (marks′ : List ℕ) (count : ℕ)
           → (marks′, count) ≡ exchangedFrom a table (take (s + length xs + (n - element - 1)) filled) s (s + length xs - 1) work
-          → Left a table chapter marks n element xs marks′ count
+          → ExchangeLeft a table chapter marks n element xs marks′ count
       marks-exit marks′ count r =
           let held =
           moved-holds a table chapter marks n element xs ok work

@@ -90,7 +90,8 @@ module _ (a table ch used : List ℕ) (element : ℕ) (rest : List ℕ) (above :
     beside l =
         let l′ : arity a (getD used j 0) ≤ d = rw word l in
         let y : HoldingTree (arity a) used element (suc j) (d - r + 1) =
-        subst (λ (k : ℕ). HoldingTree (arity a) used element (suc j) (d - k + 1)) word (holding-others (arity a) used element j d (g .holding) l′) in
+        subst (λ (k : ℕ). HoldingTree (arity a) used element (suc j) (d - k + 1)) word
+        (holding-others (arity a) used element j d (g .holding) l′) in
         let t′ : Progress = record { reach = t .reach - r + 1; recomputed = t .recomputed; active = true } in
         let p : propagates i (suc n) marks t ≡ propagates (suc i) n marks t′ =
         propagate-continues a table ch i marks t n marks t′ (step-beside a table ch i marks t r refl (omega arith)) refl in

@@ -33,7 +33,8 @@ module _ (w : ℕ) where
 
   pub key-epsilon : {p : ℕ} → numberOf w ≡ kindNumber epsilonKind → stateAbove w ≡ p → keyOf w ≡ 256 + p
   unfolding keyOf
-  key-epsilon e h = rw (ne-eqb (numberOf w) (kindNumber transitionKind) (λ i. omega arith), eq-eqb (numberOf w) (kindNumber epsilonKind) e) (omega arith)
+  key-epsilon e h =
+      rw (ne-eqb (numberOf w) (kindNumber transitionKind) (λ i. omega arith), eq-eqb (numberOf w) (kindNumber epsilonKind) e) (omega arith)
 
   pub key-none : (numberOf w ≡ kindNumber transitionKind → ⊥) → (numberOf w ≡ kindNumber epsilonKind → ⊥) → keyOf w ≡ 1280
   unfolding keyOf
@@ -43,17 +44,27 @@ module _ (w : ℕ) where
   keyed-symbol {f} e h = go (tested (hasKind transitionKind w)) (tested (hasKind epsilonKind w))
     where
       go : Tested (hasKind transitionKind w) → Tested (hasKind epsilonKind w) → SymbolWord w f
-      go (holds y) t = let k = eqb-true (numberOf w) (kindNumber transitionKind) y in record { kind = k; symbol = sym (key-symbol k refl) ∙ e }
+      go (holds y) t =
+          let k = eqb-true (numberOf w) (kindNumber transitionKind) y in record { kind = k; symbol = sym (key-symbol k refl) ∙ e }
       go (fails n) (holds y) = absurd (omega (arith, key-epsilon (eqb-true (numberOf w) (kindNumber epsilonKind) y) refl))
-      go (fails n) (fails m) = absurd (omega (arith, key-none (eqb-false (numberOf w) (kindNumber transitionKind) n) (eqb-false (numberOf w) (kindNumber epsilonKind) m)))
+      go (fails n) (fails m) =
+          absurd (omega (
+            arith,
+            key-none (eqb-false (numberOf w) (kindNumber transitionKind) n) (eqb-false (numberOf w) (kindNumber epsilonKind) m),
+          ))
 
   pub keyed-epsilon : {p : ℕ} → keyOf w ≡ 256 + p → p < 1024 → EpsilonWord w p
   keyed-epsilon {p} e h = go (tested (hasKind transitionKind w)) (tested (hasKind epsilonKind w))
     where
       go : Tested (hasKind transitionKind w) → Tested (hasKind epsilonKind w) → EpsilonWord w p
       go (holds y) t = absurd (omega (arith, key-symbol (eqb-true (numberOf w) (kindNumber transitionKind) y) refl))
-      go (fails n) (holds y) = let k = eqb-true (numberOf w) (kindNumber epsilonKind) y in record { kind = k; from = omega (arith, key-epsilon k refl) }
-      go (fails n) (fails m) = absurd (omega (arith, key-none (eqb-false (numberOf w) (kindNumber transitionKind) n) (eqb-false (numberOf w) (kindNumber epsilonKind) m)))
+      go (fails n) (holds y) =
+          let k = eqb-true (numberOf w) (kindNumber epsilonKind) y in record { kind = k; from = omega (arith, key-epsilon k refl) }
+      go (fails n) (fails m) =
+          absurd (omega (
+            arith,
+            key-none (eqb-false (numberOf w) (kindNumber transitionKind) n) (eqb-false (numberOf w) (kindNumber epsilonKind) m),
+          ))
 
 -- ---- the words with a key
 

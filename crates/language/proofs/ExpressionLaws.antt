@@ -26,7 +26,8 @@ use Rattle.words.proofs.TreeLaws.{TreeOf, exactly-one-tree}
 use Rattle.language.proofs.ParseLaws.{treeExpression, number-syntaxTrees, tree-expression, constant-small, expression-back}
 
 module _ (a : List ℕ) where
-  expression-read : (e : List ℕ) → all (isExpressionWord a) e ≡ true → (t : Tree) → TreeOf (arity a) e t → ExpressionOf a e (treeExpression t)
+  expression-read : (e : List ℕ) → all (isExpressionWord a) e ≡ true → (t : Tree) → TreeOf (arity a) e t
+      → ExpressionOf a e (treeExpression t)
   expression-read e h t k =
       let p = tree-expression a t (k .ranked) (rw (k .words) h) in
       record { over = p .0; words = ap postfix (p .1) ∙ k .words }

@@ -110,4 +110,5 @@ module _ (a : List ℕ) where
     -- and words that pass both are those of exactly one
     pub exactly-one-subject : (ch : List ℕ) → all (isNode a) ch ≡ true → oneTree a ch ≡ true → ExactlyOne (SubjectOf a ch)
     exactly-one-subject ch h o =
-        one-along symbolTree wordTree (subject-read ch h) (subject-words ch) (λ t k. symbols-back t (k .over)) (exactly-one-tree (arity a) ch o)
+        one-along symbolTree wordTree (subject-read ch h) (subject-words ch) (λ t k. symbols-back t (k .over))
+        (exactly-one-tree (arity a) ch o)

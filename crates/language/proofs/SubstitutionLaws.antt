@@ -22,12 +22,12 @@ assigned σ c L a t = ((a ≡ c) × L t) ⊎ ((a ≡ c → ⊥) × σ a t)
 abbrev pub Under : Language → Assignment → Language
 Under L σ t = (u : Tree) × L u × Substitution σ u t
 
-abbrev pub Within : Assignment → Assignment → Type 0
-Within σ τ = (a : ℕ) (t : Tree) → σ a t → τ a t
+abbrev pub AssignmentWithin : Assignment → Assignment → Type 0
+AssignmentWithin σ τ = (a : ℕ) (t : Tree) → σ a t → τ a t
 
 -- ---- larger languages allow more
 
-module _ {σ τ : Assignment} (h : Within σ τ) where
+module _ {σ τ : Assignment} (h : AssignmentWithin σ τ) where
   mutual
     pub substitution-within : {u t : Tree} → Substitution σ u t → Substitution τ u t
     substitution-within (atConstant {a = a} {t = t} s) = atConstant (h a t s)
@@ -106,7 +106,7 @@ constant-under a σ t (u, m, p) = go u m p
 
 -- ---- languages that grow: finitely many places have one largest step
 
-module _ {S : ℕ → Assignment} (grows : (n m : ℕ) → n ≤ m → Within (S n) (S m)) where
+module _ {S : ℕ → Assignment} (grows : (n m : ℕ) → n ≤ m → AssignmentWithin (S n) (S m)) where
   mutual
     pub substitution-step : {u t : Tree} → Substitution (λ a s. (n : ℕ) × S n a s) u t → (n : ℕ) × Substitution (S n) u t
     substitution-step (atConstant s) = (s .0, atConstant (s .1))
@@ -131,11 +131,11 @@ module _ {S : ℕ → Assignment} (grows : (n m : ℕ) → n ≤ m → Within (S
 -- ---- a product under σ is F under σ with G under σ for c
 
 module _ (c : ℕ) (F G : Language) (σ : Assignment) where
-  joined-within : Within (Then (only c G) σ) (assigned σ c (Under G σ))
+  joined-within : AssignmentWithin (Then (only c G) σ) (assigned σ c (Under G σ))
   joined-within a t (w, inl (e, g), y) = inl (e, (w, g, y))
   joined-within a t (w, inr (n, e), y) = inr (n, at-constant (subst (λ z. Substitution σ z t) e y))
 
-  within-joined : Within (assigned σ c (Under G σ)) (Then (only c G) σ)
+  within-joined : AssignmentWithin (assigned σ c (Under G σ)) (Then (only c G) σ)
   within-joined a t (inl (e, (w, g, y))) = (w, inl (e, g), y)
   within-joined a t (inr (n, s)) = (constant a, inr (n, refl), atConstant s)
 
@@ -151,11 +151,11 @@ module _ (c : ℕ) (F : Language) where
   step-grows : (t : Tree) (n m : ℕ) → n ≤ m → Step c F n t → Step c F m t
   step-grows t n m le = le-ind (λ k. Step c F n t → Step c F k t) (λ s. s) (λ k _ ih s. inl (ih s)) m le
 
-  only-grows : (n m : ℕ) → n ≤ m → Within (only c (Step c F n)) (only c (Step c F m))
+  only-grows : (n m : ℕ) → n ≤ m → AssignmentWithin (only c (Step c F n)) (only c (Step c F m))
   only-grows n m le a t (inl (e, s)) = inl (e, step-grows t n m le s)
   only-grows n m le a t (inr s) = inr s
 
-  only-step : Within (only c (Closure c F)) (λ a s. (n : ℕ) × only c (Step c F n) a s)
+  only-step : AssignmentWithin (only c (Closure c F)) (λ a s. (n : ℕ) × only c (Step c F n) a s)
   only-step a t (inl (e, (n, s))) = (n, inl (e, s))
   only-step a t (inr s) = (0, inr s)
 

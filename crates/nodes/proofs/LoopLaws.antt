@@ -66,7 +66,9 @@ module _ (a table ch : List ℕ) where
         let z : slice i (i + 0) ch ≡ [] = ap (λ (j : ℕ). slice i j ch) (add-zero i) ∙ slice-empty i ch in
         record {
           sets-are = rw (z, add-zero i, append-nil (take i old)) (sym (take-append-drop i old));
-          stack-is = ap (λ (j : ℕ). map (setAt old) (numbers (arity a) ch j)) (add-zero i) ∙ e ∙ ap (λ (l : List ℕ). stackAfter a step l σ) (sym z);
+          stack-is =
+              ap (λ (j : ℕ). map (setAt old) (numbers (arity a) ch j)) (add-zero i) ∙ e
+              ∙ ap (λ (l : List ℕ). stackAfter a step l σ) (sym z);
         }
 
     pub recomputing-more : (k : ℕ) (sets : List StateSet) → i + k < length ch → i + k < length old → length sets ≡ length old

@@ -57,7 +57,8 @@ module _ (a ch : List ℕ) where
   unfolding treesBy
   arity-fits i h l =
       let w = getD ch i 0 in
-      let p = trees-split (arity a) (take i ch) (w ∷ drop (suc i) ch) 0 1 (subst (λ (t : List ℕ). trees a 0 t 1 ≡ true) (split-at ch i 0 l) h) in
+      let p =
+      trees-split (arity a) (take i ch) (w ∷ drop (suc i) ch) 0 1 (subst (λ (t : List ℕ). trees a 0 t 1 ≡ true) (split-at ch i 0 l) h) in
       let q = picked (leb (arity a w) (p .0)) (trees a (p .0 - arity a w + 1) (drop (suc i) ch) 1) (p .2) in
       rw (given-height (arity a) (λ k. k) (take i ch) 0 [] (p .0) (p .1)) (leb-true (arity a w) (p .0) (q .0))
 

@@ -48,7 +48,8 @@ module _ (a ch : List ℕ) (tree : BoundedTree a ch) (i : ℕ) (inside : i < len
 
   -- node i in the place of its children
   pub roots-next : rootsOf a ch (i + 1) ≡ i ∷ drop r (rootsOf a ch i)
-  roots-next = ap (rootsOf a ch) (add-one i) ∙ numbers-more (arity a) ch i inside ∙ ap (λ (k : ℕ). i ∷ drop k (rootsOf a ch i)) (sym arity-is)
+  roots-next =
+      ap (rootsOf a ch) (add-one i) ∙ numbers-more (arity a) ch i inside ∙ ap (λ (k : ℕ). i ∷ drop k (rootsOf a ch i)) (sym arity-is)
 
 -- ---- representatives
 

@@ -61,8 +61,8 @@ module _ (stored : ℕ → StateSet) (above : ℕ → Bool) where
           subst (Chosen j true) (sym (propagate-onward a table stored above j w ws stack x y)) (rw x, rw (x, y) m)
 
   -- the same by number: work continues up to the node k places behind j if it continues at j and ends at none between
-  abbrev pub goesOnFrom : ℕ → Bool → List Outcome → ℕ → Bool
-  goesOnFrom j on os k = on && all (λ i. not (endsAt (j + i) (outcomeAt os i))) (listFrom (λ i. i) 0 k)
+  abbrev pub continuesFrom : ℕ → Bool → List Outcome → ℕ → Bool
+  continuesFrom j on os k = on && all (λ i. not (endsAt (j + i) (outcomeAt os i))) (listFrom (λ i. i) 0 k)
 
   and-same : (b : Bool) → b && true ≡ b
   and-same true = refl
@@ -73,7 +73,7 @@ module _ (stored : ℕ → StateSet) (above : ℕ → Bool) where
   and-assoc false c d = refl
 
   continues-more : (j : ℕ) (on : Bool) (o : Outcome) (os : List Outcome) (k : ℕ)
-      → goesOnFrom j on (o ∷ os) (suc k) ≡ goesOnFrom (suc j) (on && not (endsAt j o)) os k
+      → continuesFrom j on (o ∷ os) (suc k) ≡ continuesFrom (suc j) (on && not (endsAt j o)) os k
   continues-more j on o os k =
       ap (λ (i : ℕ). on && (not (endsAt i o) && all P (listFrom (λ i. i) 1 k))) (add-zero j)
       ∙ and-assoc on (not (endsAt j o)) (all P (listFrom (λ i. i) 1 k))
@@ -88,7 +88,7 @@ module _ (stored : ℕ → StateSet) (above : ℕ → Bool) where
           ∙ all-map P suc (listFrom (λ i. i) 0 k) ∙ simp (add-suc, suc-add)
 
   pub chosen-at : (os : List Outcome) (j : ℕ) (on : Bool) (k : ℕ) → Chosen j on os → k < length os
-      → outcomeAt os k ≡ chosen (j + k) (goesOnFrom j on os k) (outcomeAt os k)
+      → outcomeAt os k ≡ chosen (j + k) (continuesFrom j on os k) (outcomeAt os k)
   chosen-at [] j on k h l = absurd (omega arith)
   chosen-at (o ∷ os) j on zero h l = rw (and-same on, add-zero j) (h .0)
   chosen-at (o ∷ os) j on (suc k) h l =

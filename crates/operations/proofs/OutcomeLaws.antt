@@ -118,7 +118,8 @@ module _ (a table : List ℕ) (stored : ℕ → StateSet) (used : List ℕ) (ele
       let le = start-le (arity a) used element in
       let n : length front ≡ startOf a used element = length-take-le (startOf a used element) used (omega arith) in
       let kept-front : map setIn (keptFrom stored 0 (startOf a used element)) ≡ values a rule front [] =
-      sets-kept stored (startOf a used element) 0 ∙ ap (listFrom stored 0) (sym n) ∙ right-list (arity a) rule stored front 0 [] right-front in
+      sets-kept stored (startOf a used element) 0 ∙ ap (listFrom stored 0) (sym n)
+      ∙ right-list (arity a) rule stored front 0 [] right-front in
       map-append setIn (keptFrom stored 0 (startOf a used element))
       (map recomputed (values a rule xs []) ++ outcomesBehind a table stored used element xs)
       ∙ ap₂ (λ (l k : List StateSet). l ++ k) kept-front

@@ -109,7 +109,8 @@ module _ (a table : List ℕ) where
     follows-replaced : Follows xs σ (map recomputed (nodeSets a table xs))
     unfolding nodeSets
     follows-replaced =
-        subst (λ (l : List StateSet). Follows xs σ (map recomputed l)) (read (arity a) (nodeSet table) xs hx .values-on σ) (follows-values xs σ)
+        subst (λ (l : List StateSet). Follows xs σ (map recomputed l)) (read (arity a) (nodeSet table) xs hx .values-on σ)
+        (follows-values xs σ)
 
     stack-replaced : stackOf xs (map recomputed (nodeSets a table xs)) σ ≡ rootSet a table xs ∷ σ
     unfolding nodeSets

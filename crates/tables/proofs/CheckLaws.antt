@@ -64,7 +64,8 @@ module _ (a : List ℕ) (n w : ℕ) where
   no-source zero h j = absurd (omega arith)
   no-source (suc k) h j = sym (rw (not-of sourceKind w j))
 
-  pub no-table-word : (k : ℕ) → (numberOf w ≡ kindNumber transitionKind → ⊥) → (numberOf w ≡ kindNumber epsilonKind → ⊥) → (numberOf w ≡ kindNumber sourceKind → ⊥) → Next k 0
+  pub no-table-word : (k : ℕ) → (numberOf w ≡ kindNumber transitionKind → ⊥) → (numberOf w ≡ kindNumber epsilonKind → ⊥)
+      → (numberOf w ≡ kindNumber sourceKind → ⊥) → Next k 0
   unfolding isTableWord
   no-table-word zero h i j = sym (rw (not-of transitionKind w h, not-of epsilonKind w i))
   no-table-word (suc k) h i j = no-source (suc k) (omega arith) j
@@ -81,8 +82,8 @@ module _ (a : List ℕ) (n w : ℕ) where
   above-outside (suc k) l e h = absurd (omega arith)
 
   module _ (clear : spareBitsClear w ≡ true) (state : stateBelow w < n) where
-    pub transition-next : (k : ℕ) → k ≤ 0 → numberOf w ≡ kindNumber transitionKind → symbolAbove w < length a → (r : ℕ) → r ≡ rankOf a (symbolAbove w)
-        → Next k (r + 1)
+    pub transition-next : (k : ℕ) → k ≤ 0 → numberOf w ≡ kindNumber transitionKind → symbolAbove w < length a
+        → (r : ℕ) → r ≡ rankOf a (symbolAbove w) → Next k (r + 1)
     unfolding isTableWord sourcesLeft
     transition-next zero l e h r er =
         sym (rw (

@@ -1,2 +1,2 @@
 pub mod CheckLaws
-pub mod ScanLaws
+pub mod TableScanLaws

@@ -8,7 +8,8 @@ use lib.ListN.{length}
 use lib.Dec.{ltb, leb, eqb}
 use borrow.Author.Tests.{leb-true, ltb-false, eqb-false, not-false}
 use Rattle.words.specs.Lists.{all}
-use Rattle.words.specs.Word.{Kind, entryKind, symbolKind, emptyKind, unionKind, productKind, closureKind, nodeKind, headKind, transitionKind, epsilonKind, sourceKind, noKind, kindOf, isOf, lowByte}
+use Rattle.words.specs.Word.{Kind, entryKind, symbolKind, emptyKind, unionKind, productKind, closureKind, nodeKind}
+use Rattle.words.specs.Word.{headKind, transitionKind, epsilonKind, sourceKind, noKind, kindOf, isOf, lowByte}
 use Rattle.words.specs.Alphabet.{entryRank, isEntry, rankOf, constantsOf, noAlphabet, wrongConstants, alphabetRefusals, alphabetFault}
 use Rattle.words.specs.Postfix.{arity, arityAt}
 use Rattle.words.proofs.TestLaws.{and-true, or-false}

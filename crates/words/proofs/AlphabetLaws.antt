@@ -26,7 +26,8 @@ from-zero (w ∷ ws) s (suc i) h = go (eqb (entryRank w) 0) (from-zero ws (suc s
     e : s + suc i ≡ suc s + i
     e = omega arith
 
-    go : (b : Bool) → List·Memᴰ (suc s + i) (constantsFrom (suc s) ws) → List·Memᴰ (s + suc i) (cond b (s ∷ constantsFrom (suc s) ws) (constantsFrom (suc s) ws))
+    go : (b : Bool) → List·Memᴰ (suc s + i) (constantsFrom (suc s) ws)
+        → List·Memᴰ (s + suc i) (cond b (s ∷ constantsFrom (suc s) ws) (constantsFrom (suc s) ws))
     go true m = rw e (List·Memᴰ·tail m)
     go false m = rw e m
 
@@ -49,13 +50,15 @@ zero-from (w ∷ ws) s c m = go (eqb (entryRank w) 0) refl (λ k. zero-from ws (
     first z f (List·Memᴰ·head e) = (0, omega arith, (omega arith, z))
     first z f (List·Memᴰ·tail m) = numbered-later w ws s c (f m)
 
-    go : (b : Bool) → eqb (entryRank w) 0 ≡ b → (List·Memᴰ c rest → Numbered ws (suc s) c) → List·Memᴰ c (cond b (s ∷ rest) rest) → Numbered (w ∷ ws) s c
+    go : (b : Bool) → eqb (entryRank w) 0 ≡ b → (List·Memᴰ c rest → Numbered ws (suc s) c) → List·Memᴰ c (cond b (s ∷ rest) rest)
+        → Numbered (w ∷ ws) s c
     go true e f m = first (eqb-true (entryRank w) 0 e) f m
     go false e f m = numbered-later w ws s c (f m)
 
 pub isConstant-zero : (a : List ℕ) (c : ℕ) → isConstant a c ≡ true → (c < length a) × (rankOf a c ≡ 0)
 unfolding isConstant
-isConstant-zero a c h = let p = and-eq-true-iff (isSymbol a c) (eqb (rankOf a c) 0) .0 h in (ltb-true c (length a) (p .0), eqb-true (rankOf a c) 0 (p .1))
+isConstant-zero a c h =
+    let p = and-eq-true-iff (isSymbol a c) (eqb (rankOf a c) 0) .0 h in (ltb-true c (length a) (p .0), eqb-true (rankOf a c) 0 (p .1))
 
 pub zero-isConstant : (a : List ℕ) (c : ℕ) → c < length a → rankOf a c ≡ 0 → isConstant a c ≡ true
 unfolding isConstant

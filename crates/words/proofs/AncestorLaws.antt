@@ -27,7 +27,8 @@ module _ (arity : ℕ → ℕ) (ws : List ℕ) where
   inside (suc j) zero i h l = absurd (omega arith)
   inside (suc j) (suc n) i h l = go (ℕ-discrete i j) (inside j (n + arity (getD ws j 0)) i h)
     where
-      go : Dec (i ≡ j) → (i < j → startFromBy arity ws (suc j) (suc n) ≤ startOfBy arity ws i) → startFromBy arity ws (suc j) (suc n) ≤ startOfBy arity ws i
+      go : Dec (i ≡ j) → (i < j → startFromBy arity ws (suc j) (suc n) ≤ startOfBy arity ws i)
+          → startFromBy arity ws (suc j) (suc n) ≤ startOfBy arity ws i
       go (yes q) ih = subst (λ (y : ℕ). startFromBy arity ws (suc j) (suc n) ≤ startOfBy arity ws y) (sym q) (last-inside j n)
       go (no q) ih = ih (omega arith)
 

@@ -14,16 +14,16 @@ use Rattle.words.proofs.ScanLaws.{drop-part, all-fails, all-continues, 
 use Rattle.words.proofs.WordLaws.{isNode-facts}
 
 -- the words before word i are nodes and make `made` trees: the words from i on decide
-pub record Judged (a words : List ℕ) (made i : ℕ) : Type 0 where
+pub record ChapterJudged (a words : List ℕ) (made i : ℕ) : Type 0 where
   pub few : i ≤ length words
   pub below : made ≤ i
   pub nodes : all (isNode a) words ≡ all (isNode a) (drop i words)
   pub shape : trees a 0 words 1 ≡ trees a made (drop i words) 1
 
-pub judged-none : (a words : List ℕ) → Judged a words 0 0
+pub judged-none : (a words : List ℕ) → ChapterJudged a words 0 0
 judged-none a words = record { few = omega arith; below = omega arith; nodes = refl; shape = refl }
 
-module _ {a words : List ℕ} {made i : ℕ} (s : Judged a words made i) where
+module _ {a words : List ℕ} {made i : ℕ} (s : ChapterJudged a words made i) where
   -- behind the last word
   pub judged-one : length words ≤ i → made ≡ 1 → 0 ≡ treeFault a words
   unfolding notNodes notOneTree
@@ -51,11 +51,12 @@ module _ {a words : List ℕ} {made i : ℕ} (s : Judged a words made i) where
       rank-arity : r ≡ arity a (getD words i 0)
       rank-arity = e ∙ sym (isNode-facts a (getD words i 0) node .arity-rank)
 
-      pub judged-lacks : made < r → (b : Bool) → b ≡ all (isNode a) (take (length words - i) (drop i words)) → b ≡ true → 11 ≡ treeFault a words
+      pub judged-lacks : made < r → (b : Bool) → b ≡ all (isNode a) (take (length words - i) (drop i words)) → b ≡ true
+          → 11 ≡ treeFault a words
       unfolding notNodes notOneTree
       judged-lacks l b eb t = sym (rw (rest b eb ∙ t, s .shape ∙ trees-lacks (arity a) words made i 1 r h rank-arity l))
 
-      pub judged-more : r ≤ made → Judged a words (made - r + 1) (i + 1)
+      pub judged-more : r ≤ made → ChapterJudged a words (made - r + 1) (i + 1)
       judged-more l =
           let below = s .below in
           record {

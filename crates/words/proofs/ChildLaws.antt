@@ -28,7 +28,8 @@ given-snoc arity f [] w j s = rw add-zero
 given-snoc arity f (v ∷ ws) w j s = rw (add-suc, ← suc-add) (given-snoc arity f ws w (suc j) (f j ∷ drop (arity v) s))
 
 -- the stack names earlier nodes only
-pub stack-below : (arity : ℕ → ℕ) (ws : List ℕ) (j : ℕ) (ns : List ℕ) → Below j ns → Below (j + length ws) (stackGivenBy arity (λ k. k) j ws ns)
+pub stack-below : (arity : ℕ → ℕ) (ws : List ℕ) (j : ℕ) (ns : List ℕ) → Below j ns
+    → Below (j + length ws) (stackGivenBy arity (λ k. k) j ws ns)
 unfolding stackGivenBy
 stack-below arity [] j ns h = rw add-zero h
 stack-below arity (w ∷ ws) j ns h =
@@ -75,35 +76,44 @@ module _ (arity : ℕ → ℕ) (ch : List ℕ) where
     children-value i stack e = ap (value (getD ch i 0)) (children-values f i stack e)
 
     -- every value is the one that the children's give: "from its parts' marks"
-    pub values-children : Right arity value f 0 ch [] → (i : ℕ) → i < length ch → f i ≡ value (getD ch i 0) (map f (childrenOfBy arity ch i))
+    pub values-children : Right arity value f 0 ch [] → (i : ℕ) → i < length ch
+        → f i ≡ value (getD ch i 0) (map f (childrenOfBy arity ch i))
     values-children right i h =
         let w = getD ch i 0 in
         let n : 0 + length (take i ch) ≡ i = zero-add _ ∙ length-take-le i ch (omega arith) in
         let rest = w ∷ drop (suc i) ch in
-        let r : Right arity value f 0 (take i ch ++ rest) [] = subst (λ (l : List ℕ). Right arity value f 0 l []) (split-at ch i 0 h) right in
+        let r : Right arity value f 0 (take i ch ++ rest) [] =
+        subst (λ (l : List ℕ). Right arity value f 0 l []) (split-at ch i 0 h) right in
         let s : stackAfterBy arity value (take i ch) [] ≡ map f (numbers i) =
-        sym (right-stack arity value f (take i ch) 0 [] (right-left arity value f (take i ch) rest 0 [] r)) ∙ stack-numbers arity f (take i ch) 0 [] in
+        sym (right-stack arity value f (take i ch) 0 [] (right-left arity value f (take i ch) rest 0 [] r))
+        ∙ stack-numbers arity f (take i ch) 0 [] in
         ap f (sym n) ∙ right-right arity value f (take i ch) rest 0 [] r .0
         ∙ sym (children-value i (stackAfterBy arity value (take i ch) []) (sym s))
 
-    right-snoc : (l : List ℕ) (w j : ℕ) (s : List A) → Right arity value f j l s → f (j + length l) ≡ valueOnBy arity value w (stackAfterBy arity value l s)
+    right-snoc : (l : List ℕ) (w j : ℕ) (s : List A) → Right arity value f j l s
+        → f (j + length l) ≡ valueOnBy arity value w (stackAfterBy arity value l s)
         → Right arity value f j (l ++ w ∷ []) s
     unfolding stackAfterBy
     right-snoc [] w j s h e = (ap f (sym (add-zero j)) ∙ e, tt)
-    right-snoc (v ∷ l) w j s h e =
-        (h .0, right-snoc l w (suc j) (valueOnBy arity value v s ∷ drop (arity v) s) (h .1) (ap f (suc-add j (length l) ∙ sym (add-suc j (length l))) ∙ e))
+    right-snoc (v ∷ l) w j s h e = (
+      h .0,
+      right-snoc l w (suc j) (valueOnBy arity value v s ∷ drop (arity v) s) (h .1)
+          (ap f (suc-add j (length l) ∙ sym (add-suc j (length l))) ∙ e),
+    )
 
     -- and whatever obeys the rule at every node is the tree's: there is one such value for each
     pub children-determine : ((i : ℕ) → i < length ch → f i ≡ value (getD ch i 0) (map f (childrenOfBy arity ch i)))
         → listFrom f 0 (length ch) ≡ valuesBy arity value ch []
     children-determine rule =
-        right-list arity value f ch 0 [] (subst (λ (l : List ℕ). Right arity value f 0 l []) (take-length ch) (upto (length ch) (omega arith)))
+        right-list arity value f ch 0 []
+        (subst (λ (l : List ℕ). Right arity value f 0 l []) (take-length ch) (upto (length ch) (omega arith)))
       where
         more : (i : ℕ) → i < length ch → Right arity value f 0 (take i ch) [] → Right arity value f 0 (take (suc i) ch) []
         more i h r =
             let w = getD ch i 0 in
             let n : 0 + length (take i ch) ≡ i = zero-add _ ∙ length-take-le i ch (omega arith) in
-            let s : stackAfterBy arity value (take i ch) [] ≡ map f (numbers i) = sym (right-stack arity value f (take i ch) 0 [] r) ∙ stack-numbers arity f (take i ch) 0 [] in
+            let s : stackAfterBy arity value (take i ch) [] ≡ map f (numbers i) =
+            sym (right-stack arity value f (take i ch) 0 [] r) ∙ stack-numbers arity f (take i ch) 0 [] in
             subst (λ (l : List ℕ). Right arity value f 0 l []) (sym (take-suc ch i 0 h))
             (right-snoc (take i ch) w 0 [] r (ap f n ∙ rule i h ∙ children-value i (stackAfterBy arity value (take i ch) []) (sym s)))
 

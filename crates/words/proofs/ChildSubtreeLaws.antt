@@ -14,7 +14,8 @@ use Rattle.words.specs.Lists.{listFrom}
 use Rattle.words.specs.Shape.{treesBy, oneTreeBy, startFromBy, startOfBy, subtreeOfBy, valuesBy, stackGivenBy, childrenOfBy}
 use Rattle.words.proofs.ListLaws.{slice-slice, listFrom-getD}
 use Rattle.words.proofs.TestLaws.{picked}
-use Rattle.words.proofs.PostfixLaws.{trees-split, trees-unsnoc, trees-same, startFrom-none, startFrom-add, startFrom-le, start-parts, run-is}
+use Rattle.words.proofs.PostfixLaws.{trees-split, trees-unsnoc, trees-same, startFrom-none}
+use Rattle.words.proofs.PostfixLaws.{startFrom-add, startFrom-le, start-parts, run-is}
 use Rattle.words.proofs.StackLaws.{length-values, list-right}
 use Rattle.words.proofs.ChildLaws.{numbers, numbers-start, values-children}
 use Rattle.words.proofs.SubtreeLaws.{subtree-last}
@@ -40,13 +41,15 @@ module _ (arity : ℕ → ℕ) (ws : List ℕ) (j d : ℕ) (hj : j ≤ length ws
     where
       go : (s : ℕ) → startFromBy arity ws j n ≡ s → 0 < s
       go zero e =
-          let u : treesBy arity 0 (take j ws) n ≡ true = subst (λ (s : ℕ). treesBy arity 0 (slice s j ws) n ≡ true) e (run-is arity ws j n d hj h (omega arith)) in
+          let u : treesBy arity 0 (take j ws) n ≡ true =
+          subst (λ (s : ℕ). treesBy arity 0 (slice s j ws) n ≡ true) e (run-is arity ws j n d hj h (omega arith)) in
           let z : n ≡ d = trees-same arity (take j ws) 0 n d u h in
           absurd (omega arith)
       go (suc s) e = omega arith
 
   -- the subtrees of the last n roots on the stack, side by side
-  roots-words : (n : ℕ) → n ≤ d → flatMap (subtreeOfBy arity ws) (reverse (take n (numbers arity ws j))) ≡ slice (startFromBy arity ws j n) j ws
+  roots-words : (n : ℕ) → n ≤ d
+      → flatMap (subtreeOfBy arity ws) (reverse (take n (numbers arity ws j))) ≡ slice (startFromBy arity ws j n) j ws
   unfolding flatMap
   roots-words zero l = sym (ap (λ (s : ℕ). slice s j ws) (startFrom-none arity ws j) ∙ slice-empty j ws)
   roots-words (suc n) l =
@@ -55,10 +58,12 @@ module _ (arity : ℕ → ℕ) (ws : List ℕ) (j d : ℕ) (hj : j ≤ length ws
       let z = start-above n l in
       let k : getD N n 0 ≡ s - 1 = numbers-start arity ws j n hj in
       let e : s - 1 + 1 ≡ s = omega arith in
-      let p : startFromBy arity ws s 1 ≡ startFromBy arity ws j (suc n) = sym (startFrom-add arity ws j n 1) ∙ ap (startFromBy arity ws j) (add-one n) in
+      let p : startFromBy arity ws s 1 ≡ startFromBy arity ws j (suc n) =
+      sym (startFrom-add arity ws j n 1) ∙ ap (startFromBy arity ws j) (add-one n) in
       let q : startOfBy arity ws (s - 1) ≡ startFromBy arity ws j (suc n) = ap (λ (x : ℕ). startFromBy arity ws x 1) e ∙ p in
       let r : reverse (take (suc n) N) ≡ (s - 1) ∷ reverse (take n N) =
-      ap reverse (take-suc N n 0 (rw numbers-height l)) ∙ reverse-append (take n N) (getD N n 0 ∷ []) ∙ ap (λ (x : ℕ). x ∷ reverse (take n N)) k in
+      ap reverse (take-suc N n 0 (rw numbers-height l)) ∙ reverse-append (take n N) (getD N n 0 ∷ [])
+      ∙ ap (λ (x : ℕ). x ∷ reverse (take n N)) k in
       ap (flatMap (subtreeOfBy arity ws)) r
       ∙ ap₂ (λ (x y : List ℕ). x ++ y) (ap₂ (λ (x y : ℕ). slice x y ws) q e) (roots-words n (omega arith))
       ∙ slice-slice ws (startFromBy arity ws j (suc n)) s j (rw p at (startFrom-le arity ws s 1)) (startFrom-le arity ws j n) hj
@@ -68,7 +73,8 @@ module _ (arity : ℕ → ℕ) (ws : List ℕ) (i : ℕ) (h : oneTreeBy arity ws
   pub trees-before : (d : ℕ) × (treesBy arity 0 (take i ws) d ≡ true) × (arity (getD ws i 0) ≤ d)
   trees-before =
       let p = trees-split arity (take i ws ++ getD ws i 0 ∷ []) (drop (suc i) ws) 0 1
-      (subst (λ (l : List ℕ). treesBy arity 0 l 1 ≡ true) (split-at ws i 0 hi ∙ sym (append-assoc (take i ws) (getD ws i 0 ∷ []) (drop (suc i) ws))) h) in
+      (subst (λ (l : List ℕ). treesBy arity 0 l 1 ≡ true)
+      (split-at ws i 0 hi ∙ sym (append-assoc (take i ws) (getD ws i 0 ∷ []) (drop (suc i) ws))) h) in
       let b = trees-unsnoc arity (take i ws) 0 (getD ws i 0) (p .0) (p .1) in
       (b .0, b .1, b .2)
 
@@ -93,7 +99,8 @@ module _ (arity : ℕ → ℕ) (ws : List ℕ) (i : ℕ) (h : oneTreeBy arity ws
 
 -- the value of node i is made from the values of its children
 pub value-children : {A : Type 0} (arity : ℕ → ℕ) (value : ℕ → List A → A) (ws : List ℕ) (d : A) (i : ℕ) → i < length ws
-    → getD (valuesBy arity value ws []) i d ≡ value (getD ws i 0) (map (λ j. getD (valuesBy arity value ws []) j d) (childrenOfBy arity ws i))
+    → getD (valuesBy arity value ws []) i d
+    ≡ value (getD ws i 0) (map (λ j. getD (valuesBy arity value ws []) j d) (childrenOfBy arity ws i))
 value-children arity value ws d i hi =
     let vs = valuesBy arity value ws [] in
     let e : listFrom (λ j. getD vs j d) 0 (length ws) ≡ vs =

@@ -43,7 +43,8 @@ module _ (a : List ℕ) (i : ℕ) where
       ap (λ (n : ℕ). constantsFrom 0 (take n a)) (add-one i)
       ∙ ap (constantsFrom 0) (take-suc a i 0 h)
       ∙ constantsFrom-append 0 (take i a) (getD a i 0 ∷ [])
-      ∙ ap (λ (n : ℕ). constantsFrom 0 (take i a) ++ constantsFrom n (getD a i 0 ∷ [])) (zero-add (length (take i a)) ∙ length-take-le i a (omega arith))
+      ∙ ap (λ (n : ℕ). constantsFrom 0 (take i a) ++ constantsFrom n (getD a i 0 ∷ []))
+      (zero-add (length (take i a)) ∙ length-take-le i a (omega arith))
       ∙ rw (isConstant-rank h)
 
   pub constants-more : isConstant a i ≡ true → constantsOf (take (i + 1) a) ≡ constantsOf (take i a) ++ i ∷ []

@@ -16,7 +16,8 @@ use Rattle.words.specs.Lists.{all, listFrom}
 use Rattle.words.specs.Word.{Kind, noKind, kinds, kindAt, kindNumber, numberOf, kindOf, spareBitsClear, isOf}
 use Rattle.words.specs.Decoded.{kindIn}
 use Rattle.words.specs.declared.word.Kind.{Kind as Case}
-use Rattle.words.specs.declared.word.Kind.the-variants.{Entry, Symbol, Empty, Union, Product, Closure, Node, Head, Transition, Epsilon, Source, Other}
+use Rattle.words.specs.declared.word.Kind.the-variants.{Entry, Symbol, Empty, Union, Product, Closure}
+use Rattle.words.specs.declared.word.Kind.the-variants.{Node, Head, Transition, Epsilon, Source, Other}
 use Rattle.words.proofs.word.Kind.{the-type}
 use Rattle.words.proofs.TestLaws.{and-true}
 use Rattle.words.proofs.KindLaws.{kindAt-number, number-kindAt}

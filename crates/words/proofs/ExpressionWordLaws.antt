@@ -5,7 +5,8 @@ use mathlib.Core.Bool.{true, false≢true}
 use mathlib.Core.List.{List}
 use lib.ListN.{length}
 use borrow.Author.Tests.{ltb-true}
-use Rattle.words.specs.Word.{Kind, entryKind, symbolKind, emptyKind, unionKind, productKind, closureKind, nodeKind, headKind, transitionKind, epsilonKind, sourceKind, noKind, kindOf, spareBitsClear, lowByte}
+use Rattle.words.specs.Word.{Kind, entryKind, symbolKind, emptyKind, unionKind, productKind, closureKind, nodeKind}
+use Rattle.words.specs.Word.{headKind, transitionKind, epsilonKind, sourceKind, noKind, kindOf, spareBitsClear, lowByte}
 use Rattle.words.specs.Alphabet.{rankOf, isConstant}
 use Rattle.words.specs.Postfix.{arity}
 use Rattle.words.specs.Expression.{namesAt, isExpressionWord}

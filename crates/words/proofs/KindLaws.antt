@@ -8,7 +8,9 @@ use native.Mathlib.Omega.{arith}
 use lib.Dec.{eqb}
 use borrow.Author.Tests.{eq-eqb, ne-eqb, eqb-true, lt-ltb, le-ltb, ltb-true}
 use Rattle.words.proofs.TestLaws.{Tested, holds, fails, tested, and-true, true-and}
-use Rattle.words.specs.Word.{Kind, entryKind, symbolKind, emptyKind, unionKind, productKind, closureKind, nodeKind, headKind, transitionKind, epsilonKind, sourceKind, noKind, kinds, kindAmong, kindAt, kindNumber, numberOf, kindOf, hasKind, bodyOf, fieldRange, spareBitsClear, isOf, wordOf, lowByte}
+use Rattle.words.specs.Word.{Kind, entryKind, symbolKind, emptyKind, unionKind, productKind, closureKind, nodeKind}
+use Rattle.words.specs.Word.{headKind, transitionKind, epsilonKind, sourceKind, noKind, kinds, kindAmong, kindAt, kindNumber}
+use Rattle.words.specs.Word.{numberOf, kindOf, hasKind, bodyOf, fieldRange, spareBitsClear, isOf, wordOf, lowByte}
 
 -- ---- a kind and its number
 

@@ -56,7 +56,8 @@ module _ {A : Type 0} (f : ℕ → A) where
 
   pub listFrom-offset : (j n i : ℕ) → listFrom (λ k. f (j + k)) i n ≡ listFrom f (j + i) n
   listFrom-offset j zero i = refl
-  listFrom-offset j (suc n) i = ap (λ (t : List A). f (j + i) ∷ t) (listFrom-offset j n (suc i) ∙ ap (λ (k : ℕ). listFrom f k n) (add-suc j i))
+  listFrom-offset j (suc n) i =
+      ap (λ (t : List A). f (j + i) ∷ t) (listFrom-offset j n (suc i) ∙ ap (λ (k : ℕ). listFrom f k n) (add-suc j i))
 
   pub map-listFrom : {B : Type 0} (g : A → B) (n j : ℕ) → map g (listFrom f j n) ≡ listFrom (λ i. g (f i)) j n
   map-listFrom g zero j = refl
@@ -105,7 +106,8 @@ module _ (f : ℕ → Bool) (g : ℕ → ℕ) where
 
 pub count-append : (f : ℕ → Bool) (l k : List ℕ) → count f (l ++ k) ≡ count f l + count f k
 count-append f [] k = sym (zero-add (count f k))
-count-append f (x ∷ l) k = ap (λ (i : ℕ). cond (f x) 1 0 + i) (count-append f l k) ∙ sym (add-assoc (cond (f x) 1 0) (count f l) (count f k))
+count-append f (x ∷ l) k =
+    ap (λ (i : ℕ). cond (f x) 1 0 + i) (count-append f l k) ∙ sym (add-assoc (cond (f x) 1 0) (count f l) (count f k))
 
 -- ---- numbers below a bound
 

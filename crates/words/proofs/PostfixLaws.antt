@@ -17,7 +17,8 @@ use Rattle.words.proofs.TestLaws.{picked, picks}
 -- ---- words that make trees
 
 module _ (arity : ℕ → ℕ) where
-  pub trees-append : (l k : List ℕ) (d m t : ℕ) → treesBy arity d l m ≡ true → treesBy arity m k t ≡ true → treesBy arity d (l ++ k) t ≡ true
+  pub trees-append : (l k : List ℕ) (d m t : ℕ) → treesBy arity d l m ≡ true → treesBy arity m k t ≡ true
+      → treesBy arity d (l ++ k) t ≡ true
   unfolding treesBy
   trees-append [] k d m t h g = rw (eqb-true d m h) g
   trees-append (w ∷ l) k d m t h g =
@@ -44,7 +45,8 @@ module _ (arity : ℕ → ℕ) where
       let p = picked (leb r d) (treesBy arity (d - r + 1) l t) h in
       let le : r ≤ d = leb-true r d (p .0) in
       let q : d + n - r + 1 ≡ d - r + 1 + n = omega arith in
-      picks (leb r (d + n)) (treesBy arity (d + n - r + 1) l (t + n)) (le-leb r (d + n) (omega arith)) (rw q (trees-more l (d - r + 1) t n (p .1)))
+      picks (leb r (d + n)) (treesBy arity (d + n - r + 1) l (t + n)) (le-leb r (d + n) (omega arith))
+      (rw q (trees-more l (d - r + 1) t n (p .1)))
 
   pub trees-same : (l : List ℕ) (d t t′ : ℕ) → treesBy arity d l t ≡ true → treesBy arity d l t′ ≡ true → t ≡ t′
   unfolding treesBy
@@ -55,7 +57,8 @@ module _ (arity : ℕ → ℕ) where
       trees-same l (d - arity w + 1) t t′ (p .1) (q .1)
 
   -- one tree in the place of another
-  pub trees-replace : (f s x b : List ℕ) → oneTreeBy arity s ≡ true → oneTreeBy arity x ≡ true → oneTreeBy arity (f ++ (s ++ b)) ≡ true → oneTreeBy arity (f ++ (x ++ b)) ≡ true
+  pub trees-replace : (f s x b : List ℕ) → oneTreeBy arity s ≡ true → oneTreeBy arity x ≡ true → oneTreeBy arity (f ++ (s ++ b)) ≡ true
+      → oneTreeBy arity (f ++ (x ++ b)) ≡ true
   trees-replace f s x b hs hx h =
       let p = trees-split f (s ++ b) 0 1 h in
       let q = trees-split s b (p .0) 1 (p .2) in
@@ -66,18 +69,21 @@ module _ (arity : ℕ → ℕ) where
       trees-append f (x ++ b) 0 (p .0) 1 (p .1) (trees-append x b (p .0) (1 + p .0) 1 hx′ (rw e at (q .2)))
 
   -- one word more
-  pub trees-unsnoc : (l : List ℕ) (d w t : ℕ) → treesBy arity d (l ++ w ∷ []) t ≡ true → (e : ℕ) × (treesBy arity d l e ≡ true) × (arity w ≤ e) × (t ≡ e - arity w + 1)
+  pub trees-unsnoc : (l : List ℕ) (d w t : ℕ) → treesBy arity d (l ++ w ∷ []) t ≡ true
+      → (m : ℕ) × (treesBy arity d l m ≡ true) × (arity w ≤ m) × (t ≡ m - arity w + 1)
   unfolding treesBy
   trees-unsnoc l d w t h =
       let p = trees-split l (w ∷ []) d t h in
       let q = picked (leb (arity w) (p .0)) (eqb (p .0 - arity w + 1) t) (p .2) in
       (p .0, p .1, leb-true (arity w) (p .0) (q .0), sym (eqb-true (p .0 - arity w + 1) t (q .1)))
 
-  pub trees-snoc : (l : List ℕ) (d w e : ℕ) → treesBy arity d l e ≡ true → arity w ≤ e → treesBy arity d (l ++ w ∷ []) (e - arity w + 1) ≡ true
+  pub trees-snoc : (l : List ℕ) (d w m : ℕ) → treesBy arity d l m ≡ true → arity w ≤ m
+      → treesBy arity d (l ++ w ∷ []) (m - arity w + 1) ≡ true
   unfolding treesBy
-  trees-snoc l d w e h hr =
-      trees-append l (w ∷ []) d e (e - arity w + 1) h
-      (picks (leb (arity w) e) (eqb (e - arity w + 1) (e - arity w + 1)) (le-leb (arity w) e hr) (eq-eqb (e - arity w + 1) (e - arity w + 1) refl))
+  trees-snoc l d w m h hr =
+      trees-append l (w ∷ []) d m (m - arity w + 1) h
+      (picks (leb (arity w) m) (eqb (m - arity w + 1) (m - arity w + 1)) (le-leb (arity w) m hr)
+      (eq-eqb (m - arity w + 1) (m - arity w + 1) refl))
 
 -- ---- where subtrees begin
 
@@ -115,13 +121,16 @@ module _ (arity : ℕ → ℕ) (ch : List ℕ) where
 
   -- an element's subtree begins where its parts begin
   pub start-parts : (i : ℕ) → startOfBy arity ch i ≡ startFromBy arity ch i (arity (getD ch i 0))
-  start-parts i = ap (λ (x : ℕ). startFromBy arity ch x 1) (add-one i) ∙ startFrom-more i 0 ∙ ap (startFromBy arity ch i) (zero-add (arity (getD ch i 0)))
+  start-parts i =
+      ap (λ (x : ℕ). startFromBy arity ch x 1) (add-one i) ∙ startFrom-more i 0
+      ∙ ap (startFromBy arity ch i) (zero-add (arity (getD ch i 0)))
 
   pub start-le : (i : ℕ) → startOfBy arity ch i ≤ i
   start-le i = rw start-parts (startFrom-le i (arity (getD ch i 0)))
 
   -- where no word lacks parts, the run that startFrom finds does make n trees
-  pub run-is : (j n d : ℕ) → j ≤ length ch → treesBy arity 0 (take j ch) d ≡ true → n ≤ d → treesBy arity 0 (slice (startFromBy arity ch j n) j ch) n ≡ true
+  pub run-is : (j n d : ℕ) → j ≤ length ch → treesBy arity 0 (take j ch) d ≡ true → n ≤ d
+      → treesBy arity 0 (slice (startFromBy arity ch j n) j ch) n ≡ true
   unfolding startFromBy treesBy
   run-is zero n d hj h hn =
       let z : 0 ≡ d = eqb-true 0 d h in
@@ -142,7 +151,8 @@ module _ (arity : ℕ → ℕ) (ch : List ℕ) where
   run-start zero n s hs hj h = omega arith
   run-start (suc j) n s hs hj h = go (decLe s j) (run-start j)
     where
-      go : Dec (s ≤ j) → ((n s : ℕ) → s ≤ j → j ≤ length ch → treesBy arity 0 (slice s j ch) n ≡ true → startFromBy arity ch j n ≡ s) → startFromBy arity ch (suc j) n ≡ s
+      go : Dec (s ≤ j) → ((n s : ℕ) → s ≤ j → j ≤ length ch → treesBy arity 0 (slice s j ch) n ≡ true → startFromBy arity ch j n ≡ s)
+          → startFromBy arity ch (suc j) n ≡ s
       go (yes k) ih =
           let r = arity (getD ch j 0) in
           let b = trees-unsnoc arity (slice s j ch) 0 (getD ch j 0) n (rw (run-snoc ch s j k hj) at h) in
@@ -159,40 +169,40 @@ module _ (arity : ℕ → ℕ) (ch : List ℕ) where
 
 -- ---- a node's subtree, what stands before it, and what behind
 
-module _ (arity : ℕ → ℕ) (ch : List ℕ) (e : ℕ) (h : oneTreeBy arity ch ≡ true) (he : e < length ch) where
+module _ (arity : ℕ → ℕ) (ch : List ℕ) (i : ℕ) (h : oneTreeBy arity ch ≡ true) (hi : i < length ch) where
   abbrev front : List ℕ
-  front = take (startOfBy arity ch e) ch
+  front = take (startOfBy arity ch i) ch
 
   abbrev sub : List ℕ
-  sub = slice (startOfBy arity ch e) (e + 1) ch
+  sub = slice (startOfBy arity ch i) (i + 1) ch
 
   abbrev behind : List ℕ
-  behind = drop (e + 1) ch
+  behind = drop (i + 1) ch
 
-  pub front-sub : front ++ sub ≡ take (e + 1) ch
+  pub front-sub : front ++ sub ≡ take (i + 1) ch
   front-sub =
-      let le = start-le arity ch e in
-      ap (λ (l : List ℕ). l ++ sub) (sym (take-take (startOfBy arity ch e) (e + 1) ch (omega arith)))
-      ∙ take-append-drop (startOfBy arity ch e) (take (e + 1) ch)
+      let le = start-le arity ch i in
+      ap (λ (l : List ℕ). l ++ sub) (sym (take-take (startOfBy arity ch i) (i + 1) ch (omega arith)))
+      ∙ take-append-drop (startOfBy arity ch i) (take (i + 1) ch)
 
   pub parts-tree : front ++ (sub ++ behind) ≡ ch
   parts-tree = simp (← append-assoc, front-sub, take-append-drop)
 
   pub sub-tree : oneTreeBy arity sub ≡ true
   sub-tree =
-      let p = trees-split arity (take (e + 1) ch) (drop (e + 1) ch) 0 1 (rw (take-append-drop (e + 1) ch) h) in
-      let u : take (e + 1) ch ≡ take e ch ++ getD ch e 0 ∷ [] = ap (λ (i : ℕ). take i ch) (add-one e) ∙ take-suc ch e 0 he in
-      let b = trees-unsnoc arity (take e ch) 0 (getD ch e 0) (p .0) (subst (λ (l : List ℕ). treesBy arity 0 l (p .0) ≡ true) u (p .1)) in
-      run-is arity ch (e + 1) 1 (p .0) (omega arith) (p .1) (omega (arith, b .3))
+      let p = trees-split arity (take (i + 1) ch) (drop (i + 1) ch) 0 1 (rw (take-append-drop (i + 1) ch) h) in
+      let u : take (i + 1) ch ≡ take i ch ++ getD ch i 0 ∷ [] = ap (λ (k : ℕ). take k ch) (add-one i) ∙ take-suc ch i 0 hi in
+      let b = trees-unsnoc arity (take i ch) 0 (getD ch i 0) (p .0) (subst (λ (l : List ℕ). treesBy arity 0 l (p .0) ≡ true) u (p .1)) in
+      run-is arity ch (i + 1) 1 (p .0) (omega arith) (p .1) (omega (arith, b .3))
 
-  pub splice-tree : (x : List ℕ) → oneTreeBy arity x ≡ true → oneTreeBy arity (spliceBy arity ch e x) ≡ true
+  pub splice-tree : (x : List ℕ) → oneTreeBy arity x ≡ true → oneTreeBy arity (spliceBy arity ch i x) ≡ true
   unfolding spliceBy
   splice-tree x hx = trees-replace arity front sub x behind sub-tree hx (rw parts-tree h)
 
-pub length-splice : (arity : ℕ → ℕ) (ch : List ℕ) (e : ℕ) (x : List ℕ) → e < length ch
-    → length (spliceBy arity ch e x) ≡ startOfBy arity ch e + (length x + length (drop (e + 1) ch))
+pub length-splice : (arity : ℕ → ℕ) (ch : List ℕ) (i : ℕ) (x : List ℕ) → i < length ch
+    → length (spliceBy arity ch i x) ≡ startOfBy arity ch i + (length x + length (drop (i + 1) ch))
 unfolding spliceBy
-length-splice arity ch e x he =
-    let le = start-le arity ch e in
-    length-append (take (startOfBy arity ch e) ch) (x ++ drop (e + 1) ch)
-    ∙ ap₂ (λ (i j : ℕ). i + j) (length-take-le (startOfBy arity ch e) ch (omega arith)) (length-append x (drop (e + 1) ch))
+length-splice arity ch i x hi =
+    let le = start-le arity ch i in
+    length-append (take (startOfBy arity ch i) ch) (x ++ drop (i + 1) ch)
+    ∙ ap₂ (λ (j k : ℕ). j + k) (length-take-le (startOfBy arity ch i) ch (omega arith)) (length-append x (drop (i + 1) ch))

@@ -74,7 +74,8 @@ module _ (arity : ℕ → ℕ) where
     trees-trees none d r = eq-eqb d (d + 0) (omega arith)
     trees-trees (more t ts) d r =
         let e : d + 1 + number ts ≡ d + suc (number ts) = omega arith in
-        rw (← e) (trees-append arity (postfix t) (postfixAll ts) d (d + 1) (d + 1 + number ts) (trees-tree t d (r .0)) (trees-trees ts (d + 1) (r .1)))
+        rw (← e) (trees-append arity (postfix t) (postfixAll ts) d (d + 1) (d + 1 + number ts) (trees-tree t d (r .0))
+        (trees-trees ts (d + 1) (r .1)))
 
   pub oneTree-tree : (t : Tree) → Ranked arity t → oneTreeBy arity (postfix t) ≡ true
   oneTree-tree t r = trees-tree t 0 r

@@ -40,7 +40,8 @@ module _ (arity : ℕ → ℕ) (l : List ℕ) (d i t : ℕ) where
   unfolding treesBy
   trees-lacks r h er e = ap (λ (x : List ℕ). treesBy arity d x t) (drop-step l i h) ∙ rw (← er, lt-leb r d e)
 
-  pub trees-continues : (r : ℕ) → i < length l → r ≡ arity (getD l i 0) → r ≤ d → treesBy arity d (drop i l) t ≡ treesBy arity (d - r + 1) (drop (i + 1) l) t
+  pub trees-continues : (r : ℕ) → i < length l → r ≡ arity (getD l i 0) → r ≤ d
+      → treesBy arity d (drop i l) t ≡ treesBy arity (d - r + 1) (drop (i + 1) l) t
   unfolding treesBy
   trees-continues r h er e = ap (λ (x : List ℕ). treesBy arity d x t) (drop-step l i h) ∙ rw (← er, le-leb r d e)
 

@@ -71,7 +71,8 @@ module _ {A : Type 0} (arity : ℕ → ℕ) (value : ℕ → List A → A) where
       let r = arity w in
       let p = picked (leb r (length t)) (treesBy arity (length t - r + 1) l n) h in
       let q : length t - r + 1 ≡ suc (length (drop r t)) = rw (length-drop r t) (add-one (length t - r)) in
-      framed-more w l t s n (leb-true r (length t) (p .0)) (framed l (on w t ∷ drop r t) s n (subst (λ (x : ℕ). treesBy arity x l n ≡ true) q (p .1)))
+      framed-more w l t s n (leb-true r (length t) (p .0))
+      (framed l (on w t ∷ drop r t) s n (subst (λ (x : ℕ). treesBy arity x l n ≡ true) q (p .1)))
 
   single : (l : List A) → length l ≡ 1 → (r : A) × (l ≡ r ∷ [])
   single [] h = absurd (omega arith)
@@ -130,7 +131,8 @@ module _ {A : Type 0} (arity : ℕ → ℕ) (value : ℕ → List A → A) where
     right-right (w ∷ l) k j s h = rw (add-suc, ← suc-add) (right-right l k (suc j) (on w s ∷ drop (arity w) s) (h .1))
 
     -- the value of the last word is on top of the stack
-    pub right-last : (l : List ℕ) (w j : ℕ) (s t : List A) (v : A) → Right j (l ++ w ∷ []) s → stk (l ++ w ∷ []) s ≡ v ∷ t → f (j + length l) ≡ v
+    pub right-last : (l : List ℕ) (w j : ℕ) (s t : List A) (v : A) → Right j (l ++ w ∷ []) s → stk (l ++ w ∷ []) s ≡ v ∷ t
+        → f (j + length l) ≡ v
     unfolding stackAfterBy
     right-last l w j s t v h e =
         right-right l (w ∷ []) j s h .0 ∙ head-eq-of-cons-eq (sym (stack-append l (w ∷ []) s) ∙ e)

@@ -5,7 +5,8 @@ use mathlib.Core.List.{List}
 use Prim.Native.Nat.{ℕ, zero, suc, _+_, _-_, _<_, _≤_}
 use native.Mathlib.Omega.{arith}
 use lib.ListN.{length, getD, List·getD-eq-default}
-use Rattle.words.specs.Word.{Kind, entryKind, symbolKind, emptyKind, unionKind, productKind, closureKind, nodeKind, headKind, transitionKind, epsilonKind, sourceKind, noKind, kindOf, kindAt, lowByte}
+use Rattle.words.specs.Word.{Kind, entryKind, symbolKind, emptyKind, unionKind, productKind, closureKind, nodeKind}
+use Rattle.words.specs.Word.{headKind, transitionKind, epsilonKind, sourceKind, noKind, kindOf, kindAt, lowByte}
 use Rattle.words.specs.Alphabet.{rankOf}
 use Rattle.words.specs.Postfix.{arityAt, arity}
 use Rattle.words.specs.Shape.{startFromBy, startOfBy}
@@ -66,7 +67,8 @@ module _ {arity : ℕ → ℕ} {ws : List ℕ} {node start needed : ℕ} (b : Ba
   pub backward-short : start ≤ needed → 0 ≡ startOfBy arity ws node
   backward-short h = sym (b .same ∙ startFrom-short arity ws start needed h)
 
-  pub backward-more : (r : ℕ) → 0 < needed → 0 < start → r ≡ arity (getD ws (start - 1) 0) → Backward arity ws node (start - 1) (needed - 1 + r)
+  pub backward-more : (r : ℕ) → 0 < needed → 0 < start → r ≡ arity (getD ws (start - 1) 0)
+      → Backward arity ws node (start - 1) (needed - 1 + r)
   backward-more r hn hs e =
       let low = b .low in
       let p : start ≡ suc (start - 1) = omega arith in

@@ -45,7 +45,8 @@ module _ {A : Type 0} (arity : ℕ → ℕ) (value : ℕ → List A → A) where
 
   -- what stands before the subtree makes no difference
   stack-subtree : (ws : List ℕ) (i : ℕ) (t : Tree) → TreeOf arity (subtreeOfBy arity ws i) t
-      → stackAfterBy arity value (take (i + 1) ws) [] ≡ fold value t ∷ stackAfterBy arity value (take (startOfBy arity ws i) (take (i + 1) ws)) []
+      → stackAfterBy arity value (take (i + 1) ws) []
+      ≡ fold value t ∷ stackAfterBy arity value (take (startOfBy arity ws i) (take (i + 1) ws)) []
   stack-subtree ws i t h =
       let front = take (startOfBy arity ws i) (take (i + 1) ws) in
       ap (λ (l : List ℕ). stackAfterBy arity value l []) (sym (take-append-drop (startOfBy arity ws i) (take (i + 1) ws)))

@@ -73,7 +73,8 @@ module _ (arity : ℕ → ℕ) where
 
   ranked-reverse : (l : List Tree) → AllRanked arity l → AllRanked arity (reverse l)
   ranked-reverse [] h = tt
-  ranked-reverse (t ∷ l) h = subst (AllRanked arity) (sym (reverse-cons t l)) (ranked-append (reverse l) (t ∷ []) (ranked-reverse l (h .1)) (h .0, tt))
+  ranked-reverse (t ∷ l) h =
+      subst (AllRanked arity) (sym (reverse-cons t l)) (ranked-append (reverse l) (t ∷ []) (ranked-reverse l (h .1)) (h .0, tt))
 
   ranked-row : (l : List Tree) → AllRanked arity l → RankedAll arity (row l)
   ranked-row [] h = tt
@@ -110,8 +111,10 @@ module _ (arity : ℕ → ℕ) where
     more-words : onStack (built w kids ∷ drop (arity w) s) ≡ onStack s ++ w ∷ []
     more-words =
         sym (append-assoc (onStack (drop (arity w) s)) (postfixAll (row kids)) (w ∷ []))
-        ∙ ap (λ (x : List ℕ). (onStack (drop (arity w) s) ++ x) ++ w ∷ []) (sym (onStack-row kids) ∙ ap onStack (reverse-reverse (take (arity w) s)))
-        ∙ ap (λ (x : List ℕ). x ++ w ∷ []) (sym (onStack-append (take (arity w) s) (drop (arity w) s)) ∙ ap onStack (take-append-drop (arity w) s))
+        ∙ ap (λ (x : List ℕ). (onStack (drop (arity w) s) ++ x) ++ w ∷ [])
+        (sym (onStack-row kids) ∙ ap onStack (reverse-reverse (take (arity w) s)))
+        ∙ ap (λ (x : List ℕ). x ++ w ∷ [])
+        (sym (onStack-append (take (arity w) s) (drop (arity w) s)) ∙ ap onStack (take-append-drop (arity w) s))
 
   -- words that make n trees on a stack are read as the words of n trees
   read-stack : (ws : List ℕ) (s : List Tree) (n : ℕ) → AllRanked arity s → treesBy arity (length s) ws n ≡ true
@@ -123,7 +126,9 @@ module _ (arity : ℕ → ℕ) where
       let p = picked (leb r (length s)) (treesBy arity (length s - r + 1) ws n) e in
       let le : r ≤ length s = leb-true r (length s) (p .0) in
       let q : length s - r + 1 ≡ suc (length (drop r s)) = rw (length-drop r s) (add-one (length s - r)) in
-      let b = read-stack ws (built w (reverse (take r s)) ∷ drop r s) n (more-ranked w s le h) (subst (λ (x : ℕ). treesBy arity x ws n ≡ true) q (p .1)) in
+      let b =
+      read-stack ws (built w (reverse (take r s)) ∷ drop r s) n (more-ranked w s le h)
+      (subst (λ (x : ℕ). treesBy arity x ws n ≡ true) q (p .1)) in
       let g : onStack (built w (reverse (take r s)) ∷ drop r s) ++ ws ≡ onStack s ++ w ∷ ws =
       ap (λ (x : List ℕ). x ++ ws) (more-words w s le h) ∙ append-assoc (onStack s) (w ∷ []) ws in
       (b .0, record { ranked = b .1 .ranked; words = b .1 .words ∙ g; height = b .1 .height })

@@ -12,7 +12,8 @@ use Rattle.words.specs.Postfix.{arity, arityAt}
 use Rattle.words.specs.Chapter.{symbolOf, isNode}
 use Rattle.words.specs.Expression.{namesAt, isExpressionWord}
 use Rattle.words.proofs.TestLaws.{and-true, true-and}
-use Rattle.words.proofs.KindLaws.{kindOf-wordOf, bodyOf-wordOf, lowByte-wordOf, kindOf-hasKind, word-wordOf, fieldRange-fits, isOf-facts, isOf-wordOf}
+use Rattle.words.proofs.KindLaws.{kindOf-wordOf, bodyOf-wordOf, lowByte-wordOf, kindOf-hasKind}
+use Rattle.words.proofs.KindLaws.{word-wordOf, fieldRange-fits, isOf-facts, isOf-wordOf}
 
 -- ---- arity
 
@@ -76,7 +77,8 @@ isExpressionWord-facts a w k e h =
       word = word-wordOf k w (kindOf-hasKind k w (λ q. false≢true (rw q at n)) e);
     }
 
-pub isExpressionWord-wordOf : (a : List ℕ) (k : Kind) (b : ℕ) → b < fieldRange k → namesAt a (lowByte b) k ≡ true → isExpressionWord a (wordOf k b) ≡ true
+pub isExpressionWord-wordOf : (a : List ℕ) (k : Kind) (b : ℕ) → b < fieldRange k → namesAt a (lowByte b) k ≡ true
+    → isExpressionWord a (wordOf k b) ≡ true
 unfolding isExpressionWord spareBitsClear
 isExpressionWord-wordOf a k b h n =
     let l : b < 0x1000_0000 = omega (arith, fieldRange-fits k) in

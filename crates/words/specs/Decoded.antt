@@ -1,7 +1,9 @@
 -- The kinds as the code has them: the enum `Kind` of src/word.rt.
-use Rattle.words.specs.Word.{Kind, entryKind, symbolKind, emptyKind, unionKind, productKind, closureKind, nodeKind, headKind, transitionKind, epsilonKind, sourceKind, noKind}
+use Rattle.words.specs.Word.{Kind, entryKind, symbolKind, emptyKind, unionKind, productKind, closureKind}
+use Rattle.words.specs.Word.{nodeKind, headKind, transitionKind, epsilonKind, sourceKind, noKind}
 use Rattle.words.specs.declared.word.Kind.{Kind as Case}
-use Rattle.words.specs.declared.word.Kind.the-variants.{Entry, Symbol, Empty, Union, Product, Closure, Node, Head, Transition, Epsilon, Source, Other}
+use Rattle.words.specs.declared.word.Kind.the-variants.{Entry, Symbol, Empty, Union, Product, Closure}
+use Rattle.words.specs.declared.word.Kind.the-variants.{Node, Head, Transition, Epsilon, Source, Other}
 
 -- document 01's kind of each case; `kindNumber` has its number
 abbrev pub kindIn : Case → Kind

@@ -6,7 +6,8 @@ use lib.ListN.{length}
 use lib.Dec.{ltb, eqb}
 use Rattle.words.specs.Lists.{all}
 use Rattle.words.specs.Refusal.{Refusals, refusal}
-use Rattle.words.specs.Word.{Kind, entryKind, symbolKind, emptyKind, unionKind, productKind, closureKind, nodeKind, headKind, transitionKind, epsilonKind, sourceKind, noKind, kindOf, spareBitsClear, lowByte}
+use Rattle.words.specs.Word.{Kind, entryKind, symbolKind, emptyKind, unionKind, productKind, closureKind, nodeKind}
+use Rattle.words.specs.Word.{headKind, transitionKind, epsilonKind, sourceKind, noKind, kindOf, spareBitsClear, lowByte}
 use Rattle.words.specs.Alphabet.{isSymbol, isConstant}
 use Rattle.words.specs.Postfix.{notOneTree}
 

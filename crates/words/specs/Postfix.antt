@@ -3,9 +3,11 @@
 use Prim.Native.Nat.{ℕ}
 use mathlib.Core.List.{List}
 use mathlib.Core.Bool.{Bool}
-use Rattle.words.specs.Word.{Kind, entryKind, symbolKind, emptyKind, unionKind, productKind, closureKind, nodeKind, headKind, transitionKind, epsilonKind, sourceKind, noKind, kindOf, lowByte}
+use Rattle.words.specs.Word.{Kind, entryKind, symbolKind, emptyKind, unionKind, productKind, closureKind, nodeKind}
+use Rattle.words.specs.Word.{headKind, transitionKind, epsilonKind, sourceKind, noKind, kindOf, lowByte}
 use Rattle.words.specs.Alphabet.{rankOf}
-use Rattle.words.specs.Shape.{treesBy, oneTreeBy, notOneTreeBy, startFromBy, startOfBy, subtreeOfBy, isAncestorBy, depthOfBy, spliceBy, valueOnBy, valuesBy, stackAfterBy, stackGivenBy, childrenOfBy}
+use Rattle.words.specs.Shape.{treesBy, oneTreeBy, notOneTreeBy, startFromBy, startOfBy, subtreeOfBy, isAncestorBy}
+use Rattle.words.specs.Shape.{depthOfBy, spliceBy, valueOnBy, valuesBy, stackAfterBy, stackGivenBy, childrenOfBy}
 
 -- how many children (document 01's parts) a word of a kind takes, where `rank` is the rank of its symbol
 abbrev pub arityAt : ℕ → Kind → ℕ

@@ -49,7 +49,7 @@ module _ (arity : ℕ → ℕ) where
   spliceBy ws i xs = take (startOfBy ws i) ws ++ (xs ++ drop (i + 1) ws)
 
 -- Words are read with a stack of values, the last on top. A word takes as many values as its arity from the top; its own
--- value comes from the word and from theirs, from left to right, and goes on the stack.
+-- value comes from the word and from theirs, from left to right, and is put on the stack.
 module _ {A : Type 0} (arity : ℕ → ℕ) (value : ℕ → List A → A) where
   unfoldable pub valueOnBy : ℕ → List A → A
   valueOnBy w stack = value w (reverse (take (arity w) stack))

@@ -20,7 +20,8 @@ sub-i : tie.Need-sub-i Inv-loop μ-loop
 sub-i c = omega arith
 
 put-word-requires : tie.Need-put-word-requires Inv-loop μ-loop
-put-word-requires c κs = indexed-insertable (c .before .before .loop .inv) _ (omega arith) (c .before .before .before .before .before .pre .few)
+put-word-requires c κs =
+    indexed-insertable (c .before .before .loop .inv) _ (omega arith) (c .before .before .before .before .before .pre .few)
 
 loop-less : tie.Need-loop-less Inv-loop μ-loop
 loop-less c = omega arith
@@ -29,7 +30,8 @@ loop-again : tie.Need-loop-again Inv-loop μ-loop
 loop-again c = indexed-more (c .before .before .before .before .before .loop .inv) _ (omega arith) (c .before .before .put-word .ensures)
 
 same-length : tie.Need-same-length Inv-loop μ-loop
-same-length c = c .before .loop .inv .size ∙ sym (ap length (c .before .before .before .before .pre .zeros) ∙ length-replicate {A = ℕ} 3328 0)
+same-length c =
+    c .before .loop .inv .size ∙ sym (ap length (c .before .before .before .before .pre .zeros) ∙ length-replicate {A = ℕ} 3328 0)
 
 returns : tie.Need-returns Inv-loop μ-loop
 returns c = indexed-end (c .before .loop .inv) (omega arith)

@@ -1,4 +1,5 @@
--- `propagation::recompute` meets its contract: the words that the node gets are compared with those that stood there, which are kept beside.
+-- `propagation::recompute` meets its contract: the words that the node gets are compared with those that stood there and are
+-- kept beside.
 use native.Mathlib.Omega.{arith}
 use Prim.Native.Nat.{ℕ}
 use lib.ListN.{length-replicate}

@@ -105,7 +105,7 @@ push-constants-requires c κs =
     record {
       few = rw (p .constants) (h .fewConstants);
       symbols = constants-symbols _ _ (p .constants) (h .few);
-      room = omega arith;
+      fits = omega arith;
     }
 
 write-words-requires : tie.Need-write-words-requires

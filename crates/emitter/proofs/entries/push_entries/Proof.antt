@@ -4,7 +4,7 @@ use native.Mathlib.Omega.{arith}
 use lib.ListN.{length}
 use borrow.Author.Needs.{needs}
 use Rattle.emitter.specs.Emission.{targetsIn}
-use Rattle.emitter.proofs.EntryEpsilonLaws.{EntriesWritten, entriesWritten-none, entriesWritten-room}
+use Rattle.emitter.proofs.EntryEpsilonLaws.{EntriesWritten, entriesWritten-none, entriesWritten-fits}
 use Rattle.emitter.proofs.EntryEpsilonLaws.{entriesWritten-more, entriesWritten-end}
 use Rattle.emitter.proofs.entries.push_entries.Statement.{statement}
 use Rattle.emitter.proofs.entries.push_entries.Tie as tie
@@ -28,7 +28,7 @@ push-entry-requires c κs =
         few = p .0 .few;
         children = p .0 .children;
         low = p .0 .low;
-        room = entriesWritten-room (c .before .before .loop .inv) h (p .0 .few) (p .0 .room);
+        fits = entriesWritten-fits (c .before .before .loop .inv) h (p .0 .few) (p .0 .fits);
       },
       (h, p .1),
     )

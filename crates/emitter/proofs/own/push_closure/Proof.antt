@@ -37,9 +37,11 @@ push-epsilon-requires c κs = search needs
 
 push-entries-requires : tie.Need-push-entries-requires
 push-entries-requires c κs =
-    let p = c .before .before .before .before .before .before .before .before .before .before .before .before .before .before .before .before .before .before .before .pre in
+    let p = c .before .before .before .before .before .before .before .before .before .before .before .before .before .before .before
+    .before .before .before .before .pre in
     let one = p .1 .0 in (
-      emits-later _ _ _ _ _ (p .0) (let m = wrote-next _ _ _ _ _ _ (c .before .before .before .before .before .before .before .before .before .push-to .ensures) in
+      emits-later _ _ _ _ _ (p .0) (let m = wrote-next _ _ _ _ _ _
+          (c .before .before .before .before .before .before .before .before .before .push-to .ensures) in
           let n = wrote-next _ _ _ _ _ _ (c .before .before .before .push-epsilon .ensures) in omega arith),
       omega arith,
     )
@@ -49,14 +51,19 @@ same-length c = search needs
 
 returns : tie.Need-returns
 returns c =
-    let a = c .before .before .before .before .before .before .before .before .before .before .before .before .before .before .before .before .before .before .before .before .before .before .args in
-    let p = c .before .before .before .before .before .before .before .before .before .before .before .before .before .before .before .before .before .before .before .before .before .before .pre in
-    let x = c .before .before .before .before .before .before .before .before .before .before .before .before .before .exit-of .ensures .0 in
+    let a = c .before .before .before .before .before .before .before .before .before .before .before .before .before .before .before
+    .before .before .before .before .before .before .before .args in
+    let p = c .before .before .before .before .before .before .before .before .before .before .before .before .before .before .before
+    .before .before .before .before .before .before .before .pre in
+    let x =
+    c .before .before .before .before .before .before .before .before .before .before .before .before .before .exit-of .ensures .0 in
     let y = c .before .before .before .before .before .before .before .exit-of2 .ensures .0 in
     closure-own (a .constants .now) (a .ports .now) _ _ _ _ _ _ _ _ _ _ _ (p .1 .0) x
     (to-entry (a .constants .now) (getD (a .ports .now) 0 0) _ (a .c) _ _ _ _ _ _
-    (c .before .before .before .before .before .before .before .before .before .before .before .before .before .before .before .before .entry-at .ensures)
-    (c .before .before .before .before .before .before .before .before .before .before .before .before .before .before .before .before .before .index-of .ensures .1)
+    (c .before .before .before .before .before .before .before .before .before .before .before .before .before .before .before
+    .before .entry-at .ensures)
+    (c .before .before .before .before .before .before .before .before .before .before .before .before .before .before .before .before
+    .before .index-of .ensures .1)
     (c .before .before .before .before .before .before .before .before .before .before .before .before .push-to .ensures))
     (rw (y, ← x) at (c .before .before .before .before .before .before .push-epsilon .ensures))
     (c .before .before .push-entries .ensures)

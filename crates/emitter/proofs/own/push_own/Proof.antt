@@ -7,7 +7,8 @@ use Rattle.words.specs.Word.{symbolKind, unionKind, productKind, closureKind}
 use Rattle.words.specs.declared.word.Kind.the-variants.{Symbol, Union, Product, Closure}
 use Rattle.words.proofs.DecodedLaws.{told-number, left-number}
 use Rattle.automaton.specs.Numbering.{fullPort}
-use Rattle.emitter.proofs.KindLaws.{own-none, own-symbol, own-union, own-product, own-closure, own-other, wrote-transitions, wrote-no-transitions}
+use Rattle.emitter.proofs.OwnKindLaws.{own-none, own-symbol, own-union, own-product, own-closure}
+use Rattle.emitter.proofs.OwnKindLaws.{own-other, wrote-transitions, wrote-no-transitions}
 use Rattle.emitter.proofs.own.push_own.Statement.{statement}
 use Rattle.emitter.proofs.own.push_own.Tie as tie
 

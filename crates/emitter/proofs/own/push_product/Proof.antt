@@ -34,18 +34,21 @@ exit-of-requires-2 c κs = search needs
 
 push-to-requires : tie.Need-push-to-requires
 push-to-requires c κs =
-    let p = c .before .before .before .before .before .before .before .before .before .before .before .before .before .before .before .pre .0 in
-    let room = p .room in
+    let p =
+    c .before .before .before .before .before .before .before .before .before .before .before .before .before .before .before .pre .0 in
+    let fits = p .fits in
     let n = wrote-next _ _ _ _ _ _ (c .before .before .before .before .before .push-epsilon .ensures) in
     let x = c .exit-of2 .ensures .1 in
     (omega arith, (omega arith, c .before .before .before .before .before .before .before .before .before .entry-at .ensures .low))
 
 push-entries-requires : tie.Need-push-entries-requires
 push-entries-requires c κs =
-    let p = c .before .before .before .before .before .before .before .before .before .before .before .before .before .before .before .before .before .before .before .pre in
+    let p = c .before .before .before .before .before .before .before .before .before .before .before .before .before .before .before
+    .before .before .before .before .pre in
     let two = p .1 .0 in (
       emits-later _ _ _ _ _ (p .0) (let m = wrote-next _ _ _ _ _ _
-          (c .before .before .before .before .before .before .before .before .before .push-epsilon .ensures) in let n = wrote-next _ _ _ _ _ _
+          (c .before .before .before .before .before .before .before .before .before .push-epsilon .ensures) in
+          let n = wrote-next _ _ _ _ _ _
           (c .before .before .before .push-to .ensures) in omega arith),
       omega arith,
     )
@@ -55,15 +58,19 @@ same-length c = search needs
 
 returns : tie.Need-returns
 returns c =
-    let a = c .before .before .before .before .before .before .before .before .before .before .before .before .before .before .before .before .before .before .before .before .before .before .args in
-    let p = c .before .before .before .before .before .before .before .before .before .before .before .before .before .before .before .before .before .before .before .before .before .before .pre in
+    let a = c .before .before .before .before .before .before .before .before .before .before .before .before .before .before .before
+    .before .before .before .before .before .before .before .args in
+    let p = c .before .before .before .before .before .before .before .before .before .before .before .before .before .before .before
+    .before .before .before .before .before .before .before .pre in
     product-own (a .constants .now) (a .ports .now) _ _ _ _ _ _ _ _ _ _ _ _ (p .1 .0)
     (c .before .before .before .before .before .before .before .before .before .before .before .before .before .exit-of .ensures .0)
     (c .before .before .before .before .before .before .before .exit-of2 .ensures .0)
     (c .before .before .before .before .before .before .before .before .before .before .before .before .push-epsilon .ensures)
     (to-entry (a .constants .now) (getD (a .ports .now) 0 0) _ (a .c) _ _ _ _ _ _
-    (c .before .before .before .before .before .before .before .before .before .before .before .before .before .before .before .before .entry-at .ensures)
-    (c .before .before .before .before .before .before .before .before .before .before .before .before .before .before .before .before .before .index-of .ensures .1)
+    (c .before .before .before .before .before .before .before .before .before .before .before .before .before .before .before
+    .before .entry-at .ensures)
+    (c .before .before .before .before .before .before .before .before .before .before .before .before .before .before .before .before
+    .before .index-of .ensures .1)
     (c .before .before .before .before .before .before .push-to .ensures))
     (c .before .before .push-entries .ensures)
 

@@ -39,7 +39,7 @@ push-requires c κs =
     let n = wrote-next _ _ _ _ _ _ (w .wrote) in
     let t = c .before .before .before .loop-test .taken in
     let l = p .0 in
-    let room = p .1 in
+    let fits = p .1 in
     omega arith
 
 add-i : tie.Need-add-i Inv-loop μ-loop

@@ -15,7 +15,8 @@ push-sources-requires c κs = search needs
 push-entries-requires : tie.Need-push-entries-requires
 push-entries-requires c κs =
     let p = c .before .before .before .before .before .before .before .before .before .before .before .before .pre in (
-      emits-later _ _ _ _ _ (p .0) (let m = wrote-next _ _ _ _ _ _ (c .before .before .before .before .before .before .before .push-transition .ensures) in
+      emits-later _ _ _ _ _ (p .0) (let m = wrote-next _ _ _ _ _ _
+          (c .before .before .before .before .before .before .before .push-transition .ensures) in
           let n = wrote-next _ _ _ _ _ _ (c .before .before .before .push-sources .ensures) in omega arith),
       p .1 .1,
     )
@@ -25,7 +26,8 @@ same-length c = search needs
 
 returns : tie.Need-returns
 returns c =
-    let a = c .before .before .before .before .before .before .before .before .before .before .before .before .before .before .before .args in
+    let a =
+    c .before .before .before .before .before .before .before .before .before .before .before .before .before .before .before .args in
     symbol-own (a .constants .now) (a .ports .now) _ _ _ _ _ _ _ _ _ _
     (c .before .before .before .before .before .before .before .before .before .before .push-transition .ensures)
     (c .before .before .before .before .before .before .push-sources .ensures)

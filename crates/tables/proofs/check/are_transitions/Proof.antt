@@ -2,7 +2,7 @@
 use Prim.Native.Nat.{_-_}
 use lib.ListN.{length}
 use borrow.Author.Needs.{needs}
-use Rattle.tables.proofs.ScanLaws.{Checked, checked-none, checked-more, checked-fails, checked-end}
+use Rattle.tables.proofs.TableScanLaws.{Checked, checked-none, checked-more, checked-fails, checked-end}
 use Rattle.tables.proofs.check.are_transitions.Statement.{statement}
 use Rattle.tables.proofs.check.are_transitions.Tie as tie
 

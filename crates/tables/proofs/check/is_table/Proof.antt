@@ -2,7 +2,7 @@
 use mathlib.Core.Path.{sym, _∙_}
 use borrow.Author.Needs.{needs}
 use borrow.Author.Tests.{not-true, not-false}
-use Rattle.tables.proofs.ScanLaws.{table-empty, table-long, table-no-head, table-value}
+use Rattle.tables.proofs.TableScanLaws.{table-empty, table-long, table-no-head, table-value}
 use Rattle.tables.proofs.check.is_table.Statement.{statement}
 use Rattle.tables.proofs.check.is_table.Tie as tie
 

@@ -9,7 +9,8 @@ use Rattle.words.specs.Word.{transitionKind, epsilonKind, sourceKind}
 use Rattle.words.specs.declared.word.Kind.the-variants.{Transition, Epsilon, Source}
 use Rattle.words.specs.Alphabet.{rankOf}
 use Rattle.words.proofs.DecodedLaws.{told-number, left-number}
-use Rattle.tables.proofs.CheckLaws.{spare-bits, state-outside, no-source, no-table-word, symbol-unknown, above-outside, transition-next, epsilon-next, source-next}
+use Rattle.tables.proofs.CheckLaws.{spare-bits, state-outside, no-source, no-table-word, symbol-unknown}
+use Rattle.tables.proofs.CheckLaws.{above-outside, transition-next, epsilon-next, source-next}
 use Rattle.tables.proofs.check.sources_next.Statement.{statement}
 use Rattle.tables.proofs.check.sources_next.Tie as tie
 

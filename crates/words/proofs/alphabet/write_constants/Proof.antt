@@ -4,7 +4,8 @@ use mathlib.Core.Path.{_∙_, sym}
 use mathlib.Core.Logic.{⊎-elim}
 use Prim.Native.Nat.{_-_}
 use borrow.Author.Needs.{needs}
-use Rattle.words.proofs.ConstantScanLaws.{Written, written-none, written-length, written-more, written-past, written-skip, written-end}
+use Rattle.words.proofs.ConstantScanLaws.{Written, written-none, written-length, written-more}
+use Rattle.words.proofs.ConstantScanLaws.{written-past, written-skip, written-end}
 use Rattle.words.proofs.alphabet.write_constants.Statement.{statement}
 use Rattle.words.proofs.alphabet.write_constants.Tie as tie
 

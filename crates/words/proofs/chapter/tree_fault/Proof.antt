@@ -5,12 +5,13 @@ use Prim.Native.Nat.{_-_}
 use lib.ListN.{length}
 use borrow.Author.Needs.{needs}
 use borrow.Author.Tests.{not-true, not-false}
-use Rattle.words.proofs.ChapterLaws.{Judged, judged-none, judged-no-node, judged-lacks, judged-later, judged-more, judged-one, judged-not-one}
+use Rattle.words.proofs.ChapterLaws.{ChapterJudged, judged-none, judged-no-node, judged-lacks}
+use Rattle.words.proofs.ChapterLaws.{judged-later, judged-more, judged-one, judged-not-one}
 use Rattle.words.proofs.chapter.tree_fault.Statement.{statement}
 use Rattle.words.proofs.chapter.tree_fault.Tie as tie
 
 abbrev Inv-loop : tie.InvT-loop
-Inv-loop alphabet words made₀ i₀ made i = Judged alphabet words made i
+Inv-loop alphabet words made₀ i₀ made i = ChapterJudged alphabet words made i
 
 abbrev μ-loop : tie.MeasureT-loop
 μ-loop alphabet words made₀ i₀ made i = length words - i

@@ -12,7 +12,8 @@ use Rattle.words.proofs.expression.expression_words_only.Statement.{sta
 use Rattle.words.proofs.expression.expression_words_only.Tie as tie
 
 abbrev Inv-loop : tie.InvT-loop
-Inv-loop alphabet expression i₀ i = (i ≤ length expression) × (all (isExpressionWord alphabet) expression ≡ all (isExpressionWord alphabet) (drop i expression))
+Inv-loop alphabet expression i₀ i =
+    (i ≤ length expression) × (all (isExpressionWord alphabet) expression ≡ all (isExpressionWord alphabet) (drop i expression))
 
 abbrev μ-loop : tie.MeasureT-loop
 μ-loop alphabet expression i₀ i = length expression - i

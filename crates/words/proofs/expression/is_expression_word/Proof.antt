@@ -67,17 +67,20 @@ is-constant-requires-2 c κs = search needs
 returns-2 : tie.Need-returns-2
 returns-2 c =
     let t = c .before .before in
-    sym (named _ _ _ _ _ (t .before .before .spare-bits-clear .ensures) (t .before .if1 .left) (t .kind-of .ensures) (c .enum-told .given .1))
+    sym (named _ _ _ _ _ (t .before .before .spare-bits-clear .ensures) (t .before .if1 .left) (t .kind-of .ensures)
+    (c .enum-told .given .1))
 
 returns-3 : tie.Need-returns-3
 returns-3 c =
     let t = c .before .before in
-    sym (named _ _ _ _ _ (t .before .before .spare-bits-clear .ensures) (t .before .if1 .left) (t .kind-of .ensures) (c .enum-told2 .given .1))
+    sym (named _ _ _ _ _ (t .before .before .spare-bits-clear .ensures) (t .before .if1 .left) (t .kind-of .ensures)
+    (c .enum-told2 .given .1))
 
 returns-4 : tie.Need-returns-4
 returns-4 c =
     let t = c .before .before in
-    sym (named _ _ _ _ _ (t .before .before .spare-bits-clear .ensures) (t .before .if1 .left) (t .kind-of .ensures) (c .enum-told3 .given .1))
+    sym (named _ _ _ _ _ (t .before .before .spare-bits-clear .ensures) (t .before .if1 .left) (t .kind-of .ensures)
+    (c .enum-told3 .given .1))
 
 returns-5 : tie.Need-returns-5
 returns-5 c =

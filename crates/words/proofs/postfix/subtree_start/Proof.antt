@@ -4,7 +4,8 @@ use mathlib.Core.Path.{sym}
 use native.Mathlib.Omega.{arith}
 use borrow.Author.Needs.{needs}
 use Rattle.words.specs.Postfix.{arity}
-use Rattle.words.proofs.StartLaws.{arity-most, arity-missing, start-missing, Backward, backward-first, backward-short, backward-more, backward-end}
+use Rattle.words.proofs.StartLaws.{arity-most, arity-missing, start-missing, Backward}
+use Rattle.words.proofs.StartLaws.{backward-first, backward-short, backward-more, backward-end}
 use Rattle.words.proofs.postfix.subtree_start.Statement.{statement}
 use Rattle.words.proofs.postfix.subtree_start.Tie as tie
 

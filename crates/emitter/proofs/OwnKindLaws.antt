@@ -23,7 +23,8 @@ module _ (w : ℕ) (E : Port) (cs : List ℕ) where
   own-none [] h = refl
   own-none (p ∷ ps) h = absurd (omega arith)
 
-  pub own-symbol : (ps : List ℕ) → (length ps ≡ 0 → ⊥) → numberOf w ≡ kindNumber symbolKind → own ps ≡ symbolTransitions (lowByte w) E (portsIn cs ps)
+  pub own-symbol : (ps : List ℕ) → (length ps ≡ 0 → ⊥) → numberOf w ≡ kindNumber symbolKind
+      → own ps ≡ symbolTransitions (lowByte w) E (portsIn cs ps)
   unfolding ownTransitions
   own-symbol [] n e = absurd (n refl)
   own-symbol (p ∷ ps) n e = rw (eq-eqb (numberOf w) (kindNumber symbolKind) e)
@@ -33,13 +34,19 @@ module _ (w : ℕ) (E : Port) (cs : List ℕ) where
   own-union ps h e =
       ap own (both ps h) ∙ rw (ne-eqb (numberOf w) (kindNumber symbolKind) (λ z. omega arith), eq-eqb (numberOf w) (kindNumber unionKind) e)
 
-  pub own-product : (ps : List ℕ) → length ps ≡ 2 → numberOf w ≡ kindNumber productKind → own ps ≡ productTransitions (lowByte w) E (F cs ps) (G cs ps)
+  pub own-product : (ps : List ℕ) → length ps ≡ 2 → numberOf w ≡ kindNumber productKind
+      → own ps ≡ productTransitions (lowByte w) E (F cs ps) (G cs ps)
   unfolding ownTransitions
   own-product ps h e =
       ap own (both ps h)
-      ∙ rw (ne-eqb (numberOf w) (kindNumber symbolKind) (λ z. omega arith), ne-eqb (numberOf w) (kindNumber unionKind) (λ z. omega arith), eq-eqb (numberOf w) (kindNumber productKind) e)
+      ∙ rw (
+        ne-eqb (numberOf w) (kindNumber symbolKind) (λ z. omega arith),
+        ne-eqb (numberOf w) (kindNumber unionKind) (λ z. omega arith),
+        eq-eqb (numberOf w) (kindNumber productKind) e,
+      )
 
-  pub own-closure : (ps : List ℕ) → length ps ≡ 1 → numberOf w ≡ kindNumber closureKind → own ps ≡ closureTransitions (lowByte w) E (F cs ps)
+  pub own-closure : (ps : List ℕ) → length ps ≡ 1 → numberOf w ≡ kindNumber closureKind
+      → own ps ≡ closureTransitions (lowByte w) E (F cs ps)
   unfolding ownTransitions
   own-closure ps h e =
       ap own (single ps h)
@@ -52,14 +59,21 @@ module _ (w : ℕ) (E : Port) (cs : List ℕ) where
       )
 
   -- a word of any other kind has none
-  pub own-other : (ps : List ℕ) → (numberOf w ≡ kindNumber symbolKind → ⊥) → (numberOf w ≡ kindNumber unionKind → ⊥) → (numberOf w ≡ kindNumber productKind → ⊥) → (numberOf w ≡ kindNumber closureKind → ⊥) → own ps ≡ []
+  pub own-other : (ps : List ℕ) → (numberOf w ≡ kindNumber symbolKind → ⊥) → (numberOf w ≡ kindNumber unionKind → ⊥)
+      → (numberOf w ≡ kindNumber productKind → ⊥) → (numberOf w ≡ kindNumber closureKind → ⊥) → own ps ≡ []
   unfolding ownTransitions
   own-other [] n₂ n₄ n₅ n₆ = refl
   own-other (p ∷ ps) n₂ n₄ n₅ n₆ =
-      rw (ne-eqb (numberOf w) (kindNumber symbolKind) n₂, ne-eqb (numberOf w) (kindNumber unionKind) n₄, ne-eqb (numberOf w) (kindNumber productKind) n₅, ne-eqb (numberOf w) (kindNumber closureKind) n₆)
+      rw (
+        ne-eqb (numberOf w) (kindNumber symbolKind) n₂,
+        ne-eqb (numberOf w) (kindNumber unionKind) n₄,
+        ne-eqb (numberOf w) (kindNumber productKind) n₅,
+        ne-eqb (numberOf w) (kindNumber closureKind) n₆,
+      )
 
 -- the words of transitions that are written, said otherwise
-pub wrote-transitions : (m at r : ℕ) (ts us : List Transition) (out out′ : List ℕ) → us ≡ ts → Wrote m at (transitionsWords ts) out out′ r → Wrote m at (transitionsWords us) out out′ r
+pub wrote-transitions : (m at r : ℕ) (ts us : List Transition) (out out′ : List ℕ) → us ≡ ts → Wrote m at (transitionsWords ts) out out′ r
+    → Wrote m at (transitionsWords us) out out′ r
 wrote-transitions m at r ts us out out′ e w = rw e w
 
 -- no transitions
