@@ -1,9 +1,9 @@
 -- Laws of kinds: a kind and its number, the word of a kind with given fields, and what `isOf` says of a word.
-use mathlib.Core.Path.{_≡_, refl, ap, _∙_, sym, subst}
+use mathlib.Core.Path.{_≡_, refl, ap, _∙_, sym}
 use mathlib.Core.Bool.{true, false}
 use mathlib.Core.List.{List, [], _∷_}
 use mathlib.Core.Logic.{_⊎_, inl, inr, ⊎-elim}
-use Prim.Native.Nat.{ℕ, zero, suc, _<_, _≤_}
+use Prim.Native.Nat.{ℕ, _<_, _≤_}
 use native.Mathlib.Omega.{arith}
 use lib.Dec.{eqb}
 use borrow.Author.Tests.{eq-eqb, ne-eqb, eqb-true, lt-ltb, le-ltb, ltb-true}
@@ -29,20 +29,6 @@ kindAt-number transitionKind = refl
 kindAt-number epsilonKind = refl
 kindAt-number sourceKind = refl
 
-number-most : (k : Kind) → kindNumber k ≤ 11
-number-most noKind = omega arith
-number-most entryKind = omega arith
-number-most symbolKind = omega arith
-number-most emptyKind = omega arith
-number-most unionKind = omega arith
-number-most productKind = omega arith
-number-most closureKind = omega arith
-number-most nodeKind = omega arith
-number-most headKind = omega arith
-number-most transitionKind = omega arith
-number-most epsilonKind = omega arith
-number-most sourceKind = omega arith
-
 among-cases : (ks : List Kind) (n : ℕ) → (kindNumber (kindAmong ks n) ≡ n) ⊎ (kindAmong ks n ≡ noKind)
 among-cases [] n = inr refl
 among-cases (k ∷ ks) n = go (tested (eqb n (kindNumber k))) (among-cases ks n)
@@ -60,29 +46,20 @@ number-cases n = among-cases kinds n
 pub number-kindAt : (n : ℕ) → (kindAt n ≡ noKind → ⊥) → kindNumber (kindAt n) ≡ n
 number-kindAt n h = ⊎-elim (λ e. e) (λ e. absurd (h e)) (number-cases n)
 
--- n is none of 1 to m, as the last case of a `match` over 1 to m knows it
-abbrev pub NoneOf : ℕ → ℕ → Type 0
-NoneOf zero n = Unit {0}
-NoneOf (suc m) n = NoneOf m n × (n ≡ suc m → ⊥)
+-- A holds, and n is the number of none of these kinds, as the last case of a `match` over them knows it
+abbrev pub NoneOf : List Kind → ℕ → Type 0 → Type 0
+NoneOf [] n A = A
+NoneOf (k ∷ ks) n A = NoneOf ks n (A × (n ≡ kindNumber k → ⊥))
 
-noneOf-above : (m n : ℕ) → NoneOf m n → 0 < n → m < n
-noneOf-above zero n r h = h
-noneOf-above (suc m) n r h =
-    let l = noneOf-above m n (r .0) h in
-    let q = r .1 in
-    omega arith
+among-rest : (ks : List Kind) (n : ℕ) (A : Type 0) → NoneOf ks n A → A × (kindAmong ks n ≡ noKind)
+among-rest [] n A r = (r, refl)
+among-rest (k ∷ ks) n A r =
+    let p = among-rest ks n (A × (n ≡ kindNumber k → ⊥)) r in
+    (p .0 .0, rw (ne-eqb n (kindNumber k) (p .0 .1)) (p .1))
 
-kindAt-outside : (n : ℕ) → n ≤ 11 → (0 < n → 11 < n) → kindAt n ≡ noKind
+pub kindAt-rest : (n : ℕ) → NoneOf kinds n (Unit {0}) → kindAt n ≡ noKind
 unfolding kindAt
-kindAt-outside zero l h = refl
-kindAt-outside (suc n) l h = absurd (let z = h (omega arith) in omega arith)
-
-pub kindAt-rest : (n : ℕ) → NoneOf 11 n → kindAt n ≡ noKind
-kindAt-rest n r =
-    ⊎-elim
-    (λ e. kindAt-outside n (subst (λ (m : ℕ). m ≤ 11) e (number-most (kindAt n))) (noneOf-above 11 n r))
-    (λ e. e)
-    (number-cases n)
+kindAt-rest n r = among-rest kinds n (Unit {0}) r .1
 
 -- ---- the word of a kind with given fields
 
