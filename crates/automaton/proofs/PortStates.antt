@@ -8,15 +8,15 @@ use native.Mathlib.Omega.{arith}
 use native.Mathlib.Nat.{le-refl, le-trans, suc-add, add-suc}
 use lib.ListN.{length, take, drop}
 use lib.Dec.{eqb}
-use borrow.Author.Tests.{eqb-true, not-false}
-use Rattle.words.specs.Word.{symbolKind, kindOf, hasKind, lowByte}
+use borrow.Author.Tests.{eqb-true, ltb-true, not-false}
+use Rattle.words.specs.Word.{symbolKind, hasKind, lowByte}
 use Rattle.words.specs.Alphabet.{constantsOf, isConstant}
 use Rattle.words.specs.Postfix.{arity}
 use Rattle.words.specs.Expression.{isExpressionWord}
 use Rattle.words.proofs.Ascending.{Ascending, end, next, ascending-one, ascending-from}
 use Rattle.words.proofs.AlphabetLaws.{isConstant-zero, zero-isConstant}
 use Rattle.words.proofs.ConstantLaws.{constants-ascending}
-use Rattle.words.proofs.ExpressionWordLaws.{ExpressionWord, symbolWord, emptyWord, unionWord, productWord, closureWord, expressionWord}
+use Rattle.words.proofs.WordLaws.{arity-kind, isExpressionWord-facts}
 use Rattle.words.proofs.KindLaws.{hasKind-kindOf}
 use Rattle.automaton.specs.Numbering.{Port, numbered, hasEntries, statesOf, ownEntry, portOf}
 
@@ -89,14 +89,10 @@ module _ (a : List ℕ) (n w : ℕ) where
 
   -- a symbol word without children is a constant
   own-constant : isExpressionWord a w ≡ true → arity a w ≡ 0 → hasKind symbolKind w ≡ true → isConstant a (lowByte w) ≡ true
-  own-constant h z k = go (expressionWord a w h) (hasKind-kindOf symbolKind w k)
-    where
-      go : ExpressionWord a w → kindOf w ≡ symbolKind → isConstant a (lowByte w) ≡ true
-      go (symbolWord q l r) e = zero-isConstant a (lowByte w) l (sym r ∙ z)
-      go (emptyWord q r) e = let t : _≡_ {A = ℕ} 0 1 = cc in absurd (omega arith)
-      go (unionWord q r) e = absurd (omega arith)
-      go (productWord q c r) e = c
-      go (closureWord q c r) e = c
+  own-constant h z k =
+      let e = hasKind-kindOf symbolKind w k in
+      let known = ltb-true (lowByte w) (length a) (isExpressionWord-facts a w symbolKind e h .names) in
+      zero-isConstant a (lowByte w) known (sym (arity-kind a w symbolKind e) ∙ z)
 
   pub portOf-in : isExpressionWord a w ≡ true → PortIn a n (n + statesOf a w) (portOf a n w)
   unfolding portOf statesOf

@@ -8,7 +8,7 @@ use native.Mathlib.Omega.{arith}
 use native.Mathlib.Nat.{add-zero, add-suc, suc-add, le-refl}
 use lib.ListN.{length, getD}
 use borrow.Author.Tests.{eq-eqb, ne-eqb}
-use Rattle.words.specs.Word.{unionKind, productKind, closureKind, kindAt, kindOf, lowByte}
+use Rattle.words.specs.Word.{Kind, unionKind, productKind, closureKind, kindAt, kindNumber, kindOf, numberOf, lowByte}
 use Rattle.words.specs.Alphabet.{isConstant, constantsOf}
 use Rattle.words.specs.Postfix.{arity}
 use Rattle.words.specs.Expression.{isExpressionWord}
@@ -16,7 +16,7 @@ use Rattle.words.proofs.KindLaws.{kindAt-number}
 use Rattle.words.proofs.Ascending.{Ascending, end, next}
 use Rattle.words.proofs.AlphabetLaws.{constantsOf-isConstant}
 use Rattle.words.proofs.ConstantLaws.{constants-ascending}
-use Rattle.words.proofs.ExpressionWordLaws.{ExpressionWord, symbolWord, emptyWord, unionWord, productWord, closureWord, expressionWord}
+use Rattle.words.proofs.WordLaws.{arity-kind, isExpressionWord-facts}
 use Rattle.automaton.specs.Numbering.{numbered, lookup}
 use Rattle.ports.specs.Ports.{EachOnce}
 use Rattle.emitter.specs.Emission.{ListedConstant, Takes}
@@ -67,31 +67,14 @@ module _ (a cs : List ℕ) (known : cs ≡ constantsOf a) where
   pub word-takes : (ps : List ℕ) (w : ℕ) → isExpressionWord a w ≡ true → length ps ≡ arity a w → Takes cs ps w
   word-takes ps w h r =
       record {
-        union = λ e. union (expressionWord a w h) (ap kindAt e ∙ kindAt-number unionKind);
-        product = λ e. product (expressionWord a w h) (ap kindAt e ∙ kindAt-number productKind);
-        closure = λ e. closure (expressionWord a w h) (ap kindAt e ∙ kindAt-number closureKind);
+        union = λ e. r ∙ arity-kind a w unionKind (told unionKind e);
+        product =
+            λ e. let t = told productKind e in
+            (r ∙ arity-kind a w productKind t, constant-listed (lowByte w) (isExpressionWord-facts a w productKind t h .names));
+        closure =
+            λ e. let t = told closureKind e in
+            (r ∙ arity-kind a w closureKind t, constant-listed (lowByte w) (isExpressionWord-facts a w closureKind t h .names));
       }
     where
-      never : {A : Type 0} → _≡_ {A = ℕ} 0 1 → A
-      never z = absurd (omega arith)
-
-      union : ExpressionWord a w → kindOf w ≡ unionKind → length ps ≡ 2
-      union (symbolWord q l s) e = never (cc)
-      union (emptyWord q s) e = never (cc)
-      union (unionWord q s) e = r ∙ s
-      union (productWord q c s) e = r ∙ s
-      union (closureWord q c s) e = never (cc)
-
-      product : ExpressionWord a w → kindOf w ≡ productKind → (length ps ≡ 2) × ListedConstant cs (lowByte w)
-      product (symbolWord q l s) e = never (cc)
-      product (emptyWord q s) e = never (cc)
-      product (unionWord q s) e = never (cc)
-      product (productWord q c s) e = (r ∙ s, constant-listed (lowByte w) c)
-      product (closureWord q c s) e = never (cc)
-
-      closure : ExpressionWord a w → kindOf w ≡ closureKind → (length ps ≡ 1) × ListedConstant cs (lowByte w)
-      closure (symbolWord q l s) e = never (cc)
-      closure (emptyWord q s) e = never (cc)
-      closure (unionWord q s) e = never (cc)
-      closure (productWord q c s) e = never (cc)
-      closure (closureWord q c s) e = (r ∙ s, constant-listed (lowByte w) c)
+      told : (k : Kind) → numberOf w ≡ kindNumber k → kindOf w ≡ k
+      told k e = ap kindAt e ∙ kindAt-number k

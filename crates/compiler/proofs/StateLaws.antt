@@ -7,14 +7,14 @@ use native.Mathlib.Omega.{arith}
 use native.Mathlib.Numerals.{add-one}
 use lib.ListN.{length, getD, drop}
 use lib.Dec.{eqb}
-use borrow.Author.Tests.{eq-eqb, ne-eqb}
-use Rattle.words.specs.Word.{symbolKind, kindAt, kindOf, numberOf, lowByte, kindNumber}
+use borrow.Author.Tests.{eq-eqb, ne-eqb, ltb-true}
+use Rattle.words.specs.Word.{symbolKind, kindAt, numberOf, lowByte, kindNumber}
 use Rattle.words.specs.Alphabet.{constantsOf}
 use Rattle.words.specs.Postfix.{arity}
 use Rattle.words.specs.Expression.{isExpressionWord}
 use Rattle.words.proofs.KindLaws.{kindAt-number}
 use Rattle.words.proofs.ScanLaws.{drop-step, drop-end}
-use Rattle.words.proofs.ExpressionWordLaws.{ExpressionWord, symbolWord, emptyWord, unionWord, productWord, closureWord, expressionWord}
+use Rattle.words.proofs.WordLaws.{isExpressionWord-facts}
 use Rattle.automaton.specs.Numbering.{Port, hasEntries, statesOf, portOf, statesAfter, fullPort}
 use Rattle.ports.specs.Ports.{entriesIn, exitIn, portIn}
 use Rattle.ports.proofs.PortLaws.{entries-every, entries-none, entries-own}
@@ -102,14 +102,5 @@ module _ (a : List ℕ) (x w r p : ℕ) (e : r ≡ arity a w) (low : x < 2048) w
 
 -- the symbol of a symbol word is one of the alphabet's
 pub symbol-known : (a : List ℕ) (w : ℕ) → isExpressionWord a w ≡ true → numberOf w ≡ kindNumber symbolKind → lowByte w < length a
-symbol-known a w h k = go (expressionWord a w h) (ap kindAt k ∙ kindAt-number symbolKind)
-  where
-    other : _≡_ {A = ℕ} 0 1 → lowByte w < length a
-    other z = absurd (omega arith)
-
-    go : ExpressionWord a w → kindOf w ≡ symbolKind → lowByte w < length a
-    go (symbolWord q l r) e = l
-    go (emptyWord q r) e = other (cc)
-    go (unionWord q r) e = other (cc)
-    go (productWord q c r) e = other (cc)
-    go (closureWord q c r) e = other (cc)
+symbol-known a w h k =
+    ltb-true (lowByte w) (length a) (isExpressionWord-facts a w symbolKind (ap kindAt k ∙ kindAt-number symbolKind) h .names)

@@ -8,12 +8,12 @@ use lib.ListN.{length}
 use lib.Dec.{ltb, leb, eqb}
 use borrow.Author.Tests.{leb-true, ltb-false, eqb-false, not-false}
 use Rattle.words.specs.Lists.{all}
-use Rattle.words.specs.Word.{Kind, entryKind, symbolKind, emptyKind, unionKind, productKind, closureKind, nodeKind}
-use Rattle.words.specs.Word.{headKind, transitionKind, epsilonKind, sourceKind, noKind, kindOf, isOf, lowByte}
+use Rattle.words.specs.Word.{entryKind, kindOf, isOf, lowByte}
 use Rattle.words.specs.Alphabet.{entryRank, isEntry, rankOf, constantsOf, noAlphabet, wrongConstants, alphabetRefusals, alphabetFault}
-use Rattle.words.specs.Postfix.{arity, arityAt}
+use Rattle.words.specs.Postfix.{arity}
 use Rattle.words.proofs.TestLaws.{and-true, or-false}
 use Rattle.words.proofs.RefusalLaws.{refusal-none}
+use Rattle.words.proofs.WordLaws.{arityAt-most}
 
 pub record AcceptedAlphabet (a : List ℕ) : Type 0 where
   pub some : 0 < length a
@@ -51,18 +51,4 @@ alphabet-accepted a h =
 -- no word takes more than four children
 pub arity-most : {a : List ℕ} → AcceptedAlphabet a → (w : ℕ) → arity a w ≤ 4
 unfolding arity
-arity-most {a} h w = go (kindOf w) (h .ranks (lowByte w))
-  where
-    go : {r : ℕ} (k : Kind) → r ≤ 4 → arityAt r k ≤ 4
-    go symbolKind l = l
-    go nodeKind l = l
-    go emptyKind l = omega arith
-    go unionKind l = omega arith
-    go productKind l = omega arith
-    go closureKind l = omega arith
-    go entryKind l = omega arith
-    go headKind l = omega arith
-    go transitionKind l = omega arith
-    go epsilonKind l = omega arith
-    go sourceKind l = omega arith
-    go noKind l = omega arith
+arity-most {a} h w = arityAt-most 4 (rankOf a (lowByte w)) (kindOf w) (omega arith) (h .ranks (lowByte w))

@@ -5,33 +5,19 @@ use mathlib.Core.List.{List}
 use Prim.Native.Nat.{ℕ, zero, suc, _+_, _-_, _<_, _≤_}
 use native.Mathlib.Omega.{arith}
 use lib.ListN.{length, getD, List·getD-eq-default}
-use Rattle.words.specs.Word.{Kind, entryKind, symbolKind, emptyKind, unionKind, productKind, closureKind, nodeKind}
-use Rattle.words.specs.Word.{headKind, transitionKind, epsilonKind, sourceKind, noKind, kindOf, kindAt, lowByte}
+use Rattle.words.specs.Word.{kindOf, kindAt, lowByte}
 use Rattle.words.specs.Alphabet.{rankOf}
-use Rattle.words.specs.Postfix.{arityAt, arity}
+use Rattle.words.specs.Postfix.{arity}
 use Rattle.words.specs.Shape.{startFromBy, startOfBy}
+use Rattle.words.proofs.WordLaws.{arityAt-most}
 use Rattle.words.proofs.PostfixLaws.{startFrom-none, startFrom-more, start-parts}
 
 -- ---- arities
 
-arityAt-most : (r : ℕ) (k : Kind) → r ≤ 255 → arityAt r k ≤ 255
-arityAt-most r symbolKind h = h
-arityAt-most r nodeKind h = h
-arityAt-most r emptyKind h = omega arith
-arityAt-most r unionKind h = omega arith
-arityAt-most r productKind h = omega arith
-arityAt-most r closureKind h = omega arith
-arityAt-most r entryKind h = omega arith
-arityAt-most r headKind h = omega arith
-arityAt-most r transitionKind h = omega arith
-arityAt-most r epsilonKind h = omega arith
-arityAt-most r sourceKind h = omega arith
-arityAt-most r noKind h = omega arith
-
 -- a rank is a byte
 pub arity-most : (a : List ℕ) (w r : ℕ) → r ≡ arity a w → r ≤ 255
 unfolding arity rankOf
-arity-most a w r e = rw e (arityAt-most (rankOf a (lowByte w)) (kindOf w) (omega arith))
+arity-most a w r e = rw e (arityAt-most 255 (rankOf a (lowByte w)) (kindOf w) (omega arith) (omega arith))
 
 -- a missing word takes no children
 pub arity-missing : (a : List ℕ) → arity a 0 ≡ 0

@@ -2,11 +2,13 @@
 use mathlib.Core.Path.{_≡_, ap, _∙_}
 use mathlib.Core.Bool.{true, false≢true}
 use mathlib.Core.List.{List}
-use Prim.Native.Nat.{ℕ, _<_}
+use Prim.Native.Nat.{ℕ, _<_, _≤_}
 use native.Mathlib.Omega.{arith}
 use lib.ListN.{length}
 use borrow.Author.Tests.{ltb-true, lt-ltb}
-use Rattle.words.specs.Word.{Kind, nodeKind, kindOf, bodyOf, fieldRange, spareBitsClear, isOf, wordOf, lowByte}
+use Rattle.words.specs.Word.{Kind, entryKind, symbolKind, emptyKind, unionKind, productKind, closureKind, nodeKind}
+use Rattle.words.specs.Word.{headKind, transitionKind, epsilonKind, sourceKind, noKind}
+use Rattle.words.specs.Word.{kindOf, bodyOf, fieldRange, spareBitsClear, isOf, wordOf, lowByte}
 use Rattle.words.specs.Alphabet.{rankOf, isSymbol}
 use Rattle.words.specs.Postfix.{arity, arityAt}
 use Rattle.words.specs.Chapter.{symbolOf, isNode}
@@ -26,6 +28,21 @@ module _ (a : List ℕ) where
   arity-wordOf k b h =
       let e : lowByte (wordOf k b) ≡ b = omega arith in
       arity-kind (wordOf k b) k (kindOf-wordOf k b (omega arith)) ∙ ap (λ (s : ℕ). arityAt (rankOf a s) k) e
+
+-- no kind of word takes more children than its rank and two
+pub arityAt-most : (m r : ℕ) (k : Kind) → 2 ≤ m → r ≤ m → arityAt r k ≤ m
+arityAt-most m r symbolKind l h = h
+arityAt-most m r nodeKind l h = h
+arityAt-most m r emptyKind l h = omega arith
+arityAt-most m r unionKind l h = omega arith
+arityAt-most m r productKind l h = omega arith
+arityAt-most m r closureKind l h = omega arith
+arityAt-most m r entryKind l h = omega arith
+arityAt-most m r headKind l h = omega arith
+arityAt-most m r transitionKind l h = omega arith
+arityAt-most m r epsilonKind l h = omega arith
+arityAt-most m r sourceKind l h = omega arith
+arityAt-most m r noKind l h = omega arith
 
 -- ---- nodes
 
