@@ -22,6 +22,9 @@ PUBLISHED = {
     'report': 'words language automaton operations encoding lines',
 }
 
+# The files of specs/ that speak of a type of the code.
+CODE = {'words': ('Decoded',)}
+
 ACCEPTED, REFUSED, COULD_NOT_TELL = 'accepted', 'refused', 'could not tell'
 
 
@@ -41,9 +44,15 @@ def unfoldable():
 
 
 def lay_out(scratch, text):
-    """Writes the scratch repository: the published definitions, and the certificate as a crate above them."""
+    """Writes the scratch repository: the published definitions, and the certificate as a crate above them. A definition of what
+    the code has (CODE) is left out: there is no code here."""
     for crate in PUBLISHED:
-        shutil.copytree(HOME / 'crates' / crate / 'specs', scratch / 'crates' / crate / 'specs')
+        specs = scratch / 'crates' / crate / 'specs'
+        shutil.copytree(HOME / 'crates' / crate / 'specs', specs)
+        for name in CODE.get(crate, ()):
+            (specs / f'{name}.antt').unlink()
+            listed = (specs / 'Lib.antt').read_text(encoding='utf-8')
+            (specs / 'Lib.antt').write_text(listed.replace(f'pub mod {name}\n', ''), encoding='utf-8')
     certificate = scratch / 'crates' / 'certificate' / 'specs'
     certificate.mkdir(parents=True)
     (certificate / 'Lib.antt').write_text('pub mod Certificate\n')

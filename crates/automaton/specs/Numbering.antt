@@ -46,7 +46,7 @@ portOf a n w = record {
 -- the entry for a constant, or none
 abbrev pub lookup : List (ℕ × ℕ) → ℕ → List ℕ
 lookup [] c = []
-lookup (e ∷ es) c = let rest = lookup es c in cond (eqb (e .0) c) (e .1 ∷ rest) rest
+lookup (entry ∷ entries) c = let rest = lookup entries c in cond (eqb (entry .0) c) (entry .1 ∷ rest) rest
 
 abbrev pub entryFor : Port → ℕ → List ℕ
 entryFor P c = lookup (P .entries) c
@@ -58,7 +58,7 @@ epsilons p qs = map (λ q. epsilon p q) qs
 -- empty moves from each entry to the states that `targets` gives for its constant
 abbrev pub entryEpsilons : List (ℕ × ℕ) → (ℕ → List ℕ) → List Transition
 entryEpsilons [] targets = []
-entryEpsilons (e ∷ es) targets = epsilons (e .1) (targets (e .0)) ++ entryEpsilons es targets
+entryEpsilons (entry ∷ entries) targets = epsilons (entry .1) (targets (entry .0)) ++ entryEpsilons entries targets
 
 -- the transitions of a word with states E over its children's states, "ordered by from and then by to", and the states to
 -- which E's entry for a constant leads
@@ -126,7 +126,7 @@ transitionsFrom a n (w ∷ ws) stack =
 
 -- the symbol moves of constants into entries, in the order of the entries
 abbrev pub constantTransitions : List (ℕ × ℕ) → List Transition
-constantTransitions es = map (λ entry. onSymbol (entry .0) [] (entry .1)) es
+constantTransitions entries = map (λ entry. onSymbol (entry .0) [] (entry .1)) entries
 
 -- the states of the last word
 abbrev pub lastPort : List ℕ → List ℕ → Port

@@ -7,7 +7,7 @@ use Prim.Native.Nat.{ℕ, _+_, _<_}
 use native.Mathlib.Omega.{arith}
 use lib.ListN.{length, getD, drop}
 use borrow.Author.Tests.{eqb-true, eq-eqb, ne-eqb}
-use Rattle.words.specs.Word.{transitionKind, epsilonKind, hasKind, numberOf, symbolAbove, stateAbove, stateBelow}
+use Rattle.words.specs.Word.{transitionKind, epsilonKind, kindNumber, hasKind, numberOf, symbolAbove, stateAbove, stateBelow}
 use Rattle.words.specs.Alphabet.{rankOf}
 use Rattle.words.proofs.TestLaws.{Tested, holds, fails, tested}
 use Rattle.automaton.specs.Transition.{Transition, onSymbol, epsilon, sourcesAt, automatonOf}
@@ -25,22 +25,22 @@ use Rattle.closures.proofs.TransitionStartLaws.{starts-member, table-tr
 -- ---- its kind and its key
 
 module _ (table : List ℕ) (i : ℕ) where
-  starts-on : numberOf (getD table i 0) ≡ 9 → {t : Transition} → List·Memᴰ t (startsAt table i)
+  starts-on : numberOf (getD table i 0) ≡ kindNumber transitionKind → {t : Transition} → List·Memᴰ t (startsAt table i)
       → t ≡ onSymbol (symbolAbove (getD table i 0)) (sourcesAt (drop (i + 1) table)) (stateBelow (getD table i 0))
-  starts-on e m = List·Memᴰ·eq-of-singleton (rw (eq-eqb (numberOf (getD table i 0)) 9 e) at m)
+  starts-on e m = List·Memᴰ·eq-of-singleton (rw (eq-eqb (numberOf (getD table i 0)) (kindNumber transitionKind) e) at m)
 
-  starts-from : numberOf (getD table i 0) ≡ 10 → {t : Transition} → List·Memᴰ t (startsAt table i)
+  starts-from : numberOf (getD table i 0) ≡ kindNumber epsilonKind → {t : Transition} → List·Memᴰ t (startsAt table i)
       → t ≡ epsilon (stateAbove (getD table i 0)) (stateBelow (getD table i 0))
   starts-from e m =
-      List·Memᴰ·eq-of-singleton (rw (ne-eqb (numberOf (getD table i 0)) 9 (λ k. omega arith), eq-eqb (numberOf (getD table i 0)) 10 e) at m)
+      List·Memᴰ·eq-of-singleton (rw (ne-eqb (numberOf (getD table i 0)) (kindNumber transitionKind) (λ k. omega arith), eq-eqb (numberOf (getD table i 0)) (kindNumber epsilonKind) e) at m)
 
-  starts-kind : {t : Transition} → List·Memᴰ t (startsAt table i) → (numberOf (getD table i 0) ≡ 9) ⊎ (numberOf (getD table i 0) ≡ 10)
+  starts-kind : {t : Transition} → List·Memᴰ t (startsAt table i) → (numberOf (getD table i 0) ≡ kindNumber transitionKind) ⊎ (numberOf (getD table i 0) ≡ kindNumber epsilonKind)
   starts-kind m = go (tested (hasKind transitionKind (getD table i 0))) (tested (hasKind epsilonKind (getD table i 0)))
     where
       go : Tested (hasKind transitionKind (getD table i 0)) → Tested (hasKind epsilonKind (getD table i 0))
-          → (numberOf (getD table i 0) ≡ 9) ⊎ (numberOf (getD table i 0) ≡ 10)
-      go (holds y) t = inl (eqb-true (numberOf (getD table i 0)) 9 y)
-      go (fails n) (holds y) = inr (eqb-true (numberOf (getD table i 0)) 10 y)
+          → (numberOf (getD table i 0) ≡ kindNumber transitionKind) ⊎ (numberOf (getD table i 0) ≡ kindNumber epsilonKind)
+      go (holds y) t = inl (eqb-true (numberOf (getD table i 0)) (kindNumber transitionKind) y)
+      go (fails n) (holds y) = inr (eqb-true (numberOf (getD table i 0)) (kindNumber epsilonKind) y)
       go (fails n) (fails k) = absurd (List·Memᴰ·not-nil (rw (n, k) at m))
 
   pub starts-symbol : {g : ℕ} {ps : List ℕ} {q : ℕ} → List·Memᴰ (onSymbol g ps q) (startsAt table i) → keyOf (getD table i 0) ≡ g
@@ -74,7 +74,7 @@ module _ {table index : List ℕ} (c : IndexedTable table index) (i : ℕ) (insi
 
   module _ {f : ℕ} (s : SymbolWord (getD table i 0) f) where
     symbol-member : List·Memᴰ (onSymbol f (sourcesAt (drop (i + 1) table)) (stateBelow (getD table i 0))) (automatonOf table .transitions)
-    symbol-member = rw (← s .symbol) (member _ (rw (eq-eqb (numberOf (getD table i 0)) 9 (s .kind)) (List·Memᴰ·head refl)))
+    symbol-member = rw (← s .symbol) (member _ (rw (eq-eqb (numberOf (getD table i 0)) (kindNumber transitionKind) (s .kind)) (List·Memᴰ·head refl)))
 
     pub symbol-below : stateBelow (getD table i 0) < automatonOf table .states
     symbol-below = targets-below over _ symbol-member
@@ -93,7 +93,7 @@ module _ {table index : List ℕ} (c : IndexedTable table index) (i : ℕ) (insi
     epsilon-member =
         rw (← s .from)
         (member _
-        (rw (ne-eqb (numberOf (getD table i 0)) 9 (λ n. let k = s .kind in omega arith), eq-eqb (numberOf (getD table i 0)) 10 (s .kind))
+        (rw (ne-eqb (numberOf (getD table i 0)) (kindNumber transitionKind) (λ n. let k = s .kind in omega arith), eq-eqb (numberOf (getD table i 0)) (kindNumber epsilonKind) (s .kind))
         (List·Memᴰ·head refl)))
 
     pub epsilon-below : stateBelow (getD table i 0) < automatonOf table .states

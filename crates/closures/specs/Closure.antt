@@ -12,8 +12,7 @@ use Rattle.automaton.specs.Transition.{Transition, epsilon, transitionAt, autom
 use Rattle.automaton.specs.StateSet.{StateSet, contains, insert}
 use Rattle.automaton.proofs.PassLaws.{ClosedUnder, In}
 use Rattle.operations.specs.Marks.{storedSet}
-use Rattle.index.specs.Index.{keyOf}
-use Rattle.index.specs.Index.{IndexedTable}
+use Rattle.index.specs.Index.{stateKey, keyOf, IndexedTable}
 
 -- ---- the closure of a state
 
@@ -55,7 +54,7 @@ ClosedAt table r i = (p q : ℕ) → List·Memᴰ (epsilon p q) (startsAt table 
 -- an epsilon transition at word i adds nothing, or it leads from a state on the stack
 pub data SettledAt (table : List ℕ) (r : StateSet) (pending : List ℕ) (top i : ℕ) : Type 0 where
   satisfied : ClosedAt table r i → SettledAt table r pending top i
-  waiting : (k : ℕ) → k < top → keyOf (getD table i 0) ≡ 256 + getD pending k 0 → SettledAt table r pending top i
+  waiting : (k : ℕ) → k < top → keyOf (getD table i 0) ≡ stateKey (getD pending k 0) → SettledAt table r pending top i
 
 -- ---- the set and the stack
 

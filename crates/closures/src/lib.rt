@@ -1,6 +1,7 @@
 // The epsilon closure of a state, worked out along the index; closures that were worked out are kept for other nodes.
 ghost use Prim.Native.Nat.{_+_};
 ghost use lib.ListN.{length};
+ghost use Rattle.index.specs.Index.{stateKey};
 ghost use Rattle.closures.specs.Closure.{Puttable, Put, Closing, ClosingAt, Followed, Closable, ClosureOf};
 ghost use Rattle.closures.specs.Closure.{Addable, Added, Keepable, Kept, Joinable, JoinedClosure};
 use index::KEYS;
@@ -41,7 +42,7 @@ fn follow_epsilons(
 ) -> usize
     requires { ⌜ ClosingAt (now table) (now index) p (now set) (now pending) top ⌝ }
     ensures { λ r. ⌜
-        Followed (now (table .entry)) (256 + p) 0 (now (set .entry)) (now (pending .entry)) top (now (set .exit)) (now (pending .exit)) r
+        Followed (now (table .entry)) (stateKey p) 0 (now (set .entry)) (now (pending .entry)) top (now (set .exit)) (now (pending .exit)) r
         ⌝ }
 {
     let mut height = top;

@@ -9,21 +9,32 @@ use lib.Dec.{ltb}
 use Rattle.automaton.specs.Table.{isTable}
 use Rattle.words.specs.Word.{transitionKind, epsilonKind, hasKind, symbolAbove, stateAbove}
 
--- the key of a word: the symbol of a symbol transition, the from state of an epsilon transition behind the 256 numbers that
--- a symbol may have; any other word has none
-unfoldable pub keyOf : ℕ → ℕ
-keyOf w = cond (hasKind transitionKind w) (symbolAbove w) (cond (hasKind epsilonKind w) (256 + stateAbove w) 1280)
+-- the key of a state, behind the numbers that a symbol may have
+abbrev pub stateKey : ℕ → ℕ
+stateKey s = 0x100 + s
 
--- The first 1,280 words are the first word of each key's chain. The word of the table with number i has behind them the
--- next word of its chain. A chain ends with 0: the head is in none.
+-- how many keys there are
+abbrev pub keys : ℕ
+keys = stateKey 0x400
+
+-- the key of a word: the symbol of a symbol transition, that of the from state of an epsilon transition; any other word has none
+unfoldable pub keyOf : ℕ → ℕ
+keyOf w = cond (hasKind transitionKind w) (symbolAbove w) (cond (hasKind epsilonKind w) (stateKey (stateAbove w)) keys)
+
+-- First stands the first word of each key's chain. The word of the table with number i has behind them the next word of its
+-- chain. A chain ends with 0: the head is in none.
 unfoldable pub indexedAt : List ℕ → ℕ → List ℕ → List ℕ
 indexedAt table i index =
     let key = keyOf (getD table i 0) in
-    cond (ltb key 1280) (set (set index (1280 + i) (getD index key 0)) key i) index
+    cond (ltb key keys) (set (set index (keys + i) (getD index key 0)) key i) index
+
+-- the words of an index: for each key, and for each word of the longest table
+abbrev pub indexLength : ℕ
+indexLength = keys + 2048
 
 -- the index of the last n words, from the last one backwards
 unfoldable pub indexBack : List ℕ → ℕ → List ℕ
-indexBack table zero = replicate 3328 0
+indexBack table zero = replicate indexLength 0
 indexBack table (suc n) = indexedAt table (length table - suc n) (indexBack table n)
 
 unfoldable pub indexOf : List ℕ → List ℕ
@@ -33,12 +44,12 @@ indexOf table = indexBack table (length table)
 pub record Insertable (table : List ℕ) (i : ℕ) (index : List ℕ) : Type 0 where
   pub inside : i < length table
   pub few : length table ≤ 2048
-  pub size : length index ≡ 3328
+  pub size : length index ≡ indexLength
 
 -- what writing a table's index asks: an array of zeros
 pub record Indexable (table index : List ℕ) : Type 0 where
   pub few : length table ≤ 2048
-  pub zeros : index ≡ replicate 3328 0
+  pub zeros : index ≡ replicate indexLength 0
 
 -- a checked table with its index
 pub record IndexedTable (table index : List ℕ) : Type 0 where

@@ -7,9 +7,9 @@ use words::word::SYMBOL_RANGE;
 use words::word::kind_of;
 
 // The numbers that a symbol may have; the keys of the states stand behind them, and behind all keys the words' next words.
-pub const STATE_KEYS: usize = 256;
+pub const STATE_KEYS: usize = SYMBOL_RANGE as usize;
 
-pub const KEYS: usize = 1280;
+pub const KEYS: usize = STATE_KEYS + STATE_RANGE as usize;
 
 // The key of a word.
 fn key(w: u32) -> usize

@@ -8,6 +8,7 @@ ghost use Rattle.words.specs.Chapter.{symbolOf};
 use encoding::byte_writer::write_field;
 use encoding::byte_writer::write_text;
 use words::postfix::subtree_start;
+use words::word::LOW_BYTE;
 
 // The line `refused N`.
 pub fn write_refused(out: &mut [u8], number: u32) -> usize
@@ -34,7 +35,7 @@ fn symbol_of(chapter: &[u32], node: usize) -> usize
     ensures { λ r. ⌜ r ≡ symbolOf (getD (now (chapter .entry)) node 0) ⌝ }
 {
     if node < chapter.len() {
-        return (chapter[node] % 256) as usize;
+        return (chapter[node] % LOW_BYTE) as usize;
     }
     0
 }

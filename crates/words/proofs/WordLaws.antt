@@ -29,7 +29,7 @@ module _ (a : List ℕ) where
       let e : lowByte (wordOf k b) ≡ b = omega arith in
       arity-kind (wordOf k b) k (kindOf-wordOf k b (omega arith)) ∙ ap (λ (s : ℕ). arityAt (rankOf a s) k) e
 
--- no kind of word takes more children than its rank and two
+-- no kind of word takes more children than the larger of its rank and two
 pub arityAt-most : (m r : ℕ) (k : Kind) → 2 ≤ m → r ≤ m → arityAt r k ≤ m
 arityAt-most m r symbolKind l h = h
 arityAt-most m r nodeKind l h = h

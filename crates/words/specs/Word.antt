@@ -102,3 +102,7 @@ stateAbove w = w / 0x400 % 0x400
 -- bits 9..0: a state
 abbrev pub stateBelow : ℕ → ℕ
 stateBelow w = w % 0x400
+
+-- the named bits of a word of a table: x stands above state s
+abbrev pub packed : ℕ → ℕ → ℕ
+packed x s = x * 0x400 + s
