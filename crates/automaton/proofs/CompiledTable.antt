@@ -20,7 +20,7 @@ use Rattle.words.proofs.AcceptedAlphabet.{AcceptedAlphabet, alphabet-accepted, 
 use Rattle.automaton.specs.Transition.{tableWords}
 use Rattle.automaton.specs.Numbering.{hasEntries, compiled}
 use Rattle.automaton.specs.Table.{isTable}
-use Rattle.automaton.proofs.PortReading.{expression-length}
+use Rattle.words.proofs.AcceptedExpression.{expression-passed}
 use Rattle.automaton.proofs.StateCount.{innerWords, leafWords, inner-leaf, states-counted}
 use Rattle.automaton.proofs.TableLength.{branchingWords, table-length}
 use Rattle.automaton.proofs.CompiledOver.{compiled-over}
@@ -79,13 +79,13 @@ few-words T B S n i l k t s c n≤ l≥ l≤ k≤ S≤ = go (decLe k 15)
 -- "No compiled table takes more than 1,147 words."
 pub table-most : (a e : List ℕ) → alphabetFault a ≡ 0 → expressionFault a e ≡ 0 → compiled a e .states ≤ 1024
     → length (tableWords (compiled a e)) ≤ 1147
-unfolding notOneTree
 table-most a e g f m =
     let h = alphabet-accepted a g in
-    let o = not-false (oneTree a e) (none-applies (expressionRefusals a e) refl f 5) in
+    let accepted = expression-passed a e f in
+    let o = accepted .shape in
     few-words (length (tableWords (compiled a e))) (branchingWords a e) (compiled a e .states) (length e) (innerWords a e) (leafWords a e)
     (length (constantsOf a))
-    (table-length a e f) (states-counted a e) (inner-leaf a e) (expression-length a e f .1)
+    (table-length a e f) (states-counted a e) (inner-leaf a e) (accepted .few)
     (omega (arith, leaves-some a e 0 1 o)) (omega (arith, leaves-branching a h e 0 1 o)) (h .fewConstants) m
 
 pub compiled-isTable : (a e : List ℕ) → alphabetFault a ≡ 0 → expressionFault a e ≡ 0 → compiled a e .states ≤ 1024

@@ -9,7 +9,8 @@ use Rattle.words.specs.Expression.{expressionFault}
 use Rattle.words.proofs.Ascending.{Ascending}
 use Rattle.automaton.specs.Numbering.{Port, statesOf, portOf, childPort, portsFrom, statesAfter, lastPort}
 use Rattle.automaton.proofs.PortStates.{constantsIn, PortIn, portIn-from}
-use Rattle.automaton.proofs.PortReading.{Reading, word, expression-reading, expression-length}
+use Rattle.words.proofs.AcceptedExpression.{expression-passed}
+use Rattle.automaton.proofs.PortReading.{Reading, word, expression-reading}
 
 -- the states of the last of the words w and ws, from state n on
 abbrev pub lastFrom : List ℕ → ℕ → ℕ → List ℕ → Port
@@ -39,7 +40,7 @@ module _ (a : List ℕ) where
   last-in (v ∷ ws) (word d r) = portIn-from (omega arith) (last-in ws r)
 
   pub lastPort-in : (e : List ℕ) → expressionFault a e ≡ 0 → PortIn a 0 (statesAfter a 0 e) (lastPort a e)
-  lastPort-in e f = go e (expression-length a e f .0) (expression-reading a e f)
+  lastPort-in e f = go e (expression-passed a e f .some) (expression-reading a e f)
     where
       go : (e : List ℕ) → 0 < length e → Reading a 0 e [] → PortIn a 0 (statesAfter a 0 e) (lastPort a e)
       go [] l r = absurd (omega arith)

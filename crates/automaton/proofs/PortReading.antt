@@ -16,6 +16,7 @@ use Rattle.words.specs.Postfix.{arity, trees, oneTree, notOneTree}
 use Rattle.words.specs.Expression.{isExpressionWord, wrongLength, notExpressionWords, expressionRefusals, expressionFault}
 use Rattle.words.proofs.TestLaws.{and-true, or-false, picked}
 use Rattle.words.proofs.RefusalLaws.{none-applies}
+use Rattle.words.proofs.AcceptedExpression.{expression-passed}
 use Rattle.automaton.specs.Numbering.{Port, statesOf, portOf, ownTransitions}
 use Rattle.automaton.proofs.PortStates.{PortIn, portOf-in, portIn-from, PortStack, bottom, push, Children, children-le, taken}
 use Rattle.automaton.proofs.OwnTransitions.{Own, own}
@@ -70,15 +71,4 @@ module _ (a : List ℕ) where
 
   -- the words of an accepted expression
   pub expression-reading : (e : List ℕ) → expressionFault a e ≡ 0 → Reading a 0 e []
-  unfolding notExpressionWords notOneTree
-  expression-reading e h =
-      let words = not-false (all (isExpressionWord a) e) (none-applies (expressionRefusals a e) refl h 4) in
-      let tree = not-false (oneTree a e) (none-applies (expressionRefusals a e) refl h 5) in
-      reading e 0 1 [] words tree bottom
-
-  pub expression-length : (e : List ℕ) → expressionFault a e ≡ 0 → (0 < length e) × (length e ≤ 64)
-  unfolding wrongLength
-  expression-length e h =
-      let p = or-false (eqb (length e) 0) (ltb 64 (length e)) (none-applies (expressionRefusals a e) refl h 3) in
-      let z = eqb-false (length e) 0 (p .0) in
-      (omega arith, ltb-false 64 (length e) (p .1))
+  expression-reading e h = let g = expression-passed a e h in reading e 0 1 [] (g .words) (g .shape) bottom

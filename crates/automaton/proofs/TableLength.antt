@@ -18,7 +18,8 @@ use Rattle.automaton.specs.Numbering.{statesAfter, ownTransitions, trans
 use Rattle.automaton.specs.Numbering.{compiled, symbolTargets, unionTargets, productTargets, closureTargets}
 use Rattle.automaton.proofs.PortStates.{constantsIn, PortIn, Children, child}
 use Rattle.automaton.proofs.OwnTransitions.{Own, leaf, ofSymbol, ofUnion, ofProduct, ofClosure}
-use Rattle.automaton.proofs.PortReading.{WordRead, Reading, word, childrenOn, expression-reading, expression-length}
+use Rattle.words.proofs.AcceptedExpression.{expression-passed}
+use Rattle.automaton.proofs.PortReading.{WordRead, Reading, word, childrenOn, expression-reading}
 use Rattle.automaton.proofs.TargetCount.{total, weight, lookup-once, total-symbol, total-union, total-product, total-closure}
 use Rattle.automaton.proofs.StateCount.{innerWords}
 use Rattle.automaton.proofs.LastPort.{lastFrom, lastPort-from}
@@ -169,7 +170,7 @@ module _ (a : List ℕ) where
   pub table-length : (e : List ℕ) → expressionFault a e ≡ 0
       → length (tableWords (compiled a e)) + branchingWords a e ≤ compiled a e .states + (length e + innerWords a e)
   unfolding compiled
-  table-length e f = go e (expression-length a e f .0) (expression-reading a e f)
+  table-length e f = go e (expression-passed a e f .some) (expression-reading a e f)
     where
       go : (e : List ℕ) → 0 < length e → Reading a 0 e []
           → length (tableWords (compiled a e)) + branchingWords a e ≤ statesAfter a 0 e + (length e + innerWords a e)

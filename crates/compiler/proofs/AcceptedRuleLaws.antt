@@ -1,39 +1,14 @@
--- What holds of an alphabet and a rule that refusals 1 to 5 let pass.
+-- The constants of an alphabet, and the states of a rule, that refusals 1 to 5 let pass.
 use mathlib.Core.Path.{_≡_, refl, ap, _∙_, sym}
-use mathlib.Core.Bool.{true, false}
 use mathlib.Core.List.{List, [], _∷_, _++_}
 use Prim.Native.Nat.{ℕ, zero, suc, _*_, _<_, _≤_}
 use native.Mathlib.Omega.{arith}
 use lib.ListN.{length, take, drop, length-append}
 use lib.Seq.{sets, take-all, take-at}
-use borrow.Author.Tests.{not-false}
-use Rattle.words.specs.Lists.{all}
 use Rattle.words.specs.Alphabet.{constantsOf, alphabetFault}
-use Rattle.words.specs.Postfix.{oneTree, notOneTree}
-use Rattle.words.specs.Expression.{isExpressionWord, notExpressionWords, expressionRefusals, expressionFault}
-use Rattle.words.proofs.RefusalLaws.{conditionOf, none-applies}
 use Rattle.words.proofs.ListLaws.{sets-whole}
 use Rattle.words.proofs.AcceptedAlphabet.{alphabet-accepted}
-use Rattle.automaton.proofs.PortReading.{expression-length}
 use Rattle.compiler.specs.Compiling.{ConstantsCounted}
-
-pub record AcceptedExpression (a e : List ℕ) : Type 0 where
-  pub some : 0 < length e
-  pub few : length e ≤ 64
-  pub words : all (isExpressionWord a) e ≡ true
-  pub shape : oneTree a e ≡ true
-
-pub expression-passed : (a e : List ℕ) → expressionFault a e ≡ 0 → AcceptedExpression a e
-unfolding notExpressionWords notOneTree
-expression-passed a e h =
-    let not-so : (n : ℕ) → conditionOf n (expressionRefusals a e) ≡ false = none-applies (expressionRefusals a e) refl h in
-    let l = expression-length a e h in
-    record {
-      some = l .0;
-      few = l .1;
-      words = not-false (all (isExpressionWord a) e) (not-so 4);
-      shape = not-false (oneTree a e) (not-so 5);
-    }
 
 -- the number of the constants
 pub constants-counted : (a cs : List ℕ) → alphabetFault a ≡ 0 → cs ≡ constantsOf a → ConstantsCounted a (length cs)

@@ -23,7 +23,7 @@ use Rattle.words.proofs.AcceptedAlphabet.{AcceptedAlphabet, arity-most}
 use Rattle.automaton.specs.Transition.{Transition, transitionsWords}
 use Rattle.automaton.specs.Numbering.{Port, statesOf, portOf, ownTransitions, transitionsFrom, fullPort}
 use Rattle.automaton.proofs.TransitionLaws.{transitionsWords-append}
-use Rattle.automaton.proofs.PortReading.{expression-length}
+use Rattle.words.proofs.AcceptedExpression.{expression-passed}
 use Rattle.emitter.specs.Writing.{Wrote}
 use Rattle.ports.specs.Ports.{portIn, portsIn}
 use Rattle.emitter.specs.Emission.{Emits, Takes}
@@ -128,7 +128,7 @@ module _ {a cs e : List ℕ} {at : ℕ} {out out′ stack : List ℕ} {height st
   emitted-children r h q = rw q (leb-true (arity a (getD e i 0)) height (step h .0))
 
   pub emitted-height : i < length e → expressionFault a e ≡ 0 → height < 64
-  emitted-height h q = let b = m .below in let few = expression-length a e q .1 in omega arith
+  emitted-height h q = let b = m .below in let few = expression-passed a e q .few in omega arith
 
   -- what the emitter asks at word i
   pub emitted-emits : (r base : ℕ) → cs ≡ constantsOf a → AcceptedAlphabet a → i < length e → length e ≤ 64 → at ≤ 1024

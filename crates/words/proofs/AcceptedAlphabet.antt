@@ -1,7 +1,7 @@
 -- What holds of an alphabet that refusals 1 and 2 let pass.
 use Prim.Native.Nat.{ℕ, zero, suc, _<_, _≤_}
 use mathlib.Core.Path.{_≡_, refl}
-use mathlib.Core.Bool.{true, not, _||_}
+use mathlib.Core.Bool.{true, not, _||_, false}
 use mathlib.Core.List.{List, [], _∷_}
 use native.Mathlib.Omega.{arith}
 use lib.ListN.{length}
@@ -12,7 +12,7 @@ use Rattle.words.specs.Word.{entryKind, kindOf, isOf, lowByte}
 use Rattle.words.specs.Alphabet.{entryRank, isEntry, rankOf, constantsOf, noAlphabet, wrongConstants, alphabetRefusals, alphabetFault}
 use Rattle.words.specs.Postfix.{arity}
 use Rattle.words.proofs.TestLaws.{and-true, or-false}
-use Rattle.words.proofs.RefusalLaws.{refusal-none}
+use Rattle.words.proofs.RefusalLaws.{conditionOf, none-applies}
 use Rattle.words.proofs.WordLaws.{arityAt-most}
 
 pub record AcceptedAlphabet (a : List ℕ) : Type 0 where
@@ -34,10 +34,10 @@ rank-most (w ∷ ws) h (suc s) = rank-most ws (and-true (isEntry w) (all isEntry
 pub alphabet-accepted : (a : List ℕ) → alphabetFault a ≡ 0 → AcceptedAlphabet a
 unfolding noAlphabet wrongConstants
 alphabet-accepted a h =
-    let f = refusal-none (alphabetRefusals a) refl h in
-    let p = or-false (eqb (length a) 0 || ltb 64 (length a)) (not (all isEntry a)) (f .0) in
+    let not-so : (n : ℕ) → conditionOf n (alphabetRefusals a) ≡ false = none-applies (alphabetRefusals a) refl h in
+    let p = or-false (eqb (length a) 0 || ltb 64 (length a)) (not (all isEntry a)) (not-so 1) in
     let q = or-false (eqb (length a) 0) (ltb 64 (length a)) (p .0) in
-    let r = or-false (eqb (length (constantsOf a)) 0) (ltb 16 (length (constantsOf a))) (f .1 .0) in
+    let r = or-false (eqb (length (constantsOf a)) 0) (ltb 16 (length (constantsOf a))) (not-so 2) in
     let z = eqb-false (length a) 0 (q .0) in
     let c = eqb-false (length (constantsOf a)) 0 (r .0) in
     record {

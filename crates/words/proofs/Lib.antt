@@ -2,6 +2,7 @@ pub mod AllLaws
 pub mod AlphabetLaws
 pub mod Ascending
 pub mod AcceptedAlphabet
+pub mod AcceptedExpression
 pub mod DistinctLaws
 pub mod ConstantLaws
 pub mod ExpressionWordLaws

@@ -7,7 +7,7 @@ use Rattle.words.specs.Alphabet.{alphabetRefusals}
 use Rattle.words.specs.Expression.{expressionRefusals}
 use Rattle.words.proofs.RefusalLaws.{none, here, next, number, refuses, passes}
 use Rattle.words.proofs.AcceptedAlphabet.{alphabet-accepted}
-use Rattle.automaton.proofs.PortReading.{expression-length}
+use Rattle.words.proofs.AcceptedExpression.{expression-passed}
 use Rattle.operations.specs.Compile.{compileRefusals}
 use Rattle.compiler.proofs.FaultLaws.{states-above, states-within, table-over, table-within}
 use Rattle.compiler.proofs.compile_fault.Statement.{statement}
@@ -44,7 +44,7 @@ states-after-requires c κs =
     let first = second .before .before in
     let count = c .count-constants .ensures in
     let few = alphabet-accepted _ (sym (first .before .alphabet-fault .ensures) ∙ first .if1 .left) .fewConstants in
-    let short = expression-length _ _ (sym (second .before .expression-fault .ensures) ∙ second .if2 .left) .1 in
+    let short = expression-passed _ _ (sym (second .before .expression-fault .ensures) ∙ second .if2 .left) .few in
     (record { constants = count; few = omega arith }, short)
 
 returns-3 : tie.Need-returns-3

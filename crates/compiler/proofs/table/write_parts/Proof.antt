@@ -8,7 +8,8 @@ use borrow.Author.Needs.{needs}
 use Rattle.words.proofs.AcceptedAlphabet.{alphabet-accepted}
 use Rattle.emitter.proofs.WritingLaws.{wrote-next}
 use Rattle.compiler.proofs.KnownConstants.{constants-symbols}
-use Rattle.compiler.proofs.AcceptedRuleLaws.{expression-passed, constants-counted, length-take-most, states-few}
+use Rattle.words.proofs.AcceptedExpression.{expression-passed}
+use Rattle.compiler.proofs.AcceptedRuleLaws.{constants-counted, length-take-most, states-few}
 use Rattle.compiler.proofs.TablePartLaws.{word-last, wrote-table}
 use Rattle.compiler.proofs.table.write_parts.Statement.{statement}
 use Rattle.compiler.proofs.table.write_parts.Tie as tie

@@ -6,7 +6,7 @@ use native.Mathlib.Omega.{arith}
 use lib.ListN.{length}
 use borrow.Author.Needs.{needs}
 use Rattle.words.proofs.AcceptedAlphabet.{alphabet-accepted}
-use Rattle.compiler.proofs.AcceptedRuleLaws.{expression-passed}
+use Rattle.words.proofs.AcceptedExpression.{expression-passed}
 use Rattle.compiler.proofs.EmittedLaws.{Emitted, emitted-none, emitted-word, emitted-children, emitted-height}
 use Rattle.compiler.proofs.EmittedLaws.{emitted-emits, emitted-takes, emitted-more, emitted-end}
 use Rattle.compiler.proofs.table.write_words.Statement.{statement}
