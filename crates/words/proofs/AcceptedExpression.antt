@@ -1,0 +1,36 @@
+-- What holds of a rule that refusals 3, 4 and 5 let pass.
+use mathlib.Core.Path.{_≡_, refl}
+use mathlib.Core.Bool.{true, false}
+use mathlib.Core.List.{List}
+use Prim.Native.Nat.{ℕ, _<_, _≤_}
+use native.Mathlib.Omega.{arith}
+use lib.ListN.{length}
+use lib.Dec.{ltb, eqb}
+use borrow.Author.Tests.{ltb-false, eqb-false, not-false}
+use Rattle.words.specs.Lists.{all}
+use Rattle.words.specs.Postfix.{oneTree, notOneTree}
+use Rattle.words.specs.Expression.{isExpressionWord, wrongLength, notExpressionWords, expressionRefusals, expressionFault}
+use Rattle.words.proofs.TestLaws.{or-false}
+use Rattle.words.proofs.RefusalLaws.{conditionOf, none-applies}
+
+pub record AcceptedExpression (a e : List ℕ) : Type 0 where
+  -- 3
+  pub some : 0 < length e
+  pub few : length e ≤ 64
+  -- 4
+  pub words : all (isExpressionWord a) e ≡ true
+  -- 5
+  pub shape : oneTree a e ≡ true
+
+pub expression-passed : (a e : List ℕ) → expressionFault a e ≡ 0 → AcceptedExpression a e
+unfolding wrongLength notExpressionWords notOneTree
+expression-passed a e h =
+    let not-so : (n : ℕ) → conditionOf n (expressionRefusals a e) ≡ false = none-applies (expressionRefusals a e) refl h in
+    let p = or-false (eqb (length e) 0) (ltb 64 (length e)) (not-so 3) in
+    let z = eqb-false (length e) 0 (p .0) in
+    record {
+      some = omega arith;
+      few = ltb-false 64 (length e) (p .1);
+      words = not-false (all (isExpressionWord a) e) (not-so 4);
+      shape = not-false (oneTree a e) (not-so 5);
+    }
