@@ -125,10 +125,24 @@ module _ (P : ℕ → Type 0) where
 under : (p q : ℕ) (r : StateSet) → closedUnder (epsilon p q) r ≡ true → In r p → In r q
 under p q r h i = rw i at h
 
-closed-test : (ts : List Transition) (r : StateSet) → isClosed ts r ≡ true → ClosedUnder ts (In r)
+pub closed-test : (ts : List Transition) (r : StateSet) → isClosed ts r ≡ true → ClosedUnder ts (In r)
 closed-test (t ∷ ts) r h p q (List·Memᴰ·head e) i =
     under p q r (subst⁻¹ (λ (u : Transition). closedUnder u r ≡ true) e (and-true (closedUnder t r) (isClosed ts r) h .0)) i
 closed-test (t ∷ ts) r h p q (List·Memᴰ·tail m) i = closed-test ts r (and-true (closedUnder t r) (isClosed ts r) h .1) p q m i
+
+test-under : (t : Transition) (r : StateSet) → ((p q : ℕ) → epsilon p q ≡ t → In r p → In r q) → closedUnder t r ≡ true
+test-under (onSymbol g ps q) r c = refl
+test-under (epsilon p q) r c = go (tested (contains r p))
+  where
+    go : Tested (contains r p) → closedUnder (epsilon p q) r ≡ true
+    go (holds i) = rw (i, c p q refl i)
+    go (fails n) = rw n
+
+pub test-closed : (ts : List Transition) (r : StateSet) → ClosedUnder ts (In r) → isClosed ts r ≡ true
+test-closed [] r c = refl
+test-closed (t ∷ ts) r c =
+    true-and (closedUnder t r) (isClosed ts r) (test-under t r (λ p q e. c p q (List·Memᴰ·head e)))
+    (test-closed ts r (λ p q m. c p q (List·Memᴰ·tail m)))
 
 -- ---- as many passes as there are states
 

@@ -8,6 +8,7 @@ use native.Mathlib.Omega.{arith}
 use native.Mathlib.Decide.{ℕ-discrete}
 use lib.ListN.{length, getD, set, take, drop, replicate, length-set, length-replicate}
 use lib.Seq.{paste, length-paste, getD-set-same, getD-set-other}
+use Rattle.automaton.proofs.PassLaws.{closed-test, test-closed}
 use Rattle.automaton.specs.Transition.{epsilon, automatonOf}
 use Rattle.automaton.specs.StateSet.{StateSet, contains, insert}
 use Rattle.automaton.proofs.BitLaws.{contains-replicate, words-replicate}
@@ -59,11 +60,12 @@ module _ {table index : List ℕ} {s : ℕ} {pending : List ℕ} {r : StateSet} 
           words = done .words;
           grown = done .grown;
           holds = done .holds;
-          closed = λ p q m e.
+          closed = test-closed _ _
+              (λ p q m e.
               let k =
               member-starts table (epsilon p q)
               (subst (List·Memᴰ (epsilon p q)) (sym (table-transitions (c .alphabet) table (c .checked))) m) in
-              settled-all done (k .index) (k .inside) p q (k .member) e;
+              settled-all done (k .index) (k .inside) p q (k .member) e);
           within = done .reached;
         }
 
@@ -71,14 +73,16 @@ module _ {table index : List ℕ} {s : ℕ} {pending : List ℕ} {r : StateSet} 
 
 pub close-empty : {table index : List ℕ} {s : ℕ} {pending : List ℕ} → Closable table index s pending
     → Addable table index s pending (replicate 32 0)
-close-empty g =
+close-empty {table} g =
     record {
       closable = g;
       set = record {
         size = length-replicate {A = ℕ} 32 0;
         words = words-replicate 32;
         below = λ q e. absurd (true≢false (sym e ∙ contains-replicate 32 q));
-        closed = λ p q m e. absurd (true≢false (sym e ∙ contains-replicate 32 p));
+        closed =
+            test-closed (automatonOf table .transitions) (replicate 32 0)
+            (λ p q m e. absurd (true≢false (sym e ∙ contains-replicate 32 p)));
       };
     }
 
@@ -151,16 +155,16 @@ module _ {table index : List ℕ} {s : ℕ} {owners rows pending : List ℕ} (g 
 
 -- both sets are closed
 added-joined : {table : List ℕ} {s : ℕ} {r c : StateSet} → ClosedSet table r → ClosureOf table s c → Added table s r (joined r c)
-added-joined {r = r} {c = c} k d =
+added-joined {table} {r = r} {c = c} k d =
     let same : length c ≡ length r = d .size ∙ sym (k .size) in
     record {
       size = joined-length (length c) r c ∙ k .size;
       words = words-joined r c same (k .words) (d .words);
       grown = joined-left r c same;
       holds = joined-right r c same _ (d .holds);
-      closed =
-          λ p q m e. ⊎-elim (λ h. joined-left r c same q (k .closed p q m h)) (λ h. joined-right r c same q (d .closed p q m h))
-          (joined-cases r c same p e);
+      closed = test-closed (automatonOf table .transitions) (joined r c)
+          (λ p q m e. ⊎-elim (λ h. joined-left r c same q (closed-test (automatonOf table .transitions) r (k .closed) p q m h))
+          (λ h. joined-right r c same q (closed-test (automatonOf table .transitions) c (d .closed) p q m h)) (joined-cases r c same p e));
       within = λ q e. ⊎-elim inl (λ h. inr (d .within q h)) (joined-cases r c same q e);
     }
 

@@ -10,6 +10,7 @@ use borrow.Author.Tests.{eqb-true, eq-eqb, ne-eqb}
 use Rattle.words.specs.Word.{transitionKind, epsilonKind, kindNumber, hasKind, numberOf, symbolAbove, stateAbove, stateBelow}
 use Rattle.words.specs.Alphabet.{rankOf}
 use Rattle.words.proofs.TestLaws.{Tested, holds, fails, tested}
+use Rattle.automaton.proofs.PassLaws.{closed-test}
 use Rattle.automaton.specs.Transition.{Transition, onSymbol, epsilon, sourcesAt, automatonOf}
 use Rattle.automaton.specs.StateSet.{StateSet, contains, allContained}
 use Rattle.automaton.specs.Reached.{Reached, bySymbol}
@@ -32,9 +33,14 @@ module _ (table : List ℕ) (i : ℕ) where
   starts-from : numberOf (getD table i 0) ≡ kindNumber epsilonKind → {t : Transition} → List·Memᴰ t (startsAt table i)
       → t ≡ epsilon (stateAbove (getD table i 0)) (stateBelow (getD table i 0))
   starts-from e m =
-      List·Memᴰ·eq-of-singleton (rw (ne-eqb (numberOf (getD table i 0)) (kindNumber transitionKind) (λ k. omega arith), eq-eqb (numberOf (getD table i 0)) (kindNumber epsilonKind) e) at m)
+      List·Memᴰ·eq-of-singleton
+      (rw (
+        ne-eqb (numberOf (getD table i 0)) (kindNumber transitionKind) (λ k. omega arith),
+        eq-eqb (numberOf (getD table i 0)) (kindNumber epsilonKind) e,
+      ) at m)
 
-  starts-kind : {t : Transition} → List·Memᴰ t (startsAt table i) → (numberOf (getD table i 0) ≡ kindNumber transitionKind) ⊎ (numberOf (getD table i 0) ≡ kindNumber epsilonKind)
+  starts-kind : {t : Transition} → List·Memᴰ t (startsAt table i)
+      → (numberOf (getD table i 0) ≡ kindNumber transitionKind) ⊎ (numberOf (getD table i 0) ≡ kindNumber epsilonKind)
   starts-kind m = go (tested (hasKind transitionKind (getD table i 0))) (tested (hasKind epsilonKind (getD table i 0)))
     where
       go : Tested (hasKind transitionKind (getD table i 0)) → Tested (hasKind epsilonKind (getD table i 0))
@@ -74,7 +80,9 @@ module _ {table index : List ℕ} (c : IndexedTable table index) (i : ℕ) (insi
 
   module _ {f : ℕ} (s : SymbolWord (getD table i 0) f) where
     symbol-member : List·Memᴰ (onSymbol f (sourcesAt (drop (i + 1) table)) (stateBelow (getD table i 0))) (automatonOf table .transitions)
-    symbol-member = rw (← s .symbol) (member _ (rw (eq-eqb (numberOf (getD table i 0)) (kindNumber transitionKind) (s .kind)) (List·Memᴰ·head refl)))
+    symbol-member =
+        rw (← s .symbol)
+        (member _ (rw (eq-eqb (numberOf (getD table i 0)) (kindNumber transitionKind) (s .kind)) (List·Memᴰ·head refl)))
 
     pub symbol-below : stateBelow (getD table i 0) < automatonOf table .states
     symbol-below = targets-below over _ symbol-member
@@ -93,7 +101,10 @@ module _ {table index : List ℕ} (c : IndexedTable table index) (i : ℕ) (insi
     epsilon-member =
         rw (← s .from)
         (member _
-        (rw (ne-eqb (numberOf (getD table i 0)) (kindNumber transitionKind) (λ n. let k = s .kind in omega arith), eq-eqb (numberOf (getD table i 0)) (kindNumber epsilonKind) (s .kind))
+        (rw (
+          ne-eqb (numberOf (getD table i 0)) (kindNumber transitionKind) (λ n. let k = s .kind in omega arith),
+          eq-eqb (numberOf (getD table i 0)) (kindNumber epsilonKind) (s .kind),
+        )
         (List·Memᴰ·head refl)))
 
     pub epsilon-below : stateBelow (getD table i 0) < automatonOf table .states
@@ -104,9 +115,9 @@ module _ {table index : List ℕ} (c : IndexedTable table index) (i : ℕ) (insi
         → (contains base (stateBelow (getD table i 0)) ≡ true)
         ⊎ ReachedFrom (automatonOf table .transitions) o (stateBelow (getD table i 0))
     epsilon-reached base o k h =
-        ⊎-elim (λ d. inl (k p (stateBelow (getD table i 0)) epsilon-member d)) (λ d. inr (onward epsilon-member d)) h
+        ⊎-elim (λ d. inl (closed-test _ base k p (stateBelow (getD table i 0)) epsilon-member d)) (λ d. inr (onward epsilon-member d)) h
 
 -- a set that is closed is closed at each word
 pub closed-at : {table index : List ℕ} → IndexedTable table index → (r : StateSet) → Closed table r → (i : ℕ) → i < length table
     → ClosedAt table r i
-closed-at c r k i l p q m e = k p q (member c i l (epsilon p q) m) e
+closed-at c r k i l p q m e = closed-test _ r k p q (member c i l (epsilon p q) m) e

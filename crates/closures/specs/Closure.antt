@@ -9,8 +9,7 @@ use mathlib.Core.List.{List, List·Memᴰ}
 use lib.ListN.{length, getD, drop, set}
 use Rattle.words.specs.Lists.{count, listFrom}
 use Rattle.automaton.specs.Transition.{Transition, epsilon, transitionAt, automatonOf}
-use Rattle.automaton.specs.StateSet.{StateSet, contains, insert}
-use Rattle.automaton.proofs.PassLaws.{ClosedUnder, In}
+use Rattle.automaton.specs.StateSet.{StateSet, contains, insert, isClosed}
 use Rattle.operations.specs.Marks.{storedSet}
 use Rattle.index.specs.Index.{stateKey, keyOf, IndexedTable}
 
@@ -23,7 +22,7 @@ pub data ReachedFrom (ts : List Transition) (s : ℕ) : ℕ → Type 0 where
 
 -- epsilon transitions lead from states of the set to states of the set
 abbrev pub Closed : List ℕ → StateSet → Type 0
-Closed table r = ClosedUnder (automatonOf table .transitions) (In r)
+Closed table r = isClosed (automatonOf table .transitions) r ≡ true
 
 -- a set of 32 words with the states that are reached from state s, and no other
 pub record ClosureOf (table : List ℕ) (s : ℕ) (r : StateSet) : Type 0 where

@@ -7,6 +7,7 @@ use Prim.Native.Nat.{ℕ, zero, suc, _-_, _/_}
 use native.Mathlib.Omega.{arith}
 use lib.ListN.{length, getD, replicate, length-append, length-replicate}
 use Rattle.words.proofs.TestLaws.{same-truth}
+use Rattle.automaton.proofs.PassLaws.{closed-test, test-closed}
 use Rattle.automaton.specs.Transition.{Automaton, onSymbol, automatonOf}
 use Rattle.automaton.specs.StateSet.{StateSet, sizeFor, contains, allContained, stateSet}
 use Rattle.automaton.specs.Reached.{Reached}
@@ -25,7 +26,7 @@ use Rattle.closures.proofs.KeyedWordLaws.{starts-symbol, starts-target}
 pub node-seeding : {table index : List ℕ} {f size : ℕ} {marks children owners rows pending : List ℕ}
     → Steppable table index f marks children owners rows pending
     → size ≡ sizeOf table → Seeding table index f size marks children owners rows pending (replicate 32 0)
-node-seeding g e =
+node-seeding {table} g e =
     record {
       steppable = g;
       size-is = e;
@@ -33,7 +34,9 @@ node-seeding g e =
         size = length-replicate {A = ℕ} 32 0;
         words = words-replicate 32;
         reached = λ q h. absurd (true≢false (sym h ∙ contains-replicate 32 q));
-        closed = λ p q m h. absurd (true≢false (sym h ∙ contains-replicate 32 p));
+        closed =
+            test-closed (automatonOf table .transitions) (replicate 32 0)
+            (λ p q m h. absurd (true≢false (sym h ∙ contains-replicate 32 p)));
       };
     }
 
@@ -74,7 +77,8 @@ module _ {table : List ℕ} {f : ℕ} {marks children : List ℕ} (ready : Ready
 
   has-reached : {q : ℕ} → Reached (A .transitions) f rs q → contains r q ≡ true
   unfolding A
-  has-reached = seeded-closed-all (A .transitions) f rs (λ q. contains r q ≡ true) seeded (g .growing .closed)
+  has-reached =
+      seeded-closed-all (A .transitions) f rs (λ q. contains r q ≡ true) seeded (closed-test (A .transitions) r (g .growing .closed))
 
   whole : r ≡ stateSet (automatonOf table) f rs ++ replicate (32 - sizeOf table) 0
   unfolding A sizeOf
