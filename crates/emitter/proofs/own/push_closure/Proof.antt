@@ -2,9 +2,9 @@
 use native.Mathlib.Omega.{arith}
 use lib.ListN.{getD}
 use borrow.Author.Needs.{needs}
-use Rattle.emitter.proofs.WritingLaws.{wrote-next}
+use Rattle.emitter.proofs.WritingLaws.{words-written-next}
 use Rattle.emitter.proofs.EntryLaws.{to-entry}
-use Rattle.emitter.proofs.OwnLaws.{emits-later, closure-own}
+use Rattle.emitter.proofs.OwnLaws.{emittable-later, closure-own}
 use Rattle.emitter.proofs.own.push_closure.Statement.{statement}
 use Rattle.emitter.proofs.own.push_closure.Tie as tie
 
@@ -40,9 +40,9 @@ push-entries-requires c κs =
     let p = c .before .before .before .before .before .before .before .before .before .before .before .before .before .before .before
     .before .before .before .before .pre in
     let one = p .1 .0 in (
-      emits-later _ _ _ _ _ (p .0) (let m = wrote-next _ _ _ _ _ _
+      emittable-later _ _ _ _ _ (p .0) (let m = words-written-next _ _ _ _ _ _
           (c .before .before .before .before .before .before .before .before .before .push-to .ensures) in
-          let n = wrote-next _ _ _ _ _ _ (c .before .before .before .push-epsilon .ensures) in omega arith),
+          let n = words-written-next _ _ _ _ _ _ (c .before .before .before .push-epsilon .ensures) in omega arith),
       omega arith,
     )
 

@@ -2,9 +2,9 @@
 use native.Mathlib.Omega.{arith}
 use lib.ListN.{getD}
 use borrow.Author.Needs.{needs}
-use Rattle.emitter.proofs.WritingLaws.{wrote-next}
+use Rattle.emitter.proofs.WritingLaws.{words-written-next}
 use Rattle.emitter.proofs.EntryLaws.{to-entry}
-use Rattle.emitter.proofs.OwnLaws.{emits-later, product-own}
+use Rattle.emitter.proofs.OwnLaws.{emittable-later, product-own}
 use Rattle.emitter.proofs.own.push_product.Statement.{statement}
 use Rattle.emitter.proofs.own.push_product.Tie as tie
 
@@ -37,7 +37,7 @@ push-to-requires c κs =
     let p =
     c .before .before .before .before .before .before .before .before .before .before .before .before .before .before .before .pre .0 in
     let fits = p .fits in
-    let n = wrote-next _ _ _ _ _ _ (c .before .before .before .before .before .push-epsilon .ensures) in
+    let n = words-written-next _ _ _ _ _ _ (c .before .before .before .before .before .push-epsilon .ensures) in
     let x = c .exit-of2 .ensures .1 in
     (omega arith, (omega arith, c .before .before .before .before .before .before .before .before .before .entry-at .ensures .low))
 
@@ -46,9 +46,9 @@ push-entries-requires c κs =
     let p = c .before .before .before .before .before .before .before .before .before .before .before .before .before .before .before
     .before .before .before .before .pre in
     let two = p .1 .0 in (
-      emits-later _ _ _ _ _ (p .0) (let m = wrote-next _ _ _ _ _ _
+      emittable-later _ _ _ _ _ (p .0) (let m = words-written-next _ _ _ _ _ _
           (c .before .before .before .before .before .before .before .before .before .push-epsilon .ensures) in
-          let n = wrote-next _ _ _ _ _ _
+          let n = words-written-next _ _ _ _ _ _
           (c .before .before .before .push-to .ensures) in omega arith),
       omega arith,
     )
