@@ -24,7 +24,7 @@ use words::word::SOURCE;
 use words::word::kind_of;
 
 // The index of a constant.
-fn index_of(constants: &[u32], c: u32) -> usize
+fn constant_index(constants: &[u32], c: u32) -> usize
     requires { ⌜ ListedConstant (now constants) c ⌝ }
     ensures { λ r. ⌜ (r < length (now (constants .entry))) × (getD (now (constants .entry)) r 0 ≡ c) ⌝ }
 {
@@ -125,7 +125,7 @@ fn push_product(
         (now (out .entry)) (now (out .exit)) r
         ⌝ }
 {
-    let entry = entry_at(constants, ports[0], index_of(constants, c));
+    let entry = entry_at(constants, ports[0], constant_index(constants, c));
     let second = push_epsilon(out, at, exit_of(ports[0]), exit);
     let next = push_to(out, second, exit_of(ports[1]), entry);
     push_entries(constants, ports, out, next, exit, Targets::Product(c))
@@ -149,7 +149,7 @@ fn push_closure(
         (now (out .entry)) (now (out .exit)) r
         ⌝ }
 {
-    let entry = entry_at(constants, ports[0], index_of(constants, c));
+    let entry = entry_at(constants, ports[0], constant_index(constants, c));
     let second = push_to(out, at, exit_of(ports[0]), entry);
     let next = push_epsilon(out, second, exit_of(ports[0]), exit);
     push_entries(constants, ports, out, next, exit, Targets::Closure(c))

@@ -14,7 +14,7 @@ use Rattle.operations.proofs.AcceptedLaws.{accepted-values, list-accepted}
 use Rattle.operations.proofs.CompileLaws.{CompileAccepted, compile-accepted}
 use Rattle.compiler.specs.declared.Compiled.{Compiled}
 use Rattle.compiler.specs.declared.Compiled.the-variants.{Table, Refused as Compiled·Refused}
-use Rattle.compiler.specs.Answers.{answerIn}
+use Rattle.compiler.specs.Answers.{answerInCompiled}
 use Rattle.matcher.specs.declared.Ran.{Ran}
 use Rattle.matcher.specs.declared.Ran.the-variants.{Marked, Refused as Ran·Refused}
 use Rattle.matcher.specs.declared.Listed.{Listed}
@@ -62,14 +62,15 @@ module _ (complete : Bool) (a e ch : List ℕ) {out out′ : List ℕ} {r : ℕ}
 -- ---- Compile
 
 module _ (a e ch : List ℕ) where
-  pub refused-compiled : {n x : ℕ} {out out′ : List ℕ} (r : Compiled) → r ≡ Compiled·Refused n → answerIn r ≡ compileAnswer a e (zeros 2048)
+  pub refused-compiled : {n x : ℕ} {out out′ : List ℕ} (r : Compiled) → r ≡ Compiled·Refused n
+      → answerInCompiled r ≡ compileAnswer a e (zeros 2048)
       → BytesWritten 0 (refusedLine n) out out′ x → BytesWritten 0 (marklistOutput a e ch) out out′ x
   refused-compiled {n} r q h w =
       let g : refused n ≡ compileAnswer a e (zeros 2048) = rw q at h in
       bytes-written-same w (sym (compile-refused a e ch (zeros 2048) n (many 2048) g))
 
-module _ (a e slice : List ℕ) {table : List ℕ} {k : ℕ} (r : Compiled) (told : r ≡ Table k) (h : answerIn r ≡ compileAnswer a e slice)
-    (exit : table ≡ compileExit a e slice) where
+module _ (a e slice : List ℕ) {table : List ℕ} {k : ℕ} (r : Compiled) (told : r ≡ Table k)
+    (h : answerInCompiled r ≡ compileAnswer a e slice) (exit : table ≡ compileExit a e slice) where
   answer : accepted (k ∷ []) ≡ compileAnswer a e slice
   answer = rw told at h
 

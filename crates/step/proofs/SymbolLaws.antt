@@ -19,7 +19,7 @@ use Rattle.index.specs.Index.{IndexedTable}
 use Rattle.step.specs.Ready.{Prepared, RowsInside, childSets}
 use Rattle.closures.specs.Closure.{ReachedFrom, itself, onward, Closures, Joinable, JoinedClosure}
 use Rattle.step.specs.Node.{SourcesReadable, Growing, Satisfied, Steppable}
-use Rattle.step.specs.Node.{SymbolFollowable, SymbolFollowed, TransitionFollowable, Joined}
+use Rattle.step.specs.Node.{SymbolFollowable, SymbolFollowed, TransitionFollowable, TransitionFollowed}
 use Rattle.index.proofs.ChainLaws.{FirstWith, SymbolWord, nextWith, next-some, next-none, keyed-symbol}
 use Rattle.closures.proofs.KeyedWordLaws.{symbol-below, symbol-reached, symbol-sources}
 use Rattle.closures.proofs.FollowLaws.{InChain, left, states-most, keyed, chain-first, in-chain, chain-next, left-less}
@@ -86,14 +86,14 @@ module _ {table index : List ℕ} {size : ℕ} {marks children owners rows pendi
 
   -- the set stays: it has the target, or the part states are not in the children's sets
   pub transition-still : Satisfied table (childSets size marks children) r i
-      → Joined table (keyOf (getD table i 0)) (childSets size marks children) i r r owners rows
+      → TransitionFollowed table (keyOf (getD table i 0)) (childSets size marks children) i r r owners rows
   transition-still h =
       record { closures = g .followable .steppable .closures; growing = g .followable .growing; grown = λ q e. e; satisfied = h }
 
   pub transition-more : allContained (sourcesAt (drop (i + 1) table)) (childSets size marks children) ≡ true
       → {t : StateSet} {owners′ rows′ : List ℕ}
       → JoinedClosure table (stateBelow (getD table i 0)) r t owners′ rows′
-      → Joined table (keyOf (getD table i 0)) (childSets size marks children) i r t owners′ rows′
+      → TransitionFollowed table (keyOf (getD table i 0)) (childSets size marks children) i r t owners′ rows′
   transition-more h {t} j =
       let a = j .added in
       let target = symbol-reached checked i (g .inside) symbol (childSets size marks children) h in
@@ -174,7 +174,7 @@ module _ {table index : List ℕ} {f size : ℕ} {marks children owners rows pen
       symbol-less = left-less chain symbol-next key-below h
 
       pub symbol-more : {t : StateSet} {owners′ rows′ pending′ : List ℕ} → length pending′ ≡ length pending
-          → Joined table (keyOf (getD table i 0)) (childSets size marks children) i r t owners′ rows′
+          → TransitionFollowed table (keyOf (getD table i 0)) (childSets size marks children) i r t owners′ rows′
           → SymbolAt table index f size marks children owners′ rows′ pending′ t pendingLength (getD index (1280 + i) 0)
       symbol-more {t} {owners′} {rows′} {pending′} e j =
           record {

@@ -50,7 +50,7 @@ pub record TransitionFollowable (table index : List ℕ) (size : ℕ) (marks chi
   pub inside : i < length table
 
 -- the transition at word i was followed: the set r has become t
-pub record Joined (table : List ℕ) (f : ℕ) (rs : List StateSet) (i : ℕ) (r t : StateSet) (owners rows : List ℕ) : Type 0 where
+pub record TransitionFollowed (table : List ℕ) (f : ℕ) (rs : List StateSet) (i : ℕ) (r t : StateSet) (owners rows : List ℕ) : Type 0 where
   pub closures : Closures table owners rows
   pub growing : Growing table f rs t
   pub grown : (q : ℕ) → contains r q ≡ true → contains t q ≡ true

@@ -9,7 +9,8 @@ ghost use Rattle.operations.specs.Marks.{sizeOf};
 ghost use Rattle.index.specs.Index.{keyOf};
 ghost use Rattle.step.specs.Ready.{childSets};
 ghost use Rattle.closures.specs.Closure.{Closures};
-ghost use Rattle.step.specs.Node.{SourcesReadable, Steppable, SymbolFollowable, TransitionFollowable, Joined, SymbolFollowed};
+ghost use Rattle.step.specs.Node.{SourcesReadable, Steppable, SymbolFollowable, SymbolFollowed};
+ghost use Rattle.step.specs.Node.{TransitionFollowable, TransitionFollowed};
 use closures::join_closure;
 use index::KEYS;
 use sets::state::contains;
@@ -54,8 +55,9 @@ fn follow_transition(
         TransitionFollowable (now table) (now index) size (now marks) (now children) (now owners) (now rows) (now pending) (now set) i
         ⌝ }
     ensures { λ _. ⌜
-        Joined (now (table .entry)) (keyOf (getD (now (table .entry)) i 0)) (childSets size (now (marks .entry)) (now (children .entry))) i
-        (now (set .entry)) (now (set .exit)) (now (owners .exit)) (now (rows .exit))
+        TransitionFollowed (now (table .entry)) (keyOf (getD (now (table .entry)) i 0))
+        (childSets size (now (marks .entry)) (now (children .entry))) i (now (set .entry)) (now (set .exit))
+        (now (owners .exit)) (now (rows .exit))
         ⌝ }
 {
     let target = (table[i] % STATE_RANGE) as usize;

@@ -4,7 +4,7 @@ use mathlib.Core.Path.{sym}
 use native.Mathlib.Omega.{arith}
 use borrow.Author.Needs.{needs}
 use Rattle.words.specs.Postfix.{arity}
-use Rattle.words.proofs.StartLaws.{arity-most, arity-missing, start-missing, Backward}
+use Rattle.words.proofs.StartLaws.{arity-byte, arity-missing, start-missing, Backward}
 use Rattle.words.proofs.StartLaws.{backward-first, backward-short, backward-more, backward-end}
 use Rattle.words.proofs.postfix.subtree_start.Statement.{statement}
 use Rattle.words.proofs.postfix.subtree_start.Tie as tie
@@ -44,7 +44,7 @@ arity-requires c κs = search needs
 
 add-needed : tie.Need-add-needed Inv-loop μ-loop
 add-needed c =
-    let h = arity-most _ _ _ (c .arity .ensures) in
+    let h = arity-byte _ _ _ (c .arity .ensures) in
     omega arith
 
 loop-less : tie.Need-loop-less Inv-loop μ-loop
