@@ -1,4 +1,4 @@
--- `report` meets its contract: each return writes what the laws of Compile say of its answer, and the output fits the slice,
+-- `report::report` meets its contract: each return writes what the laws of Compile say of its answer, and the output fits the slice,
 -- so all of it is written.
 use borrow.Author.Tests.{not-true, not-false}
 use Rattle.report.proofs.ReportLaws.{complete-whole, early-whole, refused-compiled, table-counted, table-fits}

@@ -1,4 +1,4 @@
--- `compiler::table::write_words` meets its contract. The invariant: the transitions of the first i words are written, and those of
+-- `compiler::table::write_words` meets its contract: before each turn the transitions of the first i words are written, and those of
 -- the words from i on follow from the next state and the stack.
 use Prim.Native.Nat.{_-_}
 use mathlib.Core.Path.{refl, ap}

@@ -1,4 +1,4 @@
--- `emitter::constants::push_every` meets its contract. The invariant: the moves of the first k constants are written.
+-- `emitter::constants::push_every` meets its contract: before each turn the moves of the first k constants are written.
 use Prim.Native.Nat.{_-_}
 use native.Mathlib.Omega.{arith}
 use lib.ListN.{length}

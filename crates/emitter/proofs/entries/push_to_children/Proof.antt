@@ -1,4 +1,4 @@
--- `emitter::entries::push_to_children` meets its contract. The invariant: the transitions to the first i children are written.
+-- `emitter::entries::push_to_children` meets its contract: before each turn the transitions to the first i children are written.
 use Prim.Native.Nat.{_+_, _-_}
 use native.Mathlib.Omega.{arith}
 use lib.ListN.{length, getD}

@@ -1,4 +1,4 @@
--- `emitter::own::constant_index` meets its contract. The invariant: c stands at no index below k.
+-- `emitter::own::constant_index` meets its contract: before each turn c stands at no index below k.
 use Prim.Native.Nat.{ℕ, _≤_, _<_, _-_}
 use mathlib.Core.Path.{_≡_}
 use native.Mathlib.Omega.{arith}

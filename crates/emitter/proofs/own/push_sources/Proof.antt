@@ -1,4 +1,4 @@
--- `emitter::own::push_sources` meets its contract. The invariant: the first i children's exits are written.
+-- `emitter::own::push_sources` meets its contract: before each turn the first i children's exits are written.
 use Prim.Native.Nat.{_-_}
 use native.Mathlib.Omega.{arith}
 use lib.ListN.{length}

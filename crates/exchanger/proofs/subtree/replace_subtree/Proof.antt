@@ -1,5 +1,5 @@
--- `subtree::replace_subtree` meets its contract: both tails move, the replacement fills the chapter's gap, and the loops recompute
--- what the definition says, with the old element's words at the root's place.
+-- `exchanger::subtree::replace_subtree` meets its contract: both tails move, the replacement fills the chapter's gap, and the loops
+-- recompute what the definition says, with the old element's words at the root's place.
 use mathlib.Core.Path.{sym, ap₂}
 use mathlib.Core.List.{[], _∷_}
 use Prim.Native.Nat.{ℕ}

@@ -1,4 +1,4 @@
--- `postfix::subtree_start` meets its contract. The loop's invariant: the node's subtree begins where the trees that are still
+-- `words::postfix::subtree_start` meets its contract: before each turn the node's subtree begins where the trees that are still
 -- needed before `start` begin.
 use mathlib.Core.Path.{sym}
 use native.Mathlib.Omega.{arith}
