@@ -11,7 +11,7 @@ use Rattle.words.specs.Word.{lowByte}
 use Rattle.words.specs.Alphabet.{constantsOf, isConstant}
 use Rattle.words.specs.Postfix.{arity}
 use Rattle.words.specs.Expression.{expressionFault}
-use Rattle.words.proofs.AllLaws.{All, all-append, all-map, all-both, all-self}
+use Rattle.words.proofs.AllLaws.{All, each-append, each-map, all-both, all-self}
 use Rattle.words.proofs.AlphabetLaws.{constantsOf-isConstant, isConstant-zero}
 use Rattle.words.proofs.Ascending.{Ascending, end, next, ascending-le, ascending-append, ascending-one}
 use Rattle.automaton.specs.Transition.{Transition, onSymbol, epsilon}
@@ -58,14 +58,14 @@ module _ (a : List ℕ) where
   epsilons-over : {lo hi : ℕ} (n p : ℕ) {qs : List ℕ} → p < n → Ascending lo hi qs → hi ≤ n → All (TransitionOver a n) (epsilons p qs)
   epsilons-over n p {qs} l s h =
       to-epsilons (TransitionOver a n) p qs
-      (all-map (λ q. q < n) (λ q. TransitionOver a n (epsilon p q)) (λ q k. (l, k)) qs (below-of n s h))
+      (each-map (λ q. q < n) (λ q. TransitionOver a n (epsilon p q)) (λ q k. (l, k)) qs (below-of n s h))
 
   entryEpsilons-over : {lo hi l h : ℕ} (targets : ℕ → List ℕ) (es : List (ℕ × ℕ)) → Ascending lo hi (statesIn es)
       → ((c : ℕ) → Ascending l h (targets c)) → h ≤ hi → All (TransitionOver a hi) (entryEpsilons es targets)
   entryEpsilons-over {hi} targets es s t k =
       to-entryEpsilons (TransitionOver a hi) targets es
-      (all-map (λ e. e .1 < hi) (λ e. All (λ p. TransitionOver a hi (epsilon (e .1) p)) (targets (e .0)))
-      (λ e m. all-map (λ q. q < hi) (λ q. (e .1 < hi) × (q < hi)) (λ q j. (m, j)) (targets (e .0)) (below-of hi (t (e .0)) k)) es
+      (each-map (λ e. e .1 < hi) (λ e. All (λ p. TransitionOver a hi (epsilon (e .1) p)) (targets (e .0)))
+      (λ e m. each-map (λ q. q < hi) (λ q. (e .1 < hi) × (q < hi)) (λ q j. (m, j)) (targets (e .0)) (below-of hi (t (e .0)) k)) es
       (entries-below es s))
 
   own-over : {hi w lo n : ℕ} {E : Port} {Ps : List Port} {ts : List Transition} → PortIn a n hi E → Children a lo n Ps
@@ -84,7 +84,7 @@ module _ (a : List ℕ) where
       let us = epsilons-over hi (G .exit) (omega arith) (entryFor-ascending c F p) (omega arith) in
       let ts = entryEpsilons-over (productTargets c F G) (E .entries) (i .states) (product-ascending c p q) (omega arith) in (
         (omega arith, x .below),
-        all-append (TransitionOver a hi) (epsilons (G .exit) (entryFor F c)) (entryEpsilons (E .entries) (productTargets c F G)) us ts,
+        each-append (TransitionOver a hi) (epsilons (G .exit) (entryFor F c)) (entryEpsilons (E .entries) (productTargets c F G)) us ts,
       )
   own-over {hi} {w} {E} x (child p (noChild l)) (ofClosure {F} i) =
       let c = lowByte w in
@@ -93,7 +93,7 @@ module _ (a : List ℕ) where
       let ts =
       entryEpsilons-over (closureTargets c (E .exit) F) (E .entries) (i .states) (closure-ascending c p (le-trans l (x .from)))
       (x .below) in
-      all-append (TransitionOver a hi) (epsilons (F .exit) (entryFor F c ++ (E .exit ∷ [])))
+      each-append (TransitionOver a hi) (epsilons (F .exit) (entryFor F c ++ (E .exit ∷ [])))
       (entryEpsilons (E .entries) (closureTargets c (E .exit) F)) us ts
 
   -- ---- every word
@@ -106,8 +106,8 @@ module _ (a : List ℕ) where
       let m = n + statesOf a w in
       let N = statesAfter a m ws in
       let ts = ownTransitions w (portOf a n w) (childrenOn a w stack) in
-      all-append (TransitionOver a N) ts (transitionsFrom a m ws (portOf a n w ∷ drop (arity a w) stack))
-      (all-map (TransitionOver a m) (TransitionOver a N) (over-more m N (statesAfter-le a ws m)) ts
+      each-append (TransitionOver a N) ts (transitionsFrom a m ws (portOf a n w ∷ drop (arity a w) stack))
+      (each-map (TransitionOver a m) (TransitionOver a N) (over-more m N (statesAfter-le a ws m)) ts
       (own-over (d .port) (d .children) (d .own)))
       (reading-over r)
 
@@ -116,7 +116,7 @@ module _ (a : List ℕ) where
   entries-constants : {x : ℕ} {es : List (ℕ × ℕ)} → Entries a x es → All (λ e. isConstant a (e .0) ≡ true) es
   entries-constants {x} every =
       numbered-all (λ c. isConstant a c ≡ true) (suc x) (constantsOf a)
-      (all-map (λ c. List·Memᴰ c (constantsOf a)) (λ c. isConstant a c ≡ true) (λ c m. constantsOf-isConstant a c .0 m) (constantsOf a)
+      (each-map (λ c. List·Memᴰ c (constantsOf a)) (λ c. isConstant a c ≡ true) (λ c m. constantsOf-isConstant a c .0 m) (constantsOf a)
       (all-self (constantsOf a)))
   entries-constants (own c h) = (h, tt)
   entries-constants missing = tt
@@ -124,7 +124,7 @@ module _ (a : List ℕ) where
   constants-over : {lo n : ℕ} {P : Port} → PortIn a lo n P → All (TransitionOver a n) (constantTransitions (P .entries))
   constants-over {n} {P} p =
       to-constants (TransitionOver a n) (P .entries)
-      (all-map (λ e. (isConstant a (e .0) ≡ true) × (e .1 < n)) (λ e. TransitionOver a n (onSymbol (e .0) [] (e .1)))
+      (each-map (λ e. (isConstant a (e .0) ≡ true) × (e .1 < n)) (λ e. TransitionOver a n (onSymbol (e .0) [] (e .1)))
       (λ e h. let z = isConstant-zero a (e .0) (h .0) in (z .0, z .1, tt, h .1)) (P .entries)
       (all-both (λ e. isConstant a (e .0) ≡ true) (λ e. e .1 < n) (P .entries) (entries-constants (p .shape))
       (entries-below (P .entries) (p .states))))
@@ -141,5 +141,5 @@ module _ (a : List ℕ) where
         most = m;
         final = p .below;
         transitions =
-            over-all a N (cs ++ ts) (all-append (TransitionOver a N) cs ts (constants-over p) (reading-over (expression-reading a e f)));
+            over-all a N (cs ++ ts) (each-append (TransitionOver a N) cs ts (constants-over p) (reading-over (expression-reading a e f)));
       }

@@ -8,7 +8,7 @@ use mathlib.Core.List.{List, [], _∷_, _++_, flatMap, List·Memᴰ}
 use lib.Dec.{eqb}
 use borrow.Author.Tests.{eqb-false}
 use Rattle.words.specs.Tree.{Tree, Trees, node, more}
-use Rattle.words.proofs.AllLaws.{All, all-append, all-left, all-right, all-map, all-both}
+use Rattle.words.proofs.AllLaws.{All, each-append, each-left, each-right, each-map, all-both}
 use Rattle.language.specs.Expression.{Expression, Expressions, symbol, empty, union, product, closure, noneᵉ, moreᵉ}
 use Rattle.language.specs.Membership.{Language, Assignment, Substitution, Substitutions, atConstant}
 use Rattle.language.specs.Membership.{atSymbol, atNone, atMore, Product, Step, Member, Members}
@@ -38,17 +38,17 @@ module _ (cs : List ℕ) (ts : List Transition) where
       go : Member F u ⊎ Member G u → Reaches ts (next cs G g) t
       go (inl x) =
           onEpsilon (h .0)
-          (iF σ (entered cs ts F n kF σ (λ a k. all-left (ReachedBy ts (σ a)) (entry cs F n a) (entry cs G g a) (each a k))) t (u, x, p))
+          (iF σ (entered cs ts F n kF σ (λ a k. each-left (ReachedBy ts (σ a)) (entry cs F n a) (entry cs G g a) (each a k))) t (u, x, p))
       go (inr x) =
           onEpsilon (h .1 .0)
-          (iG σ (entered cs ts G g kG σ (λ a k. all-right (ReachedBy ts (σ a)) (entry cs F n a) (entry cs G g a) (each a k))) t (u, x, p))
+          (iG σ (entered cs ts G g kG σ (λ a k. each-right (ReachedBy ts (σ a)) (entry cs F n a) (entry cs G g a) (each a k))) t (u, x, p))
 
   complete-product : (c : ℕ) (F G : Expression) (n : ℕ) → ConstantsListed cs F → ConstantsListed cs G → Complete F n
       → Complete G (next cs F n) → All (Present ts) (own cs (product c F G) n) → Complete (product c F G) n
   complete-product c F G n kF kG iF iG h σ f t d =
       onEpsilon (h .0)
       (iF (assigned σ c L)
-      (entered-assigned cs ts F n kF σ c L into-F (λ a k. all-left (ReachedBy ts (σ a)) (but-c a) (entry cs G g a) (each a k))) t
+      (entered-assigned cs ts F n kF σ c L into-F (λ a k. each-left (ReachedBy ts (σ a)) (but-c a) (entry cs G g a) (each a k))) t
       (product-in c (Member F) (Member G) σ t d))
     where
       g : ℕ
@@ -66,20 +66,20 @@ module _ (cs : List ℕ) (ts : List Transition) where
       each : (a : ℕ) → List·Memᴰ a cs → AllReachedBy ts (σ a) (but-c a ++ entry cs G g a)
       each =
           from-entries cs ts σ (suc (next cs G g)) (λ a. but-c a ++ entry cs G g a) f
-          (all-right (Present ts) (epsilons (exitState cs G g) (entry cs F n c)) entriesWritten (h .1))
+          (each-right (Present ts) (epsilons (exitState cs G g) (entry cs F n c)) entriesWritten (h .1))
 
       out-of-G : ReachedBy ts L (exitState cs G g)
-      out-of-G = iG σ (entered cs ts G g kG σ (λ a k. all-right (ReachedBy ts (σ a)) (but-c a) (entry cs G g a) (each a k)))
+      out-of-G = iG σ (entered cs ts G g kG σ (λ a k. each-right (ReachedBy ts (σ a)) (but-c a) (entry cs G g a) (each a k)))
 
       into-F : AllReachedBy ts L (entry cs F n c)
       into-F =
           along ts L (exitState cs G g) out-of-G (entry cs F n c)
-          (all-left (Present ts) (epsilons (exitState cs G g) (entry cs F n c)) entriesWritten (h .1))
+          (each-left (Present ts) (epsilons (exitState cs G g) (entry cs F n c)) entriesWritten (h .1))
 
   complete-closure : (c : ℕ) (F : Expression) (n : ℕ) → List·Memᴰ c cs → ConstantsListed cs F → Complete F n
       → All (Present ts) (own cs (closure c F) n) → Complete (closure c F) n
   complete-closure c F n kc kF iF h σ f t (u, (k, s), p) =
-      all-right (ReachedBy ts (steps k)) (entry cs F n c) (x ∷ []) (every-step k) .0 t (u, s, p)
+      each-right (ReachedBy ts (steps k)) (entry cs F n c) (x ∷ []) (every-step k) .0 t (u, s, p)
     where
       x : ℕ
       x = next cs F n
@@ -103,10 +103,10 @@ module _ (cs : List ℕ) (ts : List Transition) where
       each : (a : ℕ) → List·Memᴰ a cs → AllReachedBy ts (σ a) (entry cs F n a ++ straight a)
       each =
           from-entries cs ts σ (suc x) (λ a. entry cs F n a ++ straight a) f
-          (all-right (Present ts) (epsilons (exitState cs F n) loop) entriesWritten h)
+          (each-right (Present ts) (epsilons (exitState cs F n) loop) entriesWritten h)
 
       each-F : (a : ℕ) → List·Memᴰ a cs → AllReachedBy ts (σ a) (entry cs F n a)
-      each-F a k = all-left (ReachedBy ts (σ a)) (entry cs F n a) (straight a) (each a k)
+      each-F a k = each-left (ReachedBy ts (σ a)) (entry cs F n a) (straight a) (each a k)
 
       but-c : (a : ℕ) (b : Bool) → AllReachedBy ts (σ a) (entry cs F n a) → AllReachedBy ts (σ a) (cond b [] (entry cs F n a))
       but-c a true g = tt
@@ -125,7 +125,7 @@ module _ (cs : List ℕ) (ts : List Transition) where
           along ts (turn k) (exitState cs F n)
           (λ r d. iF (assigned σ c (steps k)) (entered-assigned cs ts F n kF σ c (steps k) g (λ a m. but-c a (eqb a c) (each-F a m))) r
           (product-in c (Member F) (Step c (Member F) k) σ r d))
-          loop (all-left (Present ts) (epsilons (exitState cs F n) loop) entriesWritten h)
+          loop (each-left (Present ts) (epsilons (exitState cs F n) loop) entriesWritten h)
 
       either : (k q : ℕ) → ReachedBy ts (steps k) q × ReachedBy ts (turn k) q → ReachedBy ts (steps (suc k)) q
       either k q b r (v, inl y, z) = b .0 r (v, y, z)
@@ -134,12 +134,12 @@ module _ (cs : List ℕ) (ts : List Transition) where
       every-step : (k : ℕ) → AllReachedBy ts (steps k) loop
       every-step zero =
           smaller ts (steps 0) (σ c) base loop
-          (all-append (ReachedBy ts (σ c)) (entry cs F n c) (x ∷ []) (each-F c kc)
-          (to-exit (eqb c c) refl (all-right (ReachedBy ts (σ c)) (entry cs F n c) (straight c) (each c kc)), tt))
+          (each-append (ReachedBy ts (σ c)) (entry cs F n c) (x ∷ []) (each-F c kc)
+          (to-exit (eqb c c) refl (each-right (ReachedBy ts (σ c)) (entry cs F n c) (straight c) (each c kc)), tt))
       every-step (suc k) =
-          all-map (λ q. ReachedBy ts (steps k) q × ReachedBy ts (turn k) q) (ReachedBy ts (steps (suc k))) (either k) loop
+          each-map (λ q. ReachedBy ts (steps k) q × ReachedBy ts (turn k) q) (ReachedBy ts (steps (suc k))) (either k) loop
           (all-both (ReachedBy ts (steps k)) (ReachedBy ts (turn k)) loop (every-step k)
-          (turned k (all-left (ReachedBy ts (steps k)) (entry cs F n c) (x ∷ []) (every-step k))))
+          (turned k (each-left (ReachedBy ts (steps k)) (entry cs F n c) (x ∷ []) (every-step k))))
 
   -- the same of a row of parts
   CompleteAll : Expressions → ℕ → Type 1
@@ -169,9 +169,9 @@ module _ (cs : List ℕ) (ts : List Transition) where
   complete-more e es n k i is σ g us ws m atNone = absurd m
   complete-more e es n k i is σ g us′ ws′ m (atMore {u = v} {t = w} {us = vs} {ts = ws} p ps) =
       onMore
-      (i σ (entered cs ts e n k σ (λ a l. all-left (ReachedBy ts (σ a)) (entry cs e n a) (childEntries cs es (next cs e n) a) (g a l))) w
+      (i σ (entered cs ts e n k σ (λ a l. each-left (ReachedBy ts (σ a)) (entry cs e n a) (childEntries cs es (next cs e n) a) (g a l))) w
       (v, m .0, p))
-      (is σ (λ a l. all-right (ReachedBy ts (σ a)) (entry cs e n a) (childEntries cs es (next cs e n) a) (g a l)) vs ws (m .1) ps)
+      (is σ (λ a l. each-right (ReachedBy ts (σ a)) (entry cs e n a) (childEntries cs es (next cs e n) a) (g a l)) vs ws (m .1) ps)
 
   complete-none : (n : ℕ) → CompleteAll noneᵉ n
   unfolding CompleteAll
@@ -181,31 +181,32 @@ module _ (cs : List ℕ) (ts : List Transition) where
   mutual
     pub complete-expression : (E : Expression) (n : ℕ) → ConstantsListed cs E → All (Present ts) (transitionsOf cs E n) → Complete E n
     complete-expression (symbol f es) n k h =
-        complete-symbol f es n (complete-all es n (k .1) (all-left (Present ts) (transitionsOfAll cs es n) (own cs (symbol f es) n) h))
-        (all-right (Present ts) (transitionsOfAll cs es n) (own cs (symbol f es) n) h)
+        complete-symbol f es n (complete-all es n (k .1) (each-left (Present ts) (transitionsOfAll cs es n) (own cs (symbol f es) n) h))
+        (each-right (Present ts) (transitionsOfAll cs es n) (own cs (symbol f es) n) h)
     complete-expression empty n k h = λ σ g t d. absurd (d .1)
     complete-expression (union F G) n k h =
         let g = next cs F n in
-        let hG = all-right (Present ts) (transitionsOf cs F n) (transitionsOf cs G g ++ own cs (union F G) n) h in
+        let hG = each-right (Present ts) (transitionsOf cs F n) (transitionsOf cs G g ++ own cs (union F G) n) h in
         complete-union F G n (k .0) (k .1)
-        (complete-expression F n (k .0) (all-left (Present ts) (transitionsOf cs F n) (transitionsOf cs G g ++ own cs (union F G) n) h))
-        (complete-expression G g (k .1) (all-left (Present ts) (transitionsOf cs G g) (own cs (union F G) n) hG))
-        (all-right (Present ts) (transitionsOf cs G g) (own cs (union F G) n) hG)
+        (complete-expression F n (k .0) (each-left (Present ts) (transitionsOf cs F n) (transitionsOf cs G g ++ own cs (union F G) n) h))
+        (complete-expression G g (k .1) (each-left (Present ts) (transitionsOf cs G g) (own cs (union F G) n) hG))
+        (each-right (Present ts) (transitionsOf cs G g) (own cs (union F G) n) hG)
     complete-expression (product c F G) n k h =
         let g = next cs F n in
-        let hG = all-right (Present ts) (transitionsOf cs F n) (transitionsOf cs G g ++ own cs (product c F G) n) h in
+        let hG = each-right (Present ts) (transitionsOf cs F n) (transitionsOf cs G g ++ own cs (product c F G) n) h in
         complete-product c F G n (k .1) (k .2)
-        (complete-expression F n (k .1) (all-left (Present ts) (transitionsOf cs F n) (transitionsOf cs G g ++ own cs (product c F G) n) h))
-        (complete-expression G g (k .2) (all-left (Present ts) (transitionsOf cs G g) (own cs (product c F G) n) hG))
-        (all-right (Present ts) (transitionsOf cs G g) (own cs (product c F G) n) hG)
+        (complete-expression F n (k .1)
+        (each-left (Present ts) (transitionsOf cs F n) (transitionsOf cs G g ++ own cs (product c F G) n) h))
+        (complete-expression G g (k .2) (each-left (Present ts) (transitionsOf cs G g) (own cs (product c F G) n) hG))
+        (each-right (Present ts) (transitionsOf cs G g) (own cs (product c F G) n) hG)
     complete-expression (closure c F) n k h =
         complete-closure c F n (k .0) (k .1)
-        (complete-expression F n (k .1) (all-left (Present ts) (transitionsOf cs F n) (own cs (closure c F) n) h))
-        (all-right (Present ts) (transitionsOf cs F n) (own cs (closure c F) n) h)
+        (complete-expression F n (k .1) (each-left (Present ts) (transitionsOf cs F n) (own cs (closure c F) n) h))
+        (each-right (Present ts) (transitionsOf cs F n) (own cs (closure c F) n) h)
 
     complete-all : (es : Expressions) (n : ℕ) → ConstantsListedAll cs es → All (Present ts) (transitionsOfAll cs es n) → CompleteAll es n
     complete-all noneᵉ n k h = complete-none n
     complete-all (moreᵉ e es) n k h =
         complete-more e es n (k .0)
-        (complete-expression e n (k .0) (all-left (Present ts) (transitionsOf cs e n) (transitionsOfAll cs es (next cs e n)) h))
-        (complete-all es (next cs e n) (k .1) (all-right (Present ts) (transitionsOf cs e n) (transitionsOfAll cs es (next cs e n)) h))
+        (complete-expression e n (k .0) (each-left (Present ts) (transitionsOf cs e n) (transitionsOfAll cs es (next cs e n)) h))
+        (complete-all es (next cs e n) (k .1) (each-right (Present ts) (transitionsOf cs e n) (transitionsOfAll cs es (next cs e n)) h))

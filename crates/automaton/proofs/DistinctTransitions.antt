@@ -7,7 +7,7 @@ use native.Mathlib.Omega.{arith}
 use lib.ListN.{length, drop}
 use Rattle.words.specs.Postfix.{arity}
 use Rattle.words.specs.Expression.{expressionFault}
-use Rattle.words.proofs.AllLaws.{All, all-append, all-map}
+use Rattle.words.proofs.AllLaws.{All, each-append, each-map}
 use Rattle.words.proofs.Ascending.{Ascending, next}
 use Rattle.words.proofs.DistinctLaws.{Distinct, distinct-append}
 use Rattle.automaton.specs.Transition.{Transition, onSymbol, epsilon}
@@ -38,8 +38,8 @@ reading-apart {a} (word {n} {w} {ws} {stack} d r) =
     let o = own-of (d .port) (d .own) in
     record {
       rest =
-          all-append (OfRest n stack) ts us (all-map _ (OfRest n stack) (word-rest d) ts o)
-          (all-map (OfRest m stack′) (OfRest n stack) (rest-rest d) us (i .rest));
+          each-append (OfRest n stack) ts us (each-map _ (OfRest n stack) (word-rest d) ts o)
+          (each-map (OfRest m stack′) (OfRest n stack) (rest-rest d) us (i .rest));
       distinct =
           distinct-append (OfWord (portOf a n w .exit) m Ps) (OfRest m stack′) (word-apart d) ts us o (i .rest)
           (inOrder-distinct (own-ordered (d .port .from) (d .children) (d .own))) (i .distinct);

@@ -5,7 +5,7 @@ use mathlib.Core.Bool.{Bool, true, false, cond}
 use mathlib.Core.List.{List, [], _∷_, List·Memᴰ, List·Memᴰ·head, List·Memᴰ·tail}
 use lib.Dec.{eqb}
 use borrow.Author.Tests.{eqb-true, eqb-false}
-use Rattle.words.proofs.AllLaws.{All, all-append, all-left, all-right}
+use Rattle.words.proofs.AllLaws.{All, each-append, each-left, each-right}
 use Rattle.automaton.specs.Transition.{Transition, onSymbol, epsilon}
 use Rattle.automaton.specs.Numbering.{numbered, lookup, epsilons, entryEpsilons, constantTransitions}
 
@@ -62,15 +62,15 @@ module _ (C : Transition → Type 0) where
       → All C (entryEpsilons es targets)
   to-entryEpsilons targets [] h = tt
   to-entryEpsilons targets (e ∷ es) h =
-      all-append C (epsilons (e .1) (targets (e .0))) (entryEpsilons es targets)
+      each-append C (epsilons (e .1) (targets (e .0))) (entryEpsilons es targets)
       (to-epsilons (e .1) (targets (e .0)) (h .0)) (to-entryEpsilons targets es (h .1))
 
   pub of-entryEpsilons : (targets : ℕ → List ℕ) (es : List (ℕ × ℕ)) → All C (entryEpsilons es targets)
       → All (λ e. All (λ p. C (epsilon (e .1) p)) (targets (e .0))) es
   of-entryEpsilons targets [] h = tt
   of-entryEpsilons targets (e ∷ es) h = (
-    of-epsilons (e .1) (targets (e .0)) (all-left C (epsilons (e .1) (targets (e .0))) (entryEpsilons es targets) h),
-    of-entryEpsilons targets es (all-right C (epsilons (e .1) (targets (e .0))) (entryEpsilons es targets) h),
+    of-epsilons (e .1) (targets (e .0)) (each-left C (epsilons (e .1) (targets (e .0))) (entryEpsilons es targets) h),
+    of-entryEpsilons targets es (each-right C (epsilons (e .1) (targets (e .0))) (entryEpsilons es targets) h),
   )
 
   pub to-constants : (es : List (ℕ × ℕ)) → All (λ e. C (onSymbol (e .0) [] (e .1))) es → All C (constantTransitions es)

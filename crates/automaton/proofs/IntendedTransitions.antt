@@ -3,7 +3,7 @@ use Prim.Native.Nat.{ℕ}
 use mathlib.Core.Logic.{_↔_}
 use mathlib.Core.List.{List, [], _∷_, _++_, flatMap}
 use Rattle.words.specs.Tree.{Tree, Trees, node, none, more}
-use Rattle.words.proofs.AllLaws.{All, all-append, all-at, all-map}
+use Rattle.words.proofs.AllLaws.{All, each-append, all-at, each-map}
 use Rattle.language.specs.Expression.{Expression, Expressions, noneᵉ, moreᵉ}
 use Rattle.language.specs.Membership.{Assignment}
 use Rattle.automaton.specs.Transition.{Transition, onSymbol, epsilon}
@@ -42,13 +42,13 @@ module _ (I : Intended) where
   Into q ps = All (λ p. (t : Tree) → I q t → I p t) ps
 
   pub into-append : (q : ℕ) (ps rs : List ℕ) → Into q ps → Into q rs → Into q (ps ++ rs)
-  into-append q ps rs = all-append (λ p. (t : Tree) → I q t → I p t) ps rs
+  into-append q ps rs = each-append (λ p. (t : Tree) → I q t → I p t) ps rs
 
 module _ (cs : List ℕ) (I : Intended) where
   pub into-entry : (E : Expression) (n : ℕ) (σ : Assignment) → Has I n (languages cs E σ) → (c q : ℕ) → ((t : Tree) → I q t → σ c t)
       → Into I q (entry cs E n c)
   into-entry E n σ h c q f =
-      all-map (λ p. (t : Tree) → I p t ↔ σ c t) (λ p. (t : Tree) → I q t → I p t) (λ p e t i. e t .1 (f t i)) (entry cs E n c)
+      each-map (λ p. (t : Tree) → I p t ↔ σ c t) (λ p. (t : Tree) → I q t → I p t) (λ p e t i. e t .1 (f t i)) (entry cs E n c)
       (every-found (λ b p. (t : Tree) → I p t ↔ σ b t) c (entryStates cs E n) (entries-are cs I E n σ h))
 
   pub into-children : (es : Expressions) (n : ℕ) (σ : Assignment) → Has I n (languagesAll cs es σ) → (c q : ℕ)
@@ -64,5 +64,5 @@ module _ (cs : List ℕ) (I : Intended) where
       → ((c q : ℕ) → ((t : Tree) → I q t → σ c t) → Into I q (targets c)) → All (Keeps I) (entryEpsilons es targets)
   keeps-entryEpsilons σ es targets h f =
       to-entryEpsilons (Keeps I) targets es
-      (all-map (λ e. (t : Tree) → I (e .1) t ↔ σ (e .0) t) (λ e. Into I (e .1) (targets (e .0)))
+      (each-map (λ e. (t : Tree) → I (e .1) t ↔ σ (e .0) t) (λ e. Into I (e .1) (targets (e .0)))
       (λ e x. f (e .0) (e .1) (λ t i. x t .0 i)) es h)

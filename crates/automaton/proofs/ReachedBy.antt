@@ -8,7 +8,7 @@ use mathlib.Core.List.{List, [], List·Memᴰ}
 use lib.Dec.{eqb}
 use borrow.Author.Tests.{eqb-true, eqb-false}
 use Rattle.words.specs.Tree.{Tree}
-use Rattle.words.proofs.AllLaws.{All, all-map, all-both, all-self}
+use Rattle.words.proofs.AllLaws.{All, each-map, all-both, all-self}
 use Rattle.language.specs.Expression.{Expression, symbol, empty, union, product, closure, noneᵉ, moreᵉ}
 use Rattle.language.specs.Membership.{Language, Assignment}
 use Rattle.language.proofs.SubstitutionLaws.{assigned}
@@ -34,12 +34,12 @@ module _ (ts : List Transition) where
   Entered σ es = EveryEntry (λ c q. ReachedBy (σ c) q) es
 
   pub smaller : (K L : Language) → ((t : Tree) → K t → L t) → (qs : List ℕ) → AllReachedBy L qs → AllReachedBy K qs
-  smaller K L h qs r = all-map (ReachedBy L) (ReachedBy K) (λ q f t k. f t (h t k)) qs r
+  smaller K L h qs r = each-map (ReachedBy L) (ReachedBy K) (λ q f t k. f t (h t k)) qs r
 
   -- along epsilon transitions from one state
   pub along : (L : Language) (q : ℕ) → ReachedBy L q → (qs : List ℕ) → All Present (epsilons q qs) → AllReachedBy L qs
   along L q r qs h =
-      all-map (λ p. Present (epsilon q p)) (ReachedBy L) (λ p m t l. onEpsilon m (r t l)) qs (of-epsilons Present q qs h)
+      each-map (λ p. Present (epsilon q p)) (ReachedBy L) (λ p m t l. onEpsilon m (r t l)) qs (of-epsilons Present q qs h)
 
 module _ (cs : List ℕ) where
   numbered-listed : (n : ℕ) → All (λ e. List·Memᴰ (e .0) cs) (numbered n cs)
@@ -62,9 +62,9 @@ module _ (cs : List ℕ) where
         where
           each : EveryEntry (λ d q. AllReachedBy ts (σ d) (targets d)) (numbered n cs)
           each =
-              all-map (λ e. ReachedBy ts (σ (e .0)) (e .1) × All (λ p. Present ts (epsilon (e .1) p)) (targets (e .0)))
+              each-map (λ e. ReachedBy ts (σ (e .0)) (e .1) × All (λ p. Present ts (epsilon (e .1) p)) (targets (e .0)))
               (λ e. AllReachedBy ts (σ (e .0)) (targets (e .0)))
-              (λ e b. all-map (λ p. Present ts (epsilon (e .1) p)) (ReachedBy ts (σ (e .0))) (λ p j t s. onEpsilon j (b .0 t s))
+              (λ e b. each-map (λ p. Present ts (epsilon (e .1) p)) (ReachedBy ts (σ (e .0))) (λ p j t s. onEpsilon j (b .0 t s))
               (targets (e .0)) (b .1))
               (numbered n cs)
               (all-both (λ e. ReachedBy ts (σ (e .0)) (e .1)) (λ e. All (λ p. Present ts (epsilon (e .1) p)) (targets (e .0)))

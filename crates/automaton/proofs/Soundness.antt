@@ -9,7 +9,7 @@ use lib.Dec.{eqb}
 use borrow.Author.Tests.{eqb-true, eqb-false}
 use native.Mathlib.Decide.{ℕ-discrete}
 use Rattle.words.specs.Tree.{Tree, Trees, node, none, more}
-use Rattle.words.proofs.AllLaws.{All, all-append, all-map}
+use Rattle.words.proofs.AllLaws.{All, each-append, each-map}
 use Rattle.language.specs.Expression.{Expression, Expressions, symbol, empty, union, product, closure, noneᵉ, moreᵉ}
 use Rattle.language.specs.Membership.{Language, Assignment, constant, Substitutions, atSymbol, atNone, atMore, Member, Members}
 use Rattle.language.proofs.SubstitutionLaws.{itself, assigned, Under, product-out, closure-base, closure-step}
@@ -56,7 +56,7 @@ module _ (cs : List ℕ) (I : Intended) where
       → All (Keeps I) (own cs (product c F G) n)
   keeps-product c F G n σ h = (
     λ t i. exit-is cs I (product c F G) n σ h t .1 (product-out c (Member F) (Member G) σ t (exit-is cs I F n τ hF t .0 i)),
-    all-append (Keeps I) (epsilons (exitState cs G g) (entry cs F n c))
+    each-append (Keeps I) (epsilons (exitState cs G g) (entry cs F n c))
         (entryEpsilons (entryStates cs (product c F G) n) (λ a. but-c a (eqb a c) ++ entry cs G g a))
         (to-epsilons (Keeps I) (exitState cs G g) (entry cs F n c)
         (into-entry cs I F n τ hF c (exitState cs G g) (λ t i. inl (refl, exit-is cs I G g σ hG t .0 i))))
@@ -90,7 +90,7 @@ module _ (cs : List ℕ) (I : Intended) where
   keeps-closure : (c : ℕ) (F : Expression) (n : ℕ) (σ : Assignment) → Has I n (languages cs (closure c F) σ)
       → All (Keeps I) (own cs (closure c F) n)
   keeps-closure c F n σ h =
-      all-append (Keeps I) (epsilons (exitState cs F n) (entry cs F n c ++ (x ∷ [])))
+      each-append (Keeps I) (epsilons (exitState cs F n) (entry cs F n c ++ (x ∷ [])))
       (entryEpsilons (entryStates cs (closure c F) n) (λ a. entry cs F n a ++ straight (eqb a c)))
       (to-epsilons (Keeps I) (exitState cs F n) (entry cs F n c ++ (x ∷ []))
       (into-append I (exitState cs F n) (entry cs F n c) (x ∷ [])
@@ -170,15 +170,15 @@ module _ (cs : List ℕ) (I : Intended) where
       → Has I n (languages cs F τ ++ (languages cs G σ ++ B)) → All (Keeps I) own-ts
       → All (Keeps I) (transitionsOf cs F n ++ (transitionsOf cs G (next cs F n) ++ own-ts))
   keeps-two F G n τ σ B own-ts iF iG h k =
-      all-append (Keeps I) (transitionsOf cs F n) (transitionsOf cs G (next cs F n) ++ own-ts)
+      each-append (Keeps I) (transitionsOf cs F n) (transitionsOf cs G (next cs F n) ++ own-ts)
       (iF (has-left I n (languages cs F τ) (languages cs G σ ++ B) h))
-      (all-append (Keeps I) (transitionsOf cs G (next cs F n)) own-ts
+      (each-append (Keeps I) (transitionsOf cs G (next cs F n)) own-ts
       (iG (has-left I (next cs F n) (languages cs G σ) B (behind-part cs I F n τ (languages cs G σ ++ B) h))) k)
 
   mutual
     keeps : (E : Expression) (n : ℕ) (σ : Assignment) → Has I n (languages cs E σ) → All (Keeps I) (transitionsOf cs E n)
     keeps (symbol f es) n σ h =
-        all-append (Keeps I) (transitionsOfAll cs es n) (own cs (symbol f es) n)
+        each-append (Keeps I) (transitionsOfAll cs es n) (own cs (symbol f es) n)
         (keeps-all es n σ (has-left I n (languagesAll cs es σ) (symbolBlock cs es f σ) h)) (keeps-symbol f es n σ h)
     keeps empty n σ h = tt
     keeps (union F G) n σ h =
@@ -190,13 +190,13 @@ module _ (cs : List ℕ) (I : Intended) where
         (λ x. keeps F n τ x) (λ x. keeps G (next cs F n) σ x) h (keeps-product c F G n σ h)
     keeps (closure c F) n σ h =
         let L : Language = Under (Member (closure c F)) σ in
-        all-append (Keeps I) (transitionsOf cs F n) (own cs (closure c F) n)
+        each-append (Keeps I) (transitionsOf cs F n) (own cs (closure c F) n)
         (keeps F n (assigned σ c L) (has-left I n (languages cs F (assigned σ c L)) (block cs L σ) h)) (keeps-closure c F n σ h)
 
     keeps-all : (es : Expressions) (n : ℕ) (σ : Assignment) → Has I n (languagesAll cs es σ) → All (Keeps I) (transitionsOfAll cs es n)
     keeps-all noneᵉ n σ h = tt
     keeps-all (moreᵉ e es) n σ h =
-        all-append (Keeps I) (transitionsOf cs e n) (transitionsOfAll cs es (next cs e n))
+        each-append (Keeps I) (transitionsOf cs e n) (transitionsOfAll cs es (next cs e n))
         (keeps e n σ (has-left I n (languages cs e σ) (languagesAll cs es σ) h))
         (keeps-all es (next cs e n) σ (behind-part cs I e n σ (languagesAll cs es σ) h))
 
@@ -216,8 +216,8 @@ sound cs E t r = exit-is cs I E 0 itself h t .0 (intended I (treeTransitions cs 
 
     all : All (Keeps I) (treeTransitions cs E)
     all =
-        all-append (Keeps I) (constantTransitions (entryStates cs E 0)) (transitionsOf cs E 0)
+        each-append (Keeps I) (constantTransitions (entryStates cs E 0)) (transitionsOf cs E 0)
         (to-constants (Keeps I) (entryStates cs E 0)
-        (all-map (λ e. (s : Tree) → I (e .1) s ↔ itself (e .0) s) (λ e. Keeps I (onSymbol (e .0) [] (e .1)))
+        (each-map (λ e. (s : Tree) → I (e .1) s ↔ itself (e .0) s) (λ e. Keeps I (onSymbol (e .0) [] (e .1)))
         (λ e x. keeps-constant (e .0) (e .1) x) (entryStates cs E 0) (entries-are cs I E 0 itself h)))
         (keeps cs I E 0 itself h)

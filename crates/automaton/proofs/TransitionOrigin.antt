@@ -8,7 +8,7 @@ use native.Mathlib.Omega.{arith}
 use lib.ListN.{length, take, drop}
 use Rattle.words.specs.Word.{lowByte}
 use Rattle.words.specs.Postfix.{arity}
-use Rattle.words.proofs.AllLaws.{All, all-append}
+use Rattle.words.proofs.AllLaws.{All, each-append}
 use Rattle.words.proofs.Ascending.{Ascending, next, ascending-le}
 use Rattle.automaton.specs.Transition.{Transition, onSymbol, epsilon}
 use Rattle.automaton.specs.Numbering.{Port, statesOf, portOf, entryFor, epsilons, entryEpsilons}
@@ -90,7 +90,7 @@ own-of {hi} {w} {E} x (ofProduct {F} {G} i) =
     let us = from-child (E .exit) hi Ps (G .exit) (entryFor F c) (List·Memᴰ·tail (List·Memᴰ·head refl)) in
     let ts = from-own (E .exit) hi Ps (productTargets c F G) (E .entries) (omega arith) (i .states) in (
       inr (List·Memᴰ·head refl),
-      all-append (OfWord (E .exit) hi Ps) (epsilons (G .exit) (entryFor F c)) (entryEpsilons (E .entries) (productTargets c F G)) us ts,
+      each-append (OfWord (E .exit) hi Ps) (epsilons (G .exit) (entryFor F c)) (entryEpsilons (E .entries) (productTargets c F G)) us ts,
     )
 own-of {hi} {w} {E} x (ofClosure {F} i) =
     let c = lowByte w in
@@ -98,7 +98,7 @@ own-of {hi} {w} {E} x (ofClosure {F} i) =
     let qs = entryFor F c ++ (E .exit ∷ []) in
     let us = from-child (E .exit) hi Ps (F .exit) qs (List·Memᴰ·head refl) in
     let ts = from-own (E .exit) hi Ps (closureTargets c (E .exit) F) (E .entries) (omega arith) (i .states) in
-    all-append (OfWord (E .exit) hi Ps) (epsilons (F .exit) qs) (entryEpsilons (E .entries) (closureTargets c (E .exit) F)) us ts
+    each-append (OfWord (E .exit) hi Ps) (epsilons (F .exit) qs) (entryEpsilons (E .entries) (closureTargets c (E .exit) F)) us ts
 
 -- ---- every word
 

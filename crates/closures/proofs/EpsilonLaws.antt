@@ -10,7 +10,7 @@ use Rattle.words.specs.Word.{stateBelow}
 use Rattle.automaton.specs.Transition.{automatonOf}
 use Rattle.automaton.specs.StateSet.{StateSet, contains}
 use Rattle.index.specs.Index.{IndexedTable}
-use Rattle.closures.specs.Closure.{Closed, PendingStack, Search, Puttable, Put, ClosingAt, Followed, work}
+use Rattle.closures.specs.Closure.{Closed, PendingStack, Search, Puttable, Put, FollowableAt, Followed, work}
 use Rattle.index.proofs.ChainLaws.{FirstWith, EpsilonWord, nextWith, next-some, next-none, keyed-epsilon}
 use Rattle.closures.proofs.KeyedWordLaws.{closed-epsilon, epsilon-below, epsilon-reached}
 use Rattle.closures.proofs.PendingStackLaws.{stack-puttable, stack-put, put-less, put-length, put-present, put-keeps}
@@ -34,19 +34,19 @@ pub record EpsilonsAt (table index : List ℕ) (p : ℕ) (r₀ : StateSet) (pend
       → Search table base o (256 + p) from r pending top
 
 -- a state of the set has a chain
-pub key-inside : {table index : List ℕ} {p : ℕ} {r : StateSet} {pending : List ℕ} {top : ℕ} → ClosingAt table index p r pending top
+pub key-inside : {table index : List ℕ} {p : ℕ} {r : StateSet} {pending : List ℕ} {top : ℕ} → FollowableAt table index p r pending top
     → 256 + p < 1280
-key-inside {p = p} g = let b = g .closing .stack .below p (g .present) in omega (arith, states-most (g .closing .checked))
+key-inside {p = p} g = let b = g .followable .stack .below p (g .present) in omega (arith, states-most (g .followable .checked))
 
-pub epsilons-first : {table index : List ℕ} {p : ℕ} {r : StateSet} {pending : List ℕ} {top : ℕ} → ClosingAt table index p r pending top
+pub epsilons-first : {table index : List ℕ} {p : ℕ} {r : StateSet} {pending : List ℕ} {top : ℕ} → FollowableAt table index p r pending top
     → EpsilonsAt table index p r pending top (getD index (256 + p) 0) r pending top
 epsilons-first {p = p} g =
     record {
-      checked = g .closing .checked;
+      checked = g .followable .checked;
       from = 0;
-      at = chain-first (g .closing .checked) (256 + p) (key-inside g);
+      at = chain-first (g .followable .checked) (256 + p) (key-inside g);
       size = refl;
-      stack = g .closing .stack;
+      stack = g .followable .stack;
       less = omega arith;
       present = g .present;
       search = λ base o k h. h;
@@ -55,7 +55,7 @@ epsilons-first {p = p} g =
 module _ {table index : List ℕ} {p : ℕ} {r₀ : StateSet} {pending₀ : List ℕ} {top₀ i : ℕ} {r : StateSet} {pending : List ℕ} {top : ℕ}
     (s : EpsilonsAt table index p r₀ pending₀ top₀ i r pending top) where
   key-small : 256 + p < 1280
-  key-small = key-inside (record { closing = record { checked = s .checked; stack = s .stack }; present = s .present })
+  key-small = key-inside (record { followable = record { checked = s .checked; stack = s .stack }; present = s .present })
 
   pub epsilons-end : i ≤ 0 → Followed table (256 + p) 0 r₀ pending₀ top₀ r pending top
   epsilons-end h =

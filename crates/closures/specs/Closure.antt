@@ -96,13 +96,13 @@ pub record Put (r : StateSet) (pending : List ℕ) (top s : ℕ) (t : StateSet) 
   pub answer : height ≡ cond (contains r s) top (top + 1)
 
 -- a checked table with its index, and a set with its stack
-pub record Closing (table index : List ℕ) (r : StateSet) (pending : List ℕ) (top : ℕ) : Type 0 where
+pub record Followable (table index : List ℕ) (r : StateSet) (pending : List ℕ) (top : ℕ) : Type 0 where
   pub checked : IndexedTable table index
   pub stack : PendingStack table r pending top
 
 -- the same, and a state of the set
-pub record ClosingAt (table index : List ℕ) (p : ℕ) (r : StateSet) (pending : List ℕ) (top : ℕ) : Type 0 where
-  pub closing : Closing table index r pending top
+pub record FollowableAt (table index : List ℕ) (p : ℕ) (r : StateSet) (pending : List ℕ) (top : ℕ) : Type 0 where
+  pub followable : Followable table index r pending top
   pub present : contains r p ≡ true
 
 -- falls with each state that is pushed, and with each that is popped

@@ -2,7 +2,7 @@
 ghost use Prim.Native.Nat.{_+_};
 ghost use lib.ListN.{length};
 ghost use Rattle.index.specs.Index.{stateKey};
-ghost use Rattle.closures.specs.Closure.{Puttable, Put, Closing, ClosingAt, Followed, Closable, ClosureOf};
+ghost use Rattle.closures.specs.Closure.{Puttable, Put, Followable, FollowableAt, Followed, Closable, ClosureOf};
 ghost use Rattle.closures.specs.Closure.{Addable, Added, Keepable, Kept, Joinable, JoinedClosure};
 use index::KEYS;
 use index::STATE_KEYS;
@@ -40,7 +40,7 @@ fn follow_epsilons(
     pending: &mut [u32],
     top: usize,
 ) -> usize
-    requires { ⌜ ClosingAt (now table) (now index) p (now set) (now pending) top ⌝ }
+    requires { ⌜ FollowableAt (now table) (now index) p (now set) (now pending) top ⌝ }
     ensures { λ r. ⌜
         Followed (now (table .entry)) (stateKey p) 0 (now (set .entry)) (now (pending .entry)) top (now (set .exit)) (now (pending .exit)) r
         ⌝ }
@@ -57,7 +57,7 @@ fn follow_epsilons(
 
 // Follows the epsilon transitions from the states on the stack, until none is left.
 fn follow_pending(table: &[u32], index: &[u32], set: &mut [u32], pending: &mut [u32], top: usize)
-    requires { ⌜ Closing (now table) (now index) (now set) (now pending) top ⌝ }
+    requires { ⌜ Followable (now table) (now index) (now set) (now pending) top ⌝ }
     ensures { λ _. ⌜
         Followed (now (table .entry)) 0 (length (now (table .entry))) (now (set .entry)) (now (pending .entry)) top (now (set .exit))
         (now (pending .exit)) 0

@@ -24,12 +24,12 @@ use Rattle.automaton.specs.Transition.{Transition, transitionsWords}
 use Rattle.automaton.specs.Numbering.{Port, statesOf, portOf, ownTransitions, transitionsFrom, fullPort}
 use Rattle.automaton.proofs.TransitionLaws.{transitionsWords-append}
 use Rattle.words.proofs.AcceptedExpression.{expression-passed}
-use Rattle.emitter.specs.Writing.{Wrote}
+use Rattle.emitter.specs.Writing.{WordsWritten}
 use Rattle.ports.specs.Ports.{portIn, portsIn}
-use Rattle.emitter.specs.Emission.{Emits, Takes}
-use Rattle.emitter.proofs.WritingLaws.{wrote-none, wrote-more, wrote-same, wrote-next}
+use Rattle.emitter.specs.Emission.{Emittable, OwnEmittable}
+use Rattle.emitter.proofs.WritingLaws.{words-written-none, words-written-more, words-written-same, words-written-next}
 use Rattle.compiler.proofs.StateLaws.{portOf-full}
-use Rattle.compiler.proofs.KnownConstants.{constants-once, word-takes}
+use Rattle.compiler.proofs.KnownConstants.{constants-once, word-emittable}
 
 -- ---- a stack of ports in an array
 
@@ -89,7 +89,7 @@ pub record Emitted (a cs e : List ℕ) (at : ℕ) (out out′ stack : List ℕ) 
   pub low : state ≤ 17 * i
   pub long : length out′ ≡ length out
   pub done : List Transition
-  pub wrote : Wrote (85 * i) at (transitionsWords done) out out′ next
+  pub written : WordsWritten (85 * i) at (transitionsWords done) out out′ next
   pub left : transitionsFrom a 0 e [] ≡ done ++ transitionsFrom a state (drop i e) (stackIn cs (take height stack))
 
 pub emitted-none : (a cs e : List ℕ) (at : ℕ) (out stack : List ℕ) → all (isExpressionWord a) e ≡ true → trees a 0 e 1 ≡ true
@@ -105,7 +105,7 @@ emitted-none a cs e at out stack h t l =
       low = omega arith;
       long = refl;
       done = [];
-      wrote = wrote-none at out;
+      written = words-written-none at out;
       left = refl;
     }
 
@@ -131,16 +131,16 @@ module _ {a cs e : List ℕ} {at : ℕ} {out out′ stack : List ℕ} {height st
   emitted-height h q = let b = m .below in let few = expression-passed a e q .few in omega arith
 
   -- what the emitter asks at word i
-  pub emitted-emits : (r base : ℕ) → cs ≡ constantsOf a → AcceptedAlphabet a → i < length e → length e ≤ 64 → at ≤ 1024
+  pub emitted-emittable : (r base : ℕ) → cs ≡ constantsOf a → AcceptedAlphabet a → i < length e → length e ≤ 64 → at ≤ 1024
       → r ≡ arity a (getD e i 0)
-      → base ≡ height - r → Emits cs (take (height - base) (drop base stack)) state next 85
-  emitted-emits r base known h i< le early q b =
+      → base ≡ height - r → Emittable cs (take (height - base) (drop base stack)) state next 85
+  emitted-emittable r base known h i< le early q b =
       let few = m .below in
       let stack-long = m .stack-long in
       let low = m .low in
       let c = emitted-children r i< q in
       let most = arity-most h (getD e i 0) in
-      let n = wrote-next _ _ _ _ _ _ (m .wrote) in
+      let n = words-written-next _ _ _ _ _ _ (m .written) in
       record {
         once = constants-once a cs known;
         few = rw known (h .fewConstants);
@@ -149,19 +149,19 @@ module _ {a cs e : List ℕ} {at : ℕ} {out out′ stack : List ℕ} {height st
         fits = omega arith;
       }
 
-  pub emitted-takes : (r base : ℕ) → cs ≡ constantsOf a → i < length e → length e ≤ 64 → r ≡ arity a (getD e i 0)
-      → base ≡ height - r → Takes cs (take (height - base) (drop base stack)) (getD e i 0)
-  emitted-takes r base known h le q b =
+  pub emitted-own-emittable : (r base : ℕ) → cs ≡ constantsOf a → i < length e → length e ≤ 64 → r ≡ arity a (getD e i 0)
+      → base ≡ height - r → OwnEmittable cs (take (height - base) (drop base stack)) (getD e i 0)
+  emitted-own-emittable r base known h le q b =
       let few = m .below in
       let stack-long = m .stack-long in
       let c = emitted-children r h q in
       let t : height - base ≡ r = omega arith in
-      word-takes a cs known (take (height - base) (drop base stack)) (getD e i 0) (emitted-word h)
+      word-emittable a cs known (take (height - base) (drop base stack)) (getD e i 0) (emitted-word h)
       (length-part stack base height (omega arith) (omega arith) ∙ t ∙ q)
 
   pub emitted-more : (r base p s n : ℕ) (out″ : List ℕ) → cs ≡ constantsOf a → i < length e → length e ≤ 64 → r ≡ arity a (getD e i 0)
       → base ≡ height - r
-      → Wrote 85 next (transitionsWords (ownTransitions (getD e i 0) (fullPort cs state) (portsIn cs (take (height - base)
+      → WordsWritten 85 next (transitionsWords (ownTransitions (getD e i 0) (fullPort cs state) (portsIn cs (take (height - base)
       (drop base stack))))) out′ out″ n
       → length out″ ≡ length out′ → portIn cs p ≡ portOf a state (getD e i 0) → s ≡ statesOf a (getD e i 0) → s ≤ 17
       → Emitted a cs e at out out″ (set stack base p) (base + 1) (state + s) n (i + 1)
@@ -188,8 +188,9 @@ module _ {a cs e : List ℕ} {at : ℕ} {out out′ stack : List ℕ} {height st
         low = omega arith;
         long = l ∙ m .long;
         done = m .done ++ own;
-        wrote =
-            wrote-same (85 * i + 85) (85 * (i + 1)) at n _ _ out out″ (wrote-more (85 * i) 85 at next n _ _ out out′ out″ (m .wrote) w)
+        written =
+            words-written-same (85 * i + 85) (85 * (i + 1)) at n _ _ out out″
+            (words-written-more (85 * i) 85 at next n _ _ out out′ out″ (m .written) w)
             (omega arith)
             (sym (transitionsWords-append (m .done) own));
         left =
@@ -204,11 +205,11 @@ module _ {a cs e : List ℕ} {at : ℕ} {out out′ stack : List ℕ} {height st
             (sym new);
       }
 
-  pub emitted-end : length e ≤ i → length e ≤ 64 → Wrote 5440 at (transitionsWords (transitionsFrom a 0 e [])) out out′ next
+  pub emitted-end : length e ≤ i → length e ≤ 64 → WordsWritten 5440 at (transitionsWords (transitionsFrom a 0 e [])) out out′ next
   unfolding transitionsFrom
   emitted-end h few =
       let k = m .within in
-      wrote-same (85 * i) 5440 at next _ _ out out′ (m .wrote) (omega arith)
+      words-written-same (85 * i) 5440 at next _ _ out out′ (m .written) (omega arith)
       (ap transitionsWords
       (sym (m .left ∙ ap (λ (l : List ℕ). m .done ++ transitionsFrom a state l (stackIn cs (take height stack)))
       (drop-end e i h) ∙ append-nil (m .done))))

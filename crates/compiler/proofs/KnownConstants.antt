@@ -19,7 +19,7 @@ use Rattle.words.proofs.ConstantLaws.{constants-ascending}
 use Rattle.words.proofs.WordLaws.{arity-kind, isExpressionWord-facts}
 use Rattle.automaton.specs.Numbering.{numbered, lookup}
 use Rattle.ports.specs.Ports.{EachOnce}
-use Rattle.emitter.specs.Emission.{ListedConstant, Takes}
+use Rattle.emitter.specs.Emission.{ListedConstant, OwnEmittable}
 
 -- ---- each constant stands once
 
@@ -64,8 +64,8 @@ module _ (a cs : List ℕ) (known : cs ≡ constantsOf a) where
   constant-listed : (c : ℕ) → isConstant a c ≡ true → ListedConstant cs c
   constant-listed c h = rw known (member-listed c (constantsOf a) (constantsOf-isConstant a c .1 h))
 
-  pub word-takes : (ps : List ℕ) (w : ℕ) → isExpressionWord a w ≡ true → length ps ≡ arity a w → Takes cs ps w
-  word-takes ps w h r =
+  pub word-emittable : (ps : List ℕ) (w : ℕ) → isExpressionWord a w ≡ true → length ps ≡ arity a w → OwnEmittable cs ps w
+  word-emittable ps w h r =
       record {
         union = λ e. r ∙ arity-kind a w unionKind (told unionKind e);
         product =

@@ -15,10 +15,10 @@ use Rattle.automaton.specs.Transition.{transitionsWords}
 use Rattle.automaton.specs.Numbering.{Port, statesOf, portOf, childPort, portsFrom, statesAfter, transitionsFrom, lastPort, compiled}
 use Rattle.automaton.proofs.TransitionLaws.{transitionsWords-append}
 use Rattle.operations.specs.Compile.{compiledTable}
-use Rattle.emitter.specs.Writing.{Wrote}
+use Rattle.emitter.specs.Writing.{WordsWritten}
 use Rattle.ports.specs.Ports.{portIn}
 use Rattle.emitter.specs.Emission.{constantTransitions}
-use Rattle.emitter.proofs.WritingLaws.{wrote-more, wrote-same}
+use Rattle.emitter.proofs.WritingLaws.{words-written-more, words-written-same}
 
 -- ---- the last word
 
@@ -77,21 +77,21 @@ unfolding portOf
 portOf-exit a n w = refl
 
 -- the three writers one after the other; x and s are the last word's exit and the state count, p its port
-pub wrote-table : (a cs e : List ℕ) (some : 0 < length e) (x s p : ℕ) (out o₁ o₂ o₃ : List ℕ) (n₁ n₂ r : ℕ) → cs ≡ constantsOf a
+pub table-written : (a cs e : List ℕ) (some : 0 < length e) (x s p : ℕ) (out o₁ o₂ o₃ : List ℕ) (n₁ n₂ r : ℕ) → cs ≡ constantsOf a
     → x ≡ statesAfter a 0 (take (length e - 1) e) → s ≡ statesOf a (getD e (length e - 1) 0)
     → portIn (constantsOf a) p ≡ portOf a x (getD e (length e - 1) 0)
-    → Wrote 1 0 (wordOf headKind ((x + s) * 1024 + x) ∷ []) out o₁ n₁
-    → Wrote 16 n₁ (transitionsWords (constantTransitions (portIn cs p .entries))) o₁ o₂ n₂
-    → Wrote 5440 n₂ (transitionsWords (transitionsFrom a 0 e [])) o₂ o₃ r → Wrote 5457 0 (compiledTable a e) out o₃ r
-wrote-table a cs e some x s p out o₁ o₂ o₃ n₁ n₂ r known ex es ep h c w =
+    → WordsWritten 1 0 (wordOf headKind ((x + s) * 1024 + x) ∷ []) out o₁ n₁
+    → WordsWritten 16 n₁ (transitionsWords (constantTransitions (portIn cs p .entries))) o₁ o₂ n₂
+    → WordsWritten 5440 n₂ (transitionsWords (transitionsFrom a 0 e [])) o₂ o₃ r → WordsWritten 5457 0 (compiledTable a e) out o₃ r
+table-written a cs e some x s p out o₁ o₂ o₃ n₁ n₂ r known ex es ep h c w =
     let w₀ = getD e (length e - 1) 0 in
     let port : portIn cs p ≡ lastPort a e =
     ap (λ (ds : List ℕ). portIn ds p) known ∙ ep ∙ ap (λ (n : ℕ). portOf a n w₀) ex ∙ sym (lastPort-last a e some) in
     let exit : x ≡ lastPort a e .exit = sym (portOf-exit a x w₀) ∙ ap (λ (P : Port). P .exit) (sym ep ∙ ap (λ (ds : List ℕ). portIn ds p)
     (sym known) ∙ port) in
     let states : x + s ≡ statesAfter a 0 e = ap₂ (λ (m n : ℕ). m + n) ex es ∙ sym (states-last a e some) in
-    wrote-same 5457 5457 0 r _ _ out o₃
-    (wrote-more 1 5456 0 n₁ r _ _ out o₁ o₃ h (wrote-more 16 5440 n₁ n₂ r _ _ o₁ o₂ o₃ c w)) (omega arith)
+    words-written-same 5457 5457 0 r _ _ out o₃
+    (words-written-more 1 5456 0 n₁ r _ _ out o₁ o₃ h (words-written-more 16 5440 n₁ n₂ r _ _ o₁ o₂ o₃ c w)) (omega arith)
     (ap₂ (λ (k : ℕ) (l : List ℕ). wordOf headKind k ∷ (l ++ transitionsWords (transitionsFrom a 0 e [])))
     (ap₂ (λ (m n : ℕ). m * 1024 + n) states exit)
     (ap (λ (P : Port). transitionsWords (constantTransitions (P .entries))) port)

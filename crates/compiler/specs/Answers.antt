@@ -4,6 +4,6 @@ use Rattle.words.specs.Answer.{Answer, refused, accepted}
 use Rattle.compiler.specs.declared.Compiled.{Compiled}
 use Rattle.compiler.specs.declared.Compiled.the-variants.{Table, Refused}
 
-abbrev pub answerIn : Compiled → Answer
-answerIn (Table count) = accepted (count ∷ [])
-answerIn (Refused number) = refused number
+abbrev pub answerInCompiled : Compiled → Answer
+answerInCompiled (Table count) = accepted (count ∷ [])
+answerInCompiled (Refused number) = refused number

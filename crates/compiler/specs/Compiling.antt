@@ -13,7 +13,7 @@ pub record ConstantsCounted (a : List ℕ) (count : ℕ) : Type 0 where
   pub few : count ≤ 16
 
 -- a word of a rule and its exit
-pub record Exited (a : List ℕ) (exit w : ℕ) : Type 0 where
+pub record PortMakeable (a : List ℕ) (exit w : ℕ) : Type 0 where
   pub symbols : length a ≤ 64
   pub word : isExpressionWord a w ≡ true
   pub low : exit < 2048

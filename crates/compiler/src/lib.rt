@@ -1,7 +1,7 @@
 // Compile: turns an alphabet and a rule into the table of the numbered Thompson tree automaton, or refuses.
 ghost use mathlib.Core.Path.{_≡_};
 ghost use Rattle.operations.specs.Compile.{compileFault, compileAnswer, compileExit};
-ghost use Rattle.compiler.specs.Answers.{answerIn};
+ghost use Rattle.compiler.specs.Answers.{answerInCompiled};
 use states::states_after;
 use table::write_table;
 use words::alphabet::alphabet_fault;
@@ -46,7 +46,7 @@ fn compile_fault(alphabet: &[u32], expression: &[u32], table_length: usize) -> u
 
 // Writes the table of the rule into the first words of the slice and answers its word count. A refused call changes no word.
 pub fn compile(alphabet: &[u32], expression: &[u32], table: &mut [u32]) -> Compiled
-    ensures answer { λ r. ⌜ answerIn r ≡ compileAnswer (now (alphabet .entry)) (now (expression .entry)) (now (table .entry)) ⌝ }
+    ensures answer { λ r. ⌜ answerInCompiled r ≡ compileAnswer (now (alphabet .entry)) (now (expression .entry)) (now (table .entry)) ⌝ }
     ensures table { λ _. ⌜ now (table .exit) ≡ compileExit (now (alphabet .entry)) (now (expression .entry)) (now (table .entry)) ⌝ }
 {
     let fault = compile_fault(alphabet, expression, table.len());

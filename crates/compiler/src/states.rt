@@ -5,7 +5,7 @@ ghost use lib.ListN.{length};
 ghost use Rattle.words.specs.Alphabet.{constantsOf};
 ghost use Rattle.automaton.specs.Numbering.{statesOf, statesAfter, portOf};
 ghost use Rattle.ports.specs.Ports.{portIn};
-ghost use Rattle.compiler.specs.Compiling.{ConstantsCounted, Exited};
+ghost use Rattle.compiler.specs.Compiling.{ConstantsCounted, PortMakeable};
 use ports::port::EVERY;
 use ports::port::NONE;
 use ports::port::port_of;
@@ -42,7 +42,7 @@ pub(crate) fn states_after(alphabet: &[u32], count: usize, expression: &[u32]) -
 
 // The port of a word with this exit.
 pub(crate) fn word_port(alphabet: &[u32], exit: u32, w: u32) -> u32
-    requires { ⌜ Exited (now alphabet) exit w ⌝ }
+    requires { ⌜ PortMakeable (now alphabet) exit w ⌝ }
     ensures { λ r. ⌜ portIn (constantsOf (now (alphabet .entry))) r ≡ portOf (now (alphabet .entry)) exit w ⌝ }
 {
     if arity(alphabet, w) != 0 {

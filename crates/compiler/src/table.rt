@@ -2,7 +2,7 @@
 ghost use mathlib.Core.List.{[]};
 ghost use Rattle.automaton.specs.Transition.{transitionsWords};
 ghost use Rattle.automaton.specs.Numbering.{transitionsFrom};
-ghost use Rattle.emitter.specs.Writing.{Wrote};
+ghost use Rattle.emitter.specs.Writing.{WordsWritten};
 ghost use Rattle.operations.specs.Compile.{compiledTable};
 ghost use Rattle.compiler.specs.Compiling.{Accepted, Compilable};
 use super::states::states_after;
@@ -27,7 +27,7 @@ fn write_words(
 ) -> usize
     requires { ⌜ Compilable (now alphabet) (now constants) (now expression) at ⌝ }
     ensures { λ r. ⌜
-        Wrote 5440 at
+        WordsWritten 5440 at
         (transitionsWords (transitionsFrom (now (alphabet .entry)) 0 (now (expression .entry)) []))
         (now (out .entry)) (now (out .exit)) r
         ⌝ }
@@ -53,7 +53,7 @@ fn write_words(
 fn write_parts(alphabet: &[u32], constants: &[u32], expression: &[u32], out: &mut [u32]) -> usize
     requires { ⌜ Compilable (now alphabet) (now constants) (now expression) 0 ⌝ }
     ensures { λ r. ⌜
-        Wrote 5457 0 (compiledTable (now (alphabet .entry)) (now (expression .entry)))
+        WordsWritten 5457 0 (compiledTable (now (alphabet .entry)) (now (expression .entry)))
         (now (out .entry)) (now (out .exit)) r
         ⌝ }
 {
@@ -71,7 +71,7 @@ fn write_parts(alphabet: &[u32], constants: &[u32], expression: &[u32], out: &mu
 pub(crate) fn write_table(alphabet: &[u32], expression: &[u32], out: &mut [u32]) -> usize
     requires { ⌜ Accepted (now alphabet) (now expression) ⌝ }
     ensures { λ r. ⌜
-        Wrote 5457 0 (compiledTable (now (alphabet .entry)) (now (expression .entry)))
+        WordsWritten 5457 0 (compiledTable (now (alphabet .entry)) (now (expression .entry)))
         (now (out .entry)) (now (out .exit)) r
         ⌝ }
 {

@@ -10,9 +10,9 @@ use Rattle.words.proofs.ListLaws.{map-append}
 use Rattle.automaton.specs.Transition.{onSymbol, transitionWords, transitionsWords}
 use Rattle.automaton.specs.Numbering.{numbered, constantTransitions}
 use Rattle.automaton.proofs.TransitionLaws.{transitionsWords-append, numbered-append}
-use Rattle.emitter.specs.Writing.{Wrote}
+use Rattle.emitter.specs.Writing.{WordsWritten}
 use Rattle.ports.specs.Ports.{exitIn, portIn}
-use Rattle.emitter.proofs.WritingLaws.{wrote-none, wrote-more, wrote-same}
+use Rattle.emitter.proofs.WritingLaws.{words-written-none, words-written-more, words-written-same}
 use Rattle.ports.proofs.PortLaws.{entries-every, entries-none, entries-own}
 
 -- the words of the moves into the entries for the constants, where x is the word's exit
@@ -36,40 +36,40 @@ everyWords-more x cs k h =
 pub record Moved (cs : List ℕ) (x at : ℕ) (out out′ : List ℕ) (next k : ℕ) : Type 0 where
   pub within : k ≤ length cs
   pub long : length out′ ≡ length out
-  pub wrote : Wrote k at (everyWords x (take k cs)) out out′ next
+  pub written : WordsWritten k at (everyWords x (take k cs)) out out′ next
 
 pub moved-none : (cs : List ℕ) (x at : ℕ) (out : List ℕ) → Moved cs x at out out at 0
-moved-none cs x at out = record { within = omega arith; long = refl; wrote = wrote-none at out }
+moved-none cs x at out = record { within = omega arith; long = refl; written = words-written-none at out }
 
 module _ {cs : List ℕ} {x at : ℕ} {out out′ : List ℕ} {next k : ℕ} (w : Moved cs x at out out′ next k) where
   pub moved-more : (out″ : List ℕ) (r : ℕ) → k < length cs → length out″ ≡ length out′
-      → Wrote 1 next (transitionWords (onSymbol (getD cs k 0) [] (x + 1 + k))) out′ out″ r → Moved cs x at out out″ r (k + 1)
+      → WordsWritten 1 next (transitionWords (onSymbol (getD cs k 0) [] (x + 1 + k))) out′ out″ r → Moved cs x at out out″ r (k + 1)
   moved-more out″ r h l q =
       record {
         within = omega arith;
         long = l ∙ w .long;
-        wrote =
-            wrote-same (k + 1) (k + 1) at r _ _ out out″ (wrote-more k 1 at next r _ _ out out′ out″ (w .wrote) q) (omega arith)
-            (sym (everyWords-more x cs k h));
+        written =
+            words-written-same (k + 1) (k + 1) at r _ _ out out″ (words-written-more k 1 at next r _ _ out out′ out″ (w .written) q)
+            (omega arith) (sym (everyWords-more x cs k h));
       }
 
-  pub moved-end : length cs ≤ k → length cs ≤ 16 → Wrote 16 at (everyWords x cs) out out′ next
+  pub moved-end : length cs ≤ k → length cs ≤ 16 → WordsWritten 16 at (everyWords x cs) out out′ next
   moved-end h few =
       let i = w .within in
-      wrote-same k 16 at next _ _ out out′ (w .wrote) (omega arith) (rw (take-all k cs h))
+      words-written-same k 16 at next _ _ out out′ (w .written) (omega arith) (rw (take-all k cs h))
 
 -- ---- the entries that a port has
 
 module _ (cs : List ℕ) (p x at : ℕ) (out out′ : List ℕ) (r : ℕ) (e : x ≡ exitIn p) where
-  pub port-every : p % 128 ≡ 64 → Wrote 16 at (everyWords x cs) out out′ r
-      → Wrote 16 at (transitionsWords (constantTransitions (portIn cs p .entries))) out out′ r
+  pub port-every : p % 128 ≡ 64 → WordsWritten 16 at (everyWords x cs) out out′ r
+      → WordsWritten 16 at (transitionsWords (constantTransitions (portIn cs p .entries))) out out′ r
   port-every t w = rw (entries-every cs (exitIn p) (p % 128) t, ← e) w
 
-  pub port-own : (p % 128 ≡ 64 → ⊥) → (p % 128 ≡ 65 → ⊥) → Wrote 1 at (transitionWords (onSymbol (p % 128) [] x)) out out′ r
-      → Wrote 16 at (transitionsWords (constantTransitions (portIn cs p .entries))) out out′ r
-  port-own n m w = rw (entries-own cs (exitIn p) (p % 128) n m, ← e) (wrote-same 1 16 at r _ _ out out′ w (omega arith) refl)
+  pub port-own : (p % 128 ≡ 64 → ⊥) → (p % 128 ≡ 65 → ⊥) → WordsWritten 1 at (transitionWords (onSymbol (p % 128) [] x)) out out′ r
+      → WordsWritten 16 at (transitionsWords (constantTransitions (portIn cs p .entries))) out out′ r
+  port-own n m w = rw (entries-own cs (exitIn p) (p % 128) n m, ← e) (words-written-same 1 16 at r _ _ out out′ w (omega arith) refl)
 
 pub port-none : (cs : List ℕ) (p at : ℕ) (out : List ℕ) → p % 128 ≡ 65
-    → Wrote 16 at (transitionsWords (constantTransitions (portIn cs p .entries))) out out at
+    → WordsWritten 16 at (transitionsWords (constantTransitions (portIn cs p .entries))) out out at
 port-none cs p at out t =
-    rw (entries-none cs (exitIn p) (p % 128) t) (wrote-same 0 16 at at [] [] out out (wrote-none at out) (omega arith) refl)
+    rw (entries-none cs (exitIn p) (p % 128) t) (words-written-same 0 16 at at [] [] out out (words-written-none at out) (omega arith) refl)

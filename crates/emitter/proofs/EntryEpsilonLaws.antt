@@ -9,8 +9,8 @@ use lib.Seq.{take-suc, take-all, length-take-le}
 use Rattle.automaton.specs.Transition.{Transition, transitionsWords}
 use Rattle.automaton.specs.Numbering.{numbered, epsilons, entryEpsilons}
 use Rattle.automaton.proofs.TransitionLaws.{transitionsWords-append, numbered-append, entryEpsilons-append}
-use Rattle.emitter.specs.Writing.{Wrote, lastIndex}
-use Rattle.emitter.proofs.WritingLaws.{wrote-none, wrote-more, wrote-same, wrote-next}
+use Rattle.emitter.specs.Writing.{WordsWritten, lastIndex}
+use Rattle.emitter.proofs.WritingLaws.{words-written-none, words-written-more, words-written-same, words-written-next}
 
 -- the words of the transitions from the entries for the constants, where x is the word's exit
 abbrev pub entryEpsilonWords : ℕ → List ℕ → (ℕ → List ℕ) → List ℕ
@@ -37,32 +37,33 @@ entryEpsilonWords-more x cs targets k h =
 pub record EntriesWritten (cs : List ℕ) (targets : ℕ → List ℕ) (x at : ℕ) (out out′ : List ℕ) (next k : ℕ) : Type 0 where
   pub within : k ≤ length cs
   pub long : length out′ ≡ length out
-  pub wrote : Wrote (5 * k) at (entryEpsilonWords x (take k cs) targets) out out′ next
+  pub written : WordsWritten (5 * k) at (entryEpsilonWords x (take k cs) targets) out out′ next
 
 pub entriesWritten-none : (cs : List ℕ) (targets : ℕ → List ℕ) (x at : ℕ) (out : List ℕ) → EntriesWritten cs targets x at out out at 0
-entriesWritten-none cs targets x at out = record { within = omega arith; long = refl; wrote = wrote-none at out }
+entriesWritten-none cs targets x at out = record { within = omega arith; long = refl; written = words-written-none at out }
 
 module _ {cs : List ℕ} {targets : ℕ → List ℕ} {x at : ℕ} {out out′ : List ℕ} {next k : ℕ}
     (w : EntriesWritten cs targets x at out out′ next k) where
   -- there is room for the next constant's transitions
   pub entriesWritten-fits : k < length cs → length cs ≤ 16 → at + 80 ≤ lastIndex → next + 5 ≤ lastIndex
-  entriesWritten-fits h few fits = let n = wrote-next _ _ _ _ _ _ (w .wrote) in omega arith
+  entriesWritten-fits h few fits = let n = words-written-next _ _ _ _ _ _ (w .written) in omega arith
 
   pub entriesWritten-more : (m : ℕ) (out″ : List ℕ) (r : ℕ) → k < length cs → m ≤ 5 → length out″ ≡ length out′
-      → Wrote m next (transitionsWords (epsilons (x + 1 + k) (targets (getD cs k 0)))) out′ out″ r
+      → WordsWritten m next (transitionsWords (epsilons (x + 1 + k) (targets (getD cs k 0)))) out′ out″ r
       → EntriesWritten cs targets x at out out″ r
       (k + 1)
   entriesWritten-more m out″ r h le l q =
       record {
         within = omega arith;
         long = l ∙ w .long;
-        wrote =
-            wrote-same (5 * k + m) (5 * (k + 1)) at r _ _ out out″ (wrote-more (5 * k) m at next r _ _ out out′ out″ (w .wrote) q)
+        written =
+            words-written-same (5 * k + m) (5 * (k + 1)) at r _ _ out out″
+            (words-written-more (5 * k) m at next r _ _ out out′ out″ (w .written) q)
             (omega arith)
             (sym (entryEpsilonWords-more x cs targets k h));
       }
 
-  pub entriesWritten-end : length cs ≤ k → length cs ≤ 16 → Wrote 80 at (entryEpsilonWords x cs targets) out out′ next
+  pub entriesWritten-end : length cs ≤ k → length cs ≤ 16 → WordsWritten 80 at (entryEpsilonWords x cs targets) out out′ next
   entriesWritten-end h few =
       let i = w .within in
-      wrote-same (5 * k) 80 at next _ _ out out′ (w .wrote) (omega arith) (rw (take-all k cs h))
+      words-written-same (5 * k) 80 at next _ _ out out′ (w .written) (omega arith) (rw (take-all k cs h))

@@ -12,14 +12,14 @@ use Rattle.words.proofs.ScanLaws.{drop-part}
 use Rattle.automaton.specs.Transition.{epsilon, transitionWords, transitionsWords}
 use Rattle.automaton.specs.Numbering.{entryFor, epsilons, symbolTargets}
 use Rattle.automaton.proofs.TransitionLaws.{transitionsWords-append}
-use Rattle.emitter.specs.Writing.{Wrote}
+use Rattle.emitter.specs.Writing.{WordsWritten}
 use Rattle.emitter.specs.declared.entries.Targets.{Targets}
 use Rattle.emitter.specs.declared.entries.Targets.the-variants.{Children, Product, Closure}
 use Rattle.ports.specs.declared.port.Entry.{Entry}
 use Rattle.ports.specs.declared.port.Entry.the-variants.{Missing, State}
 use Rattle.ports.specs.Ports.{portIn, portsIn, statesOfEntry, Low, EntryOf}
-use Rattle.emitter.specs.Emission.{Emits, productEntries, closureEntries, targetsIn}
-use Rattle.emitter.proofs.WritingLaws.{wrote-none, wrote-more, wrote-same}
+use Rattle.emitter.specs.Emission.{Emittable, productEntries, closureEntries, targetsIn}
+use Rattle.emitter.proofs.WritingLaws.{words-written-none, words-written-more, words-written-same}
 
 -- the words of the epsilon transitions from a state to states
 abbrev pub epsilonWords : ℕ → List ℕ → List ℕ
@@ -32,11 +32,11 @@ epsilonWords-append from qs rs =
 -- ---- to one entry
 
 module _ (to : Entry) (from at : ℕ) (out : List ℕ) where
-  pub to-missing : to ≡ Missing → Wrote 1 at (epsilonWords from (statesOfEntry to)) out out at
-  to-missing e = rw e (wrote-same 0 1 at at [] [] out out (wrote-none at out) (omega arith) refl)
+  pub to-missing : to ≡ Missing → WordsWritten 1 at (epsilonWords from (statesOfEntry to)) out out at
+  to-missing e = rw e (words-written-same 0 1 at at [] [] out out (words-written-none at out) (omega arith) refl)
 
-  pub to-state : (s : ℕ) → to ≡ State s → (out′ : List ℕ) (r : ℕ) → Wrote 1 at (transitionWords (epsilon from s)) out out′ r
-      → Wrote 1 at (epsilonWords from (statesOfEntry to)) out out′ r
+  pub to-state : (s : ℕ) → to ≡ State s → (out′ : List ℕ) (r : ℕ) → WordsWritten 1 at (transitionWords (epsilon from s)) out out′ r
+      → WordsWritten 1 at (epsilonWords from (statesOfEntry to)) out out′ r
   to-state s e out′ r w = rw e w
 
 pub low-state : (to : Entry) (s : ℕ) → to ≡ State s → Low to → s < 4096
@@ -44,9 +44,10 @@ low-state to s e h = rw e at h
 
 -- the entry of a port for the constant c
 pub to-entry : (cs : List ℕ) (p b c from at : ℕ) (to : Entry) (out out′ : List ℕ) (r : ℕ) → EntryOf cs p b to → b ≡ c
-    → Wrote 1 at (epsilonWords from (statesOfEntry to)) out out′ r → Wrote 1 at (epsilonWords from (entryFor (portIn cs p) c)) out out′ r
+    → WordsWritten 1 at (epsilonWords from (statesOfEntry to)) out out′ r
+    → WordsWritten 1 at (epsilonWords from (entryFor (portIn cs p) c)) out out′ r
 to-entry cs p b c from at to out out′ r h e w =
-    wrote-same 1 1 at r _ _ out out′ w (omega arith) (ap (epsilonWords from) (h .states ∙ ap (entryFor (portIn cs p)) e))
+    words-written-same 1 1 at r _ _ out out′ w (omega arith) (ap (epsilonWords from) (h .states ∙ ap (entryFor (portIn cs p)) e))
 
 -- ---- to the children's entries
 
@@ -68,29 +69,30 @@ children-entries cs ps b i h =
 pub record ToChildren (cs ps : List ℕ) (from b at : ℕ) (out out′ : List ℕ) (next i : ℕ) : Type 0 where
   pub within : i ≤ length ps
   pub long : length out′ ≡ length out
-  pub wrote : Wrote i at (epsilonWords from (symbolTargets (portsIn cs (take i ps)) b)) out out′ next
+  pub written : WordsWritten i at (epsilonWords from (symbolTargets (portsIn cs (take i ps)) b)) out out′ next
 
 pub children-none : (cs ps : List ℕ) (from b at : ℕ) (out : List ℕ) → ToChildren cs ps from b at out out at 0
 unfolding flatMap
-children-none cs ps from b at out = record { within = omega arith; long = refl; wrote = wrote-none at out }
+children-none cs ps from b at out = record { within = omega arith; long = refl; written = words-written-none at out }
 
 module _ {cs ps : List ℕ} {from b at : ℕ} {out out′ : List ℕ} {next i : ℕ} (w : ToChildren cs ps from b at out out′ next i) where
   pub children-more : (to : Entry) (out″ : List ℕ) (r : ℕ) → i < length ps → EntryOf cs (getD ps i 0) b to → length out″ ≡ length out′
-      → Wrote 1 next (epsilonWords from (statesOfEntry to)) out′ out″ r → ToChildren cs ps from b at out out″ r (i + 1)
+      → WordsWritten 1 next (epsilonWords from (statesOfEntry to)) out′ out″ r → ToChildren cs ps from b at out out″ r (i + 1)
   children-more to out″ r h e l q =
       record {
         within = omega arith;
         long = l ∙ w .long;
-        wrote = wrote-same (i + 1) (i + 1) at r _ _ out out″ (wrote-more i 1 at next r _ _ out out′ out″ (w .wrote) q) (omega arith)
+        written = words-written-same (i + 1) (i + 1) at r _ _ out out″ (words-written-more i 1 at next r _ _ out out′ out″ (w .written) q)
+            (omega arith)
             (sym
             (rw (add-one i, children-entries cs ps b i h, ← e .states) (epsilonWords-append from (symbolTargets (portsIn cs (take i ps)) b)
             (statesOfEntry to))));
       }
 
-  pub children-end : length ps ≤ i → length ps ≤ 4 → Wrote 4 at (epsilonWords from (symbolTargets (portsIn cs ps) b)) out out′ next
+  pub children-end : length ps ≤ i → length ps ≤ 4 → WordsWritten 4 at (epsilonWords from (symbolTargets (portsIn cs ps) b)) out out′ next
   children-end h few =
       let k = w .within in
-      wrote-same i 4 at next _ _ out out′ (w .wrote) (omega arith) (rw (take-all i ps h))
+      words-written-same i 4 at next _ _ out out′ (w .written) (omega arith) (rw (take-all i ps h))
 
 -- ---- the same for a product and for a closure over c
 
@@ -101,8 +103,8 @@ behindFirst ps = take (length ps - 1) (drop 1 ps)
 pub behindFirst-drop : (ps : List ℕ) → behindFirst ps ≡ drop 1 ps
 behindFirst-drop ps = drop-part ps 1
 
-pub emits-behind : (cs ps : List ℕ) (x at n : ℕ) → Emits cs ps x at n → Emits cs (behindFirst ps) x at n
-emits-behind cs ps x at n p =
+pub emittable-behind : (cs ps : List ℕ) (x at n : ℕ) → Emittable cs ps x at n → Emittable cs (behindFirst ps) x at n
+emittable-behind cs ps x at n p =
     let l = p .children in
     record {
       once = p .once;
@@ -113,37 +115,39 @@ emits-behind cs ps x at n p =
     }
 
 module _ (cs ps : List ℕ) (from b c at : ℕ) (out out′ : List ℕ) (r : ℕ) where
-  pub product-here : b ≡ c → Wrote 4 at (epsilonWords from (symbolTargets (portsIn cs (behindFirst ps)) b)) out out′ r
-      → Wrote 5 at (epsilonWords from (productEntries cs ps c b)) out out′ r
-  product-here e w = wrote-same 4 5 at r _ _ out out′ w (omega arith) (rw (eq-eqb b c e, behindFirst-drop ps))
+  pub product-here : b ≡ c → WordsWritten 4 at (epsilonWords from (symbolTargets (portsIn cs (behindFirst ps)) b)) out out′ r
+      → WordsWritten 5 at (epsilonWords from (productEntries cs ps c b)) out out′ r
+  product-here e w = words-written-same 4 5 at r _ _ out out′ w (omega arith) (rw (eq-eqb b c e, behindFirst-drop ps))
 
-  pub product-other : (b ≡ c → ⊥) → Wrote 4 at (epsilonWords from (symbolTargets (portsIn cs ps) b)) out out′ r
-      → Wrote 5 at (epsilonWords from (productEntries cs ps c b)) out out′ r
-  product-other n w = wrote-same 4 5 at r _ _ out out′ w (omega arith) (rw (ne-eqb b c n))
+  pub product-other : (b ≡ c → ⊥) → WordsWritten 4 at (epsilonWords from (symbolTargets (portsIn cs ps) b)) out out′ r
+      → WordsWritten 5 at (epsilonWords from (productEntries cs ps c b)) out out′ r
+  product-other n w = words-written-same 4 5 at r _ _ out out′ w (omega arith) (rw (ne-eqb b c n))
 
-  pub closure-here : (x : ℕ) (out″ : List ℕ) (s : ℕ) → b ≡ c → Wrote 4 at (epsilonWords from (symbolTargets (portsIn cs ps) b)) out out′ r
-      → Wrote 1 r (transitionWords (epsilon from x)) out′ out″ s → Wrote 5 at (epsilonWords from (closureEntries cs ps c x b)) out out″ s
+  pub closure-here : (x : ℕ) (out″ : List ℕ) (s : ℕ) → b ≡ c
+      → WordsWritten 4 at (epsilonWords from (symbolTargets (portsIn cs ps) b)) out out′ r
+      → WordsWritten 1 r (transitionWords (epsilon from x)) out′ out″ s
+      → WordsWritten 5 at (epsilonWords from (closureEntries cs ps c x b)) out out″ s
   closure-here x out″ s e w v =
-      wrote-same 5 5 at s _ _ out out″ (wrote-more 4 1 at r s _ _ out out′ out″ w v) (omega arith)
+      words-written-same 5 5 at s _ _ out out″ (words-written-more 4 1 at r s _ _ out out′ out″ w v) (omega arith)
       (rw (eq-eqb b c e) (sym (epsilonWords-append from (symbolTargets (portsIn cs ps) b) (x ∷ []))))
 
-  pub closure-other : (x : ℕ) → (b ≡ c → ⊥) → Wrote 4 at (epsilonWords from (symbolTargets (portsIn cs ps) b)) out out′ r
-      → Wrote 5 at (epsilonWords from (closureEntries cs ps c x b)) out out′ r
+  pub closure-other : (x : ℕ) → (b ≡ c → ⊥) → WordsWritten 4 at (epsilonWords from (symbolTargets (portsIn cs ps) b)) out out′ r
+      → WordsWritten 5 at (epsilonWords from (closureEntries cs ps c x b)) out out′ r
   closure-other x n w =
-      wrote-same 4 5 at r _ _ out out′ w (omega arith) (rw (ne-eqb b c n) (ap (epsilonWords from) (sym (append-nil
+      words-written-same 4 5 at r _ _ out out′ w (omega arith) (rw (ne-eqb b c n) (ap (epsilonWords from) (sym (append-nil
       (symbolTargets (portsIn cs ps) b)))))
 
 -- ---- any of the three
 
 module _ (cs ps : List ℕ) (x from b at : ℕ) (out out′ : List ℕ) (r : ℕ) (targets : Targets) where
-  pub targets-children : targets ≡ Children → Wrote 4 at (epsilonWords from (symbolTargets (portsIn cs ps) b)) out out′ r
-      → Wrote 5 at (epsilonWords from (targetsIn cs ps x targets b)) out out′ r
-  targets-children e w = rw e (wrote-same 4 5 at r _ _ out out′ w (omega arith) refl)
+  pub targets-children : targets ≡ Children → WordsWritten 4 at (epsilonWords from (symbolTargets (portsIn cs ps) b)) out out′ r
+      → WordsWritten 5 at (epsilonWords from (targetsIn cs ps x targets b)) out out′ r
+  targets-children e w = rw e (words-written-same 4 5 at r _ _ out out′ w (omega arith) refl)
 
-  pub targets-product : (c : ℕ) → targets ≡ Product c → Wrote 5 at (epsilonWords from (productEntries cs ps c b)) out out′ r
-      → Wrote 5 at (epsilonWords from (targetsIn cs ps x targets b)) out out′ r
+  pub targets-product : (c : ℕ) → targets ≡ Product c → WordsWritten 5 at (epsilonWords from (productEntries cs ps c b)) out out′ r
+      → WordsWritten 5 at (epsilonWords from (targetsIn cs ps x targets b)) out out′ r
   targets-product c e w = rw e w
 
-  pub targets-closure : (c : ℕ) → targets ≡ Closure c → Wrote 5 at (epsilonWords from (closureEntries cs ps c x b)) out out′ r
-      → Wrote 5 at (epsilonWords from (targetsIn cs ps x targets b)) out out′ r
+  pub targets-closure : (c : ℕ) → targets ≡ Closure c → WordsWritten 5 at (epsilonWords from (closureEntries cs ps c x b)) out out′ r
+      → WordsWritten 5 at (epsilonWords from (targetsIn cs ps x targets b)) out out′ r
   targets-closure c e w = rw e w

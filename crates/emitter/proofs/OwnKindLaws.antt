@@ -8,9 +8,9 @@ use borrow.Author.Tests.{eq-eqb, ne-eqb}
 use Rattle.words.specs.Word.{numberOf, lowByte, closureKind, productKind, symbolKind, unionKind, kindNumber}
 use Rattle.automaton.specs.Transition.{Transition, transitionsWords}
 use Rattle.automaton.specs.Numbering.{Port, symbolTransitions, unionTransitions, productTransitions, closureTransitions, ownTransitions}
-use Rattle.emitter.specs.Writing.{Wrote}
+use Rattle.emitter.specs.Writing.{WordsWritten}
 use Rattle.ports.specs.Ports.{portsIn}
-use Rattle.emitter.proofs.WritingLaws.{wrote-none, wrote-same}
+use Rattle.emitter.proofs.WritingLaws.{words-written-none, words-written-same}
 use Rattle.emitter.proofs.OwnLaws.{both, single, F, G}
 
 module _ (w : ℕ) (E : Port) (cs : List ℕ) where
@@ -72,10 +72,11 @@ module _ (w : ℕ) (E : Port) (cs : List ℕ) where
       )
 
 -- the words of transitions that are written, said otherwise
-pub wrote-transitions : (m at r : ℕ) (ts us : List Transition) (out out′ : List ℕ) → us ≡ ts → Wrote m at (transitionsWords ts) out out′ r
-    → Wrote m at (transitionsWords us) out out′ r
-wrote-transitions m at r ts us out out′ e w = rw e w
+pub transitions-written : (m at r : ℕ) (ts us : List Transition) (out out′ : List ℕ) → us ≡ ts
+    → WordsWritten m at (transitionsWords ts) out out′ r
+    → WordsWritten m at (transitionsWords us) out out′ r
+transitions-written m at r ts us out out′ e w = rw e w
 
 -- no transitions
-pub wrote-no-transitions : (m at : ℕ) (us : List Transition) (out : List ℕ) → us ≡ [] → Wrote m at (transitionsWords us) out out at
-wrote-no-transitions m at us out e = rw e (wrote-same 0 m at at [] [] out out (wrote-none at out) (omega arith) refl)
+pub no-transitions-written : (m at : ℕ) (us : List Transition) (out : List ℕ) → us ≡ [] → WordsWritten m at (transitionsWords us) out out at
+no-transitions-written m at us out e = rw e (words-written-same 0 m at at [] [] out out (words-written-none at out) (omega arith) refl)

@@ -10,17 +10,17 @@ use Rattle.automaton.specs.Transition.{Transition, onSymbol, epsilon, sourceWor
 use Rattle.automaton.specs.Numbering.{Port, numbered, entryFor, epsilons, symbolTargets, symbolTransitions}
 use Rattle.automaton.specs.Numbering.{unionTransitions, productTransitions, closureTransitions, fullPort}
 use Rattle.automaton.proofs.TransitionLaws.{transitionsWords-append, entryEpsilons-same}
-use Rattle.emitter.specs.Writing.{Wrote}
+use Rattle.emitter.specs.Writing.{WordsWritten}
 use Rattle.ports.specs.Ports.{exitIn, exitsIn, portIn, portsIn}
-use Rattle.emitter.specs.Emission.{Emits, productEntries, closureEntries}
-use Rattle.emitter.proofs.WritingLaws.{wrote-more, wrote-same}
+use Rattle.emitter.specs.Emission.{Emittable, productEntries, closureEntries}
+use Rattle.emitter.proofs.WritingLaws.{words-written-more, words-written-same}
 use Rattle.emitter.proofs.EntryLaws.{epsilonWords, epsilonWords-append}
 use Rattle.emitter.proofs.EntryEpsilonLaws.{entryEpsilonWords}
 use Rattle.emitter.proofs.SourceLaws.{sources-exits}
 
 -- what is left of the room behind a word's first transitions
-pub emits-later : (cs ps : List ℕ) (x at next : ℕ) → Emits cs ps x at 85 → next ≤ at + 5 → Emits cs ps x next 80
-emits-later cs ps x at next p h =
+pub emittable-later : (cs ps : List ℕ) (x at next : ℕ) → Emittable cs ps x at 85 → next ≤ at + 5 → Emittable cs ps x next 80
+emittable-later cs ps x at next p h =
     let fits = p .fits in
     record {
       once = p .once;
@@ -73,11 +73,11 @@ module _ (cs ps : List ℕ) where
 
 pub union-own : (cs ps : List ℕ) (x at : ℕ) (out o₁ o₂ : List ℕ) (n r y z : ℕ) → length ps ≡ 2 → y ≡ exitIn (getD ps 0 0)
     → z ≡ exitIn (getD ps 1 0)
-    → Wrote 2 at (transitionsWords (epsilon y x ∷ epsilon z x ∷ [])) out o₁ n
-    → Wrote 80 n (entryEpsilonWords x cs (symbolTargets (portsIn cs ps))) o₁ o₂ r
-    → Wrote 85 at (transitionsWords (unionTransitions (fullPort cs x) (F cs ps) (G cs ps))) out o₂ r
+    → WordsWritten 2 at (transitionsWords (epsilon y x ∷ epsilon z x ∷ [])) out o₁ n
+    → WordsWritten 80 n (entryEpsilonWords x cs (symbolTargets (portsIn cs ps))) o₁ o₂ r
+    → WordsWritten 85 at (transitionsWords (unionTransitions (fullPort cs x) (F cs ps) (G cs ps))) out o₂ r
 union-own cs ps x at out o₁ o₂ n r y z h e d p s =
-    wrote-same 82 85 at r _ _ out o₂ (wrote-more 2 80 at n r _ _ out o₁ o₂ p s) (omega arith)
+    words-written-same 82 85 at r _ _ out o₂ (words-written-more 2 80 at n r _ _ out o₁ o₂ p s) (omega arith)
     (rw (e, d)
     (ap (λ (l : List Transition). transitionsWords (epsilon (F cs ps .exit) x ∷ epsilon (G cs ps .exit) x ∷ l))
     (entryEpsilons-same (symbolTargets (portsIn cs ps)) (λ b. entryFor (F cs ps) b ++ entryFor (G cs ps) b) (numbered (suc x) cs)
@@ -88,25 +88,27 @@ module _ (cs ps : List ℕ) (x at : ℕ) (out o₁ o₂ o₃ : List ℕ) (n₁ n
   E = fullPort cs x
 
   -- three writers one after the other
-  three : (i j k : ℕ) (us vs ws all : List ℕ) → Wrote i at us out o₁ n₁ → Wrote j n₁ vs o₁ o₂ n₂ → Wrote k n₂ ws o₂ o₃ r
-      → i + j + k ≤ 85 → us ++ (vs ++ ws) ≡ all → Wrote 85 at all out o₃ r
+  three : (i j k : ℕ) (us vs ws all : List ℕ) → WordsWritten i at us out o₁ n₁
+      → WordsWritten j n₁ vs o₁ o₂ n₂ → WordsWritten k n₂ ws o₂ o₃ r
+      → i + j + k ≤ 85 → us ++ (vs ++ ws) ≡ all → WordsWritten 85 at all out o₃ r
   three i j k us vs ws all p q s le e =
-      wrote-same (i + j + k) 85 at r ((us ++ vs) ++ ws) all out o₃
-      (wrote-more (i + j) k at n₂ r (us ++ vs) ws out o₂ o₃ (wrote-more i j at n₁ n₂ us vs out o₁ o₂ p q) s) le
+      words-written-same (i + j + k) 85 at r ((us ++ vs) ++ ws) all out o₃
+      (words-written-more (i + j) k at n₂ r (us ++ vs) ws out o₂ o₃ (words-written-more i j at n₁ n₂ us vs out o₁ o₂ p q) s) le
       (append-assoc us vs ws ∙ e)
 
-  pub symbol-own : (f : ℕ) → Wrote 1 at (transitionWords (onSymbol f [] x)) out o₁ n₁ → Wrote 4 n₁ (sourceWords (exitsIn ps)) o₁ o₂ n₂
-      → Wrote 80 n₂ (entryEpsilonWords x cs (symbolTargets (portsIn cs ps))) o₂ o₃ r → Wrote 85 at (transitionsWords (symbolTransitions f E
-      (portsIn cs ps))) out o₃ r
+  pub symbol-own : (f : ℕ) → WordsWritten 1 at (transitionWords (onSymbol f [] x)) out o₁ n₁
+      → WordsWritten 4 n₁ (sourceWords (exitsIn ps)) o₁ o₂ n₂
+      → WordsWritten 80 n₂ (entryEpsilonWords x cs (symbolTargets (portsIn cs ps))) o₂ o₃ r
+      → WordsWritten 85 at (transitionsWords (symbolTransitions f E (portsIn cs ps))) out o₃ r
   symbol-own f p q s =
       three 1 4 80 _ _ _ _ p q s (omega arith)
       (ap (λ (l : List ℕ). transitionWords (onSymbol f [] x) ++ (l ++ entryEpsilonWords x cs (symbolTargets (portsIn cs ps))))
       (sources-exits cs ps))
 
   pub product-own : (y z c : ℕ) → length ps ≡ 2 → y ≡ exitIn (getD ps 0 0) → z ≡ exitIn (getD ps 1 0)
-      → Wrote 1 at (transitionWords (epsilon y x)) out o₁ n₁ → Wrote 1 n₁ (epsilonWords z (entryFor (F cs ps) c)) o₁ o₂ n₂
-      → Wrote 80 n₂ (entryEpsilonWords x cs (productEntries cs ps c)) o₂ o₃ r
-      → Wrote 85 at (transitionsWords (productTransitions c E (F cs ps)
+      → WordsWritten 1 at (transitionWords (epsilon y x)) out o₁ n₁ → WordsWritten 1 n₁ (epsilonWords z (entryFor (F cs ps) c)) o₁ o₂ n₂
+      → WordsWritten 80 n₂ (entryEpsilonWords x cs (productEntries cs ps c)) o₂ o₃ r
+      → WordsWritten 85 at (transitionsWords (productTransitions c E (F cs ps)
       (G cs ps))) out o₃ r
   product-own y z c h e d p q s =
       three 1 1 80 _ _ _ _ p q s (omega arith)
@@ -119,9 +121,9 @@ module _ (cs ps : List ℕ) (x at : ℕ) (out o₁ o₂ o₃ : List ℕ) (n₁ n
       ∙ sym (transitionsWords-append (epsilons (G cs ps .exit) (entryFor (F cs ps) c)) _))))
 
   pub closure-own : (y c : ℕ) → length ps ≡ 1 → y ≡ exitIn (getD ps 0 0)
-      → Wrote 1 at (epsilonWords y (entryFor (F cs ps) c)) out o₁ n₁ → Wrote 1 n₁ (transitionWords (epsilon y x)) o₁ o₂ n₂
-      → Wrote 80 n₂ (entryEpsilonWords x cs (closureEntries cs ps c x)) o₂ o₃ r → Wrote 85 at (transitionsWords (closureTransitions c E
-      (F cs ps))) out o₃ r
+      → WordsWritten 1 at (epsilonWords y (entryFor (F cs ps) c)) out o₁ n₁ → WordsWritten 1 n₁ (transitionWords (epsilon y x)) o₁ o₂ n₂
+      → WordsWritten 80 n₂ (entryEpsilonWords x cs (closureEntries cs ps c x)) o₂ o₃ r
+      → WordsWritten 85 at (transitionsWords (closureTransitions c E (F cs ps))) out o₃ r
   closure-own y c h e p q s =
       let y′ = F cs ps .exit in
       let qs = entryFor (F cs ps) c in

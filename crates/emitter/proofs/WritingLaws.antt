@@ -6,15 +6,15 @@ use native.Mathlib.Omega.{arith}
 use native.Mathlib.Nat.{add-zero, add-assoc}
 use lib.ListN.{length, set, length-append}
 use Rattle.words.proofs.ListLaws.{sets-append}
-use Rattle.emitter.specs.Writing.{Wrote}
+use Rattle.emitter.specs.Writing.{WordsWritten}
 
-pub wrote-none : (at : ℕ) (out : List ℕ) → Wrote 0 at [] out out at
-wrote-none at out = record { words = refl; next = sym (add-zero at); short = omega arith }
+pub words-written-none : (at : ℕ) (out : List ℕ) → WordsWritten 0 at [] out out at
+words-written-none at out = record { words = refl; next = sym (add-zero at); short = omega arith }
 
 -- words after words
-pub wrote-more : (m n at next r : ℕ) (vs us out out′ out″ : List ℕ)
-    → Wrote m at vs out out′ next → Wrote n next us out′ out″ r → Wrote (m + n) at (vs ++ us) out out″ r
-wrote-more m n at next r vs us out out′ out″ p q =
+pub words-written-more : (m n at next r : ℕ) (vs us out out′ out″ : List ℕ)
+    → WordsWritten m at vs out out′ next → WordsWritten n next us out′ out″ r → WordsWritten (m + n) at (vs ++ us) out out″ r
+words-written-more m n at next r vs us out out′ out″ p q =
     record {
       words = q .words ∙ rw (p .next, p .words) (sym (sets-append vs us out at));
       next = q .next ∙ rw (p .next, length-append) (add-assoc at (length vs) (length us));
@@ -22,14 +22,15 @@ wrote-more m n at next r vs us out out′ out″ p q =
     }
 
 -- the same words, said otherwise, and a bound that is looser
-pub wrote-same : (m n at r : ℕ) (vs us out out′ : List ℕ) → Wrote m at vs out out′ r → m ≤ n → vs ≡ us → Wrote n at us out out′ r
-wrote-same m n at r vs us out out′ p h e =
+pub words-written-same : (m n at r : ℕ) (vs us out out′ : List ℕ)
+    → WordsWritten m at vs out out′ r → m ≤ n → vs ≡ us → WordsWritten n at us out out′ r
+words-written-same m n at r vs us out out′ p h e =
     rw (← e) (record { words = p .words; next = p .next; short = let a = p .short in omega arith })
 
 -- how far a writer came
-pub wrote-next : (m at r : ℕ) (ws out out′ : List ℕ) → Wrote m at ws out out′ r → r ≤ at + m
-wrote-next m at r ws out out′ p = let a = p .short in let b = p .next in omega arith
+pub words-written-next : (m at r : ℕ) (ws out out′ : List ℕ) → WordsWritten m at ws out out′ r → r ≤ at + m
+words-written-next m at r ws out out′ p = let a = p .short in let b = p .next in omega arith
 
 -- one word
-pub wrote-one : (at w : ℕ) (out out′ : List ℕ) → out′ ≡ set out at w → Wrote 1 at (w ∷ []) out out′ (at + 1)
-wrote-one at w out out′ e = record { words = e; next = refl; short = omega arith }
+pub words-written-one : (at w : ℕ) (out out′ : List ℕ) → out′ ≡ set out at w → WordsWritten 1 at (w ∷ []) out out′ (at + 1)
+words-written-one at w out out′ e = record { words = e; next = refl; short = omega arith }

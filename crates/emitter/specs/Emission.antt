@@ -30,7 +30,7 @@ targetsIn cs ps x (Product c) b = productEntries cs ps c b
 targetsIn cs ps x (Closure c) b = closureEntries cs ps c x b
 
 -- the constants cs, a word's children with ports ps, its exit x, and an index from which on n words may be written
-pub record Emits (cs ps : List ℕ) (x at n : ℕ) : Type 0 where
+pub record Emittable (cs ps : List ℕ) (x at n : ℕ) : Type 0 where
   pub once : EachOnce cs
   pub few : length cs ≤ 16
   pub children : length ps ≤ 4
@@ -42,13 +42,13 @@ abbrev pub ListedConstant : List ℕ → ℕ → Type 0
 ListedConstant cs c = (k : ℕ) × (k < length cs) × (getD cs k 0 ≡ c)
 
 -- word w takes children with ports ps, and its c is one of the constants
-pub record Takes (cs ps : List ℕ) (w : ℕ) : Type 0 where
+pub record OwnEmittable (cs ps : List ℕ) (w : ℕ) : Type 0 where
   pub union : numberOf w ≡ kindNumber unionKind → length ps ≡ 2
   pub product : numberOf w ≡ kindNumber productKind → (length ps ≡ 2) × ListedConstant cs (lowByte w)
   pub closure : numberOf w ≡ kindNumber closureKind → (length ps ≡ 1) × ListedConstant cs (lowByte w)
 
 -- the constants are few and symbols, and their moves may be written from index `at` on
-pub record Symbols (cs : List ℕ) (at : ℕ) : Type 0 where
+pub record ConstantsEmittable (cs : List ℕ) (at : ℕ) : Type 0 where
   pub few : length cs ≤ 16
   pub symbols : (k : ℕ) → k < length cs → getD cs k 0 < 256
   pub fits : at + 16 ≤ lastIndex

@@ -7,7 +7,7 @@ use lib.Seq.{sets}
 
 -- What a writer leaves and answers: the words ws stand from index `at` on, those past the end of the slice are left out,
 -- and the answer is the next index in both cases. So a slice of no words serves to count. There are at most `most` words.
-pub record Wrote (most at : ℕ) (ws out out′ : List ℕ) (r : ℕ) : Type 0 where
+pub record WordsWritten (most at : ℕ) (ws out out′ : List ℕ) (r : ℕ) : Type 0 where
   pub words : out′ ≡ sets out at ws
   pub next : r ≡ at + length ws
   pub short : length ws ≤ most

@@ -2,9 +2,9 @@
 ghost use Prim.Native.Nat.{suc, _+_, _<_};
 ghost use Rattle.automaton.specs.Transition.{transitionsWords};
 ghost use Rattle.automaton.specs.Numbering.{numbered};
-ghost use Rattle.emitter.specs.Writing.{Wrote};
+ghost use Rattle.emitter.specs.Writing.{WordsWritten};
 ghost use Rattle.ports.specs.Ports.{portIn};
-ghost use Rattle.emitter.specs.Emission.{Symbols, constantTransitions};
+ghost use Rattle.emitter.specs.Emission.{ConstantsEmittable, constantTransitions};
 use super::writer::push_transition;
 use ports::port::EVERY;
 use ports::port::EXIT_UNIT;
@@ -13,10 +13,10 @@ use ports::port::exit_of;
 
 // Into an entry for each constant.
 fn push_every(constants: &[u32], out: &mut [u32], at: usize, exit: u32) -> usize
-    requires { ⌜ Symbols (now constants) at ⌝ }
+    requires { ⌜ ConstantsEmittable (now constants) at ⌝ }
     requires { ⌜ exit < 2048 ⌝ }
     ensures { λ r. ⌜
-        Wrote 16 at
+        WordsWritten 16 at
         (transitionsWords (constantTransitions (numbered (suc exit) (now (constants .entry)))))
         (now (out .entry)) (now (out .exit)) r
         ⌝ }
@@ -32,9 +32,9 @@ fn push_every(constants: &[u32], out: &mut [u32], at: usize, exit: u32) -> usize
 
 // Into the entries of a port.
 pub fn push_constants(constants: &[u32], port: u32, out: &mut [u32], at: usize) -> usize
-    requires { ⌜ Symbols (now constants) at ⌝ }
+    requires { ⌜ ConstantsEmittable (now constants) at ⌝ }
     ensures { λ r. ⌜
-        Wrote 16 at
+        WordsWritten 16 at
         (transitionsWords (constantTransitions (portIn (now (constants .entry)) port .entries)))
         (now (out .entry)) (now (out .exit)) r
         ⌝ }

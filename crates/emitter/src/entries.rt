@@ -3,9 +3,9 @@ ghost use Prim.Native.Nat.{suc, _+_, _≤_, _<_};
 ghost use lib.ListN.{length, getD};
 ghost use Rattle.automaton.specs.Transition.{transitionsWords};
 ghost use Rattle.automaton.specs.Numbering.{numbered, epsilons, entryEpsilons, symbolTargets};
-ghost use Rattle.emitter.specs.Writing.{Wrote, lastIndex};
+ghost use Rattle.emitter.specs.Writing.{WordsWritten, lastIndex};
 ghost use Rattle.ports.specs.Ports.{Low, statesOfEntry, portsIn};
-ghost use Rattle.emitter.specs.Emission.{Emits, productEntries, closureEntries, targetsIn};
+ghost use Rattle.emitter.specs.Emission.{Emittable, productEntries, closureEntries, targetsIn};
 use super::writer::push_epsilon;
 use ports::port::Entry;
 use ports::port::entry_at;
@@ -21,7 +21,7 @@ pub(crate) enum Targets {
 // "A move that names a missing entry is omitted."
 pub(crate) fn push_to(out: &mut [u32], at: usize, from: u32, to: Entry) -> usize
     requires { ⌜ (at < lastIndex) × ((from < 4096) × Low to) ⌝ }
-    ensures { λ r. ⌜ Wrote 1 at (transitionsWords (epsilons from (statesOfEntry to))) (now (out .entry)) (now (out .exit)) r ⌝ }
+    ensures { λ r. ⌜ WordsWritten 1 at (transitionsWords (epsilons from (statesOfEntry to))) (now (out .entry)) (now (out .exit)) r ⌝ }
 {
     match to {
         Entry::Missing => at,
@@ -38,10 +38,10 @@ fn push_to_children(
     exit: u32,
     k: usize,
 ) -> usize
-    requires { ⌜ Emits (now constants) (now ports) exit at 5 ⌝ }
+    requires { ⌜ Emittable (now constants) (now ports) exit at 5 ⌝ }
     requires { ⌜ k < length (now constants) ⌝ }
     ensures { λ r. ⌜
-        Wrote 4 at
+        WordsWritten 4 at
         (transitionsWords (epsilons (exit + 1 + k)
         (symbolTargets (portsIn (now (constants .entry)) (now (ports .entry))) (getD (now (constants .entry)) k 0))))
         (now (out .entry)) (now (out .exit)) r
@@ -68,10 +68,10 @@ fn push_product_entry(
     c: u32,
     k: usize,
 ) -> usize
-    requires { ⌜ Emits (now constants) (now ports) exit at 5 ⌝ }
+    requires { ⌜ Emittable (now constants) (now ports) exit at 5 ⌝ }
     requires { ⌜ (k < length (now constants)) × (1 ≤ length (now ports)) ⌝ }
     ensures { λ r. ⌜
-        Wrote 5 at
+        WordsWritten 5 at
         (transitionsWords (epsilons (exit + 1 + k)
         (productEntries (now (constants .entry)) (now (ports .entry)) c (getD (now (constants .entry)) k 0))))
         (now (out .entry)) (now (out .exit)) r
@@ -93,10 +93,10 @@ fn push_closure_entry(
     c: u32,
     k: usize,
 ) -> usize
-    requires { ⌜ Emits (now constants) (now ports) exit at 5 ⌝ }
+    requires { ⌜ Emittable (now constants) (now ports) exit at 5 ⌝ }
     requires { ⌜ k < length (now constants) ⌝ }
     ensures { λ r. ⌜
-        Wrote 5 at
+        WordsWritten 5 at
         (transitionsWords (epsilons (exit + 1 + k)
         (closureEntries (now (constants .entry)) (now (ports .entry)) c exit (getD (now (constants .entry)) k 0))))
         (now (out .entry)) (now (out .exit)) r
@@ -119,10 +119,10 @@ fn push_entry(
     targets: Targets,
     k: usize,
 ) -> usize
-    requires { ⌜ Emits (now constants) (now ports) exit at 5 ⌝ }
+    requires { ⌜ Emittable (now constants) (now ports) exit at 5 ⌝ }
     requires { ⌜ (k < length (now constants)) × (1 ≤ length (now ports)) ⌝ }
     ensures { λ r. ⌜
-        Wrote 5 at
+        WordsWritten 5 at
         (transitionsWords (epsilons (exit + 1 + k)
         (targetsIn (now (constants .entry)) (now (ports .entry)) exit targets (getD (now (constants .entry)) k 0))))
         (now (out .entry)) (now (out .exit)) r
@@ -144,10 +144,10 @@ pub(crate) fn push_entries(
     exit: u32,
     targets: Targets,
 ) -> usize
-    requires { ⌜ Emits (now constants) (now ports) exit at 80 ⌝ }
+    requires { ⌜ Emittable (now constants) (now ports) exit at 80 ⌝ }
     requires { ⌜ 1 ≤ length (now ports) ⌝ }
     ensures { λ r. ⌜
-        Wrote 80 at
+        WordsWritten 80 at
         (transitionsWords (entryEpsilons (numbered (suc exit) (now (constants .entry)))
         (targetsIn (now (constants .entry)) (now (ports .entry)) exit targets)))
         (now (out .entry)) (now (out .exit)) r

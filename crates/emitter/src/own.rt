@@ -6,9 +6,9 @@ ghost use lib.ListN.{length, getD};
 ghost use Rattle.automaton.specs.Transition.{epsilon, sourceWords, transitionsWords};
 ghost use Rattle.automaton.specs.Numbering.{symbolTransitions, unionTransitions, productTransitions};
 ghost use Rattle.automaton.specs.Numbering.{closureTransitions, ownTransitions, fullPort};
-ghost use Rattle.emitter.specs.Writing.{Wrote, lastIndex};
+ghost use Rattle.emitter.specs.Writing.{WordsWritten, lastIndex};
 ghost use Rattle.ports.specs.Ports.{exitsIn, portIn, portsIn};
-ghost use Rattle.emitter.specs.Emission.{Emits, ListedConstant, Takes};
+ghost use Rattle.emitter.specs.Emission.{Emittable, ListedConstant, OwnEmittable};
 use super::entries::Targets;
 use super::entries::push_entries;
 use super::entries::push_to;
@@ -24,7 +24,7 @@ use words::word::SOURCE;
 use words::word::kind_of;
 
 // The index of a constant.
-fn index_of(constants: &[u32], c: u32) -> usize
+fn constant_index(constants: &[u32], c: u32) -> usize
     requires { ⌜ ListedConstant (now constants) c ⌝ }
     ensures { λ r. ⌜ (r < length (now (constants .entry))) × (getD (now (constants .entry)) r 0 ≡ c) ⌝ }
 {
@@ -41,7 +41,7 @@ fn index_of(constants: &[u32], c: u32) -> usize
 // The part states of a symbol move: the children's exits.
 fn push_sources(ports: &[u32], out: &mut [u32], at: usize) -> usize
     requires { ⌜ (length (now ports) ≤ 4) × (at + 4 ≤ lastIndex) ⌝ }
-    ensures { λ r. ⌜ Wrote 4 at (sourceWords (exitsIn (now (ports .entry)))) (now (out .entry)) (now (out .exit)) r ⌝ }
+    ensures { λ r. ⌜ WordsWritten 4 at (sourceWords (exitsIn (now (ports .entry)))) (now (out .entry)) (now (out .exit)) r ⌝ }
 {
     let mut next = at;
     let mut i = 0;
@@ -61,10 +61,10 @@ fn push_symbol(
     exit: u32,
     symbol: u32,
 ) -> usize
-    requires { ⌜ Emits (now constants) (now ports) exit at 85 ⌝ }
+    requires { ⌜ Emittable (now constants) (now ports) exit at 85 ⌝ }
     requires { ⌜ (symbol < 256) × (1 ≤ length (now ports)) ⌝ }
     ensures { λ r. ⌜
-        Wrote 85 at
+        WordsWritten 85 at
         (transitionsWords (symbolTransitions symbol (fullPort (now (constants .entry)) exit)
         (portsIn (now (constants .entry)) (now (ports .entry)))))
         (now (out .entry)) (now (out .exit)) r
@@ -79,7 +79,7 @@ fn push_symbol(
 fn push_both(out: &mut [u32], at: usize, first: u32, second: u32, to: u32) -> usize
     requires { ⌜ (at + 2 ≤ lastIndex) × ((first < 4096) × ((second < 4096) × (to < 4096))) ⌝ }
     ensures { λ r. ⌜
-        Wrote 2 at
+        WordsWritten 2 at
         (transitionsWords (epsilon first to ∷ epsilon second to ∷ []))
         (now (out .entry)) (now (out .exit)) r
         ⌝ }
@@ -90,10 +90,10 @@ fn push_both(out: &mut [u32], at: usize, first: u32, second: u32, to: u32) -> us
 
 // A union of two children.
 fn push_union(constants: &[u32], ports: &[u32], out: &mut [u32], at: usize, exit: u32) -> usize
-    requires { ⌜ Emits (now constants) (now ports) exit at 85 ⌝ }
+    requires { ⌜ Emittable (now constants) (now ports) exit at 85 ⌝ }
     requires { ⌜ length (now ports) ≡ 2 ⌝ }
     ensures { λ r. ⌜
-        Wrote 85 at
+        WordsWritten 85 at
         (transitionsWords (unionTransitions (fullPort (now (constants .entry)) exit)
         (portIn (now (constants .entry)) (getD (now (ports .entry)) 0 0))
         (portIn (now (constants .entry)) (getD (now (ports .entry)) 1 0))))
@@ -115,17 +115,17 @@ fn push_product(
     exit: u32,
     c: u32,
 ) -> usize
-    requires { ⌜ Emits (now constants) (now ports) exit at 85 ⌝ }
+    requires { ⌜ Emittable (now constants) (now ports) exit at 85 ⌝ }
     requires { ⌜ (length (now ports) ≡ 2) × ListedConstant (now constants) c ⌝ }
     ensures { λ r. ⌜
-        Wrote 85 at
+        WordsWritten 85 at
         (transitionsWords (productTransitions c (fullPort (now (constants .entry)) exit)
         (portIn (now (constants .entry)) (getD (now (ports .entry)) 0 0))
         (portIn (now (constants .entry)) (getD (now (ports .entry)) 1 0))))
         (now (out .entry)) (now (out .exit)) r
         ⌝ }
 {
-    let entry = entry_at(constants, ports[0], index_of(constants, c));
+    let entry = entry_at(constants, ports[0], constant_index(constants, c));
     let second = push_epsilon(out, at, exit_of(ports[0]), exit);
     let next = push_to(out, second, exit_of(ports[1]), entry);
     push_entries(constants, ports, out, next, exit, Targets::Product(c))
@@ -140,16 +140,16 @@ fn push_closure(
     exit: u32,
     c: u32,
 ) -> usize
-    requires { ⌜ Emits (now constants) (now ports) exit at 85 ⌝ }
+    requires { ⌜ Emittable (now constants) (now ports) exit at 85 ⌝ }
     requires { ⌜ (length (now ports) ≡ 1) × ListedConstant (now constants) c ⌝ }
     ensures { λ r. ⌜
-        Wrote 85 at
+        WordsWritten 85 at
         (transitionsWords (closureTransitions c (fullPort (now (constants .entry)) exit)
         (portIn (now (constants .entry)) (getD (now (ports .entry)) 0 0))))
         (now (out .entry)) (now (out .exit)) r
         ⌝ }
 {
-    let entry = entry_at(constants, ports[0], index_of(constants, c));
+    let entry = entry_at(constants, ports[0], constant_index(constants, c));
     let second = push_to(out, at, exit_of(ports[0]), entry);
     let next = push_epsilon(out, second, exit_of(ports[0]), exit);
     push_entries(constants, ports, out, next, exit, Targets::Closure(c))
@@ -164,10 +164,10 @@ pub fn push_own(
     exit: u32,
     w: u32,
 ) -> usize
-    requires { ⌜ Emits (now constants) (now ports) exit at 85 ⌝ }
-    requires { ⌜ Takes (now constants) (now ports) w ⌝ }
+    requires { ⌜ Emittable (now constants) (now ports) exit at 85 ⌝ }
+    requires { ⌜ OwnEmittable (now constants) (now ports) w ⌝ }
     ensures { λ r. ⌜
-        Wrote 85 at
+        WordsWritten 85 at
         (transitionsWords (ownTransitions w (fullPort (now (constants .entry)) exit)
         (portsIn (now (constants .entry)) (now (ports .entry)))))
         (now (out .entry)) (now (out .exit)) r

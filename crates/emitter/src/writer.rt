@@ -3,7 +3,7 @@
 ghost use mathlib.Core.List.{[], _∷_};
 ghost use Prim.Native.Nat.{_+_, _*_, _<_};
 ghost use Rattle.automaton.specs.Transition.{transitionWords, onSymbol, epsilon};
-ghost use Rattle.emitter.specs.Writing.{Wrote, lastIndex};
+ghost use Rattle.emitter.specs.Writing.{WordsWritten, lastIndex};
 use words::word::EPSILON;
 use words::word::KIND_UNIT;
 use words::word::STATE_RANGE;
@@ -12,7 +12,7 @@ use words::word::TRANSITION;
 // One word.
 pub fn push(out: &mut [u32], at: usize, w: u32) -> usize
     requires { ⌜ at < lastIndex ⌝ }
-    ensures { λ r. ⌜ Wrote 1 at (w ∷ []) (now (out .entry)) (now (out .exit)) r ⌝ }
+    ensures { λ r. ⌜ WordsWritten 1 at (w ∷ []) (now (out .entry)) (now (out .exit)) r ⌝ }
 {
     if at < out.len() {
         out[at] = w;
@@ -23,7 +23,7 @@ pub fn push(out: &mut [u32], at: usize, w: u32) -> usize
 // An empty move.
 pub(crate) fn push_epsilon(out: &mut [u32], at: usize, from: u32, to: u32) -> usize
     requires { ⌜ (at < lastIndex) × ((from < 4096) × (to < 4096)) ⌝ }
-    ensures { λ r. ⌜ Wrote 1 at (transitionWords (epsilon from to)) (now (out .entry)) (now (out .exit)) r ⌝ }
+    ensures { λ r. ⌜ WordsWritten 1 at (transitionWords (epsilon from to)) (now (out .entry)) (now (out .exit)) r ⌝ }
 {
     push(out, at, EPSILON * KIND_UNIT + (from * STATE_RANGE + to))
 }
@@ -31,7 +31,7 @@ pub(crate) fn push_epsilon(out: &mut [u32], at: usize, from: u32, to: u32) -> us
 // A symbol move without its part states.
 pub(crate) fn push_transition(out: &mut [u32], at: usize, symbol: u32, to: u32) -> usize
     requires { ⌜ (at < lastIndex) × ((symbol < 256) × (to < 4096)) ⌝ }
-    ensures { λ r. ⌜ Wrote 1 at (transitionWords (onSymbol symbol [] to)) (now (out .entry)) (now (out .exit)) r ⌝ }
+    ensures { λ r. ⌜ WordsWritten 1 at (transitionWords (onSymbol symbol [] to)) (now (out .entry)) (now (out .exit)) r ⌝ }
 {
     push(
         out,

@@ -24,7 +24,7 @@ use Rattle.operations.proofs.AcceptedLaws.{table-right, ExchangeAccepted, excha
 use Rattle.sets.proofs.StoredLaws.{words-few}
 use Rattle.refusals.proofs.ReplacementRefusalLaws.{result-length}
 use Rattle.nodes.specs.Nodes.{Workable}
-use Rattle.exchanger.specs.Tail.{TailFits}
+use Rattle.exchanger.specs.Tail.{TailMovable}
 
 split-words : (i k size : ℕ) → (i + 1 + k) * size ≡ i * size + size + k * size
 split-words i k size =
@@ -101,14 +101,14 @@ module _ (a table chapter marks : List ℕ) (n element : ℕ) (xs : List ℕ) (o
         }
 
     -- the tails of both slices may move
-    pub chapter-fits : TailFits chapter n (element + 1) (s + length xs)
-    chapter-fits =
+    pub chapter-movable : TailMovable chapter n (element + 1) (s + length xs)
+    chapter-movable =
         let inside = call-numbers .inside in
         let fits = call-numbers .total-within in
         record { some = omega arith; inside = call-numbers .within; fits = omega arith }
 
-    pub marks-fits : TailFits marks (n * size) (element * size) ((s + length xs - 1) * size)
-    marks-fits =
+    pub marks-movable : TailMovable marks (n * size) (element * size) ((s + length xs - 1) * size)
+    marks-movable =
         let old = call-numbers .old-words in
         let new = call-numbers .new-words in
         let fits = call-numbers .new-fits in

@@ -34,7 +34,7 @@ use Rattle.exchanger.specs.Exchanging.{exchangedFrom}
 use Rattle.propagation.proofs.PropagationLaws.{recomputed-is, step-ancestor, propagate-continues, propagate-stops}
 use Rattle.exchanger.proofs.UpwardLaws.{Upward, Same, propagate-upwards}
 use Rattle.exchanger.proofs.TailLaws.{tail-filled}
-use Rattle.exchanger.proofs.CallNumberLaws.{CallNumbers, call-numbers, accepted-call, length-used, chapter-fits}
+use Rattle.exchanger.proofs.CallNumberLaws.{CallNumbers, call-numbers, accepted-call, length-used, chapter-movable}
 use Rattle.exchanger.proofs.MovedLaws.{gapSets, behindUse}
 
 -- the marks at exit, and the number worked out
@@ -291,7 +291,7 @@ module _ (a table chapter marks : List ℕ) (n element : ℕ) (xs : List ℕ) (o
       let inside = g .inside in
       q ∙ ap (λ (l : List ℕ). paste l place xs (length xs)) p
       ∙ tail-filled chapter n (element + 1) (place + length xs)
-      (chapter-fits a table chapter marks n element xs ok place refl (sizeOf table) refl) place xs refl
+      (chapter-movable a table chapter marks n element xs ok place refl (sizeOf table) refl) place xs refl
       ∙ ap (λ (l : List ℕ). refit n (l ++ (xs ++ slice (element + 1) n chapter)) chapter) (sym (take-take place n chapter (omega arith)))
 
   -- the new tree's words are those in use

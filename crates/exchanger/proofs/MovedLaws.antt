@@ -20,7 +20,7 @@ use Rattle.slices.proofs.RefitLaws.{take-drop}
 use Rattle.sets.proofs.RowLaws.{sized-stored, flatten-stored}
 use Rattle.nodes.proofs.MarkLaws.{MarksHolding}
 use Rattle.exchanger.proofs.TailLaws.{length-kept}
-use Rattle.exchanger.proofs.CallNumberLaws.{CallNumbers, call-numbers, marks-fits, length-used}
+use Rattle.exchanger.proofs.CallNumberLaws.{CallNumbers, call-numbers, marks-movable, length-used}
 
 pub flatten-append : (l k : List StateSet) → flatten (l ++ k) ≡ flatten l ++ flatten k
 unfolding flatten
@@ -119,7 +119,7 @@ module _ (a table chapter marks : List ℕ) (n element : ℕ) (xs : List ℕ) (o
       let old = facts .old-words in
       let new = facts .new-words in
       let l : length words ≡ (s + length xs + k) * size =
-      length-kept marks (n * size) (element * size) (root * size) (marks-fits a table chapter marks n element xs ok s refl size refl)
+      length-kept marks (n * size) (element * size) (root * size) (marks-movable a table chapter marks n element xs ok s refl size refl)
       ∙ omega arith in
       record {
         words = q ∙ ap₂ (λ (t : List ℕ) (i : ℕ). t ++ behindUse (n * size) i marks) (sym sets-words) l;

@@ -7,10 +7,10 @@ use native.Mathlib.Omega.{arith}
 use lib.ListN.{length, replicate, length-replicate}
 use Rattle.index.specs.Index.{indexOf, Indexable}
 use Rattle.nodes.specs.Nodes.{rootsOf, Held, Stackable, markedFrom}
-use Rattle.nodes.specs.Marking.{Maintained, AtNodes}
+use Rattle.nodes.specs.Marking.{Maintained, NodesMarkable}
 use Rattle.nodes.proofs.WorkableLaws.{table-few, workable-long}
 use Rattle.nodes.proofs.NodesLaws.{nothing-prepared}
-use Rattle.propagation.specs.Propagation.{propagateFrom, initial, PropagationStart}
+use Rattle.propagation.specs.Propagation.{propagateFrom, initial, Startable}
 use Rattle.exchanger.specs.Exchanging.{exchangedFrom, Exchangeable}
 
 module _ {a table ch : List ℕ} {start root : ℕ} {marks : List ℕ} (g : Exchangeable a table ch start root marks) where
@@ -26,8 +26,8 @@ module _ {a table ch : List ℕ} {start root : ℕ} {marks : List ℕ} (g : Exch
   pub nodes-marks : {index : List ℕ} → index ≡ indexOf table → {array : List ℕ} {height : ℕ}
       → length array ≡ length (replicate {A = ℕ} 4100 0)
       → Held array height (reverse (rootsOf a ch start))
-      → AtNodes a table index ch start root marks array height (replicate 1024 0) (replicate 1024 0) (replicate 1021 0) (replicate 64 0)
-      (replicate 2048 0) (replicate 1024 0)
+      → NodesMarkable a table index ch start root marks array height (replicate 1024 0) (replicate 1024 0) (replicate 1021 0)
+      (replicate 64 0) (replicate 2048 0) (replicate 1024 0)
   nodes-marks q l s =
       let order = g .order in
       let inside = g .inside in
@@ -42,7 +42,7 @@ module _ {a table ch : List ℕ} {start root : ℕ} {marks : List ℕ} (g : Exch
   pub nodes-propagate : {index : List ℕ} → index ≡ indexOf table
       → {marks′ array : List ℕ} {height : ℕ} {keys known places owners rows pending : List ℕ}
       → length marks′ ≡ length marks → Maintained a table ch root marks′ array height keys known places owners rows pending
-      → PropagationStart a table index ch root marks′ array height (root - start) keys known places owners rows pending
+      → Startable a table index ch root marks′ array height (root - start) keys known places owners rows pending
   nodes-propagate q m p =
       let inside = g .inside in
       let few = g .workable .tree .few in

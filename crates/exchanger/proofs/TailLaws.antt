@@ -7,9 +7,9 @@ use lib.ListN.{length, take, drop, replicate, length-append}
 use lib.Seq.{paste, slice, length-take-le, take-all, take-take, take-append-le, drop-at}
 use Rattle.operations.specs.Marks.{refit}
 use Rattle.slices.proofs.RefitLaws.{moved-tail, length-moved, cleared}
-use Rattle.exchanger.specs.Tail.{TailFits}
+use Rattle.exchanger.specs.Tail.{TailMovable}
 
-module _ (l : List ℕ) (used end at : ℕ) (g : TailFits l used end at) where
+module _ (l : List ℕ) (used end at : ℕ) (g : TailMovable l used end at) where
   abbrev kept : List ℕ
   kept = take at l ++ slice end used l
 

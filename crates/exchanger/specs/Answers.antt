@@ -4,6 +4,6 @@ use Rattle.words.specs.Answer.{Answer, refused, accepted}
 use Rattle.exchanger.specs.declared.Exchanged.{Exchanged}
 use Rattle.exchanger.specs.declared.Exchanged.the-variants.{Replaced, Refused}
 
-abbrev pub answerIn : Exchanged → Answer
-answerIn (Replaced count recomputed) = accepted (count ∷ recomputed ∷ [])
-answerIn (Refused number) = refused number
+abbrev pub answerInExchanged : Exchanged → Answer
+answerInExchanged (Replaced count recomputed) = accepted (count ∷ recomputed ∷ [])
+answerInExchanged (Refused number) = refused number

@@ -4,7 +4,7 @@ use mathlib.Core.List.{List}
 use lib.ListN.{length}
 
 -- the words from index `end` up to `used`, and the places from index `at` on, lie inside the slice
-pub record TailFits (words : List ℕ) (used end at : ℕ) : Type 0 where
+pub record TailMovable (words : List ℕ) (used end at : ℕ) : Type 0 where
   pub some : end ≤ used
   pub inside : used ≤ length words
   pub fits : at + (used - end) ≤ length words

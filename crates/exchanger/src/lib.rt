@@ -1,7 +1,7 @@
 // Exchange: one subtree of a marked chapter gives way to a replacement.
 ghost use mathlib.Core.Path.{_≡_};
 ghost use Rattle.operations.specs.Exchange.{exchangeAnswer, exchangeChapter, exchangeMarks};
-ghost use Rattle.exchanger.specs.Answers.{answerIn};
+ghost use Rattle.exchanger.specs.Answers.{answerInExchanged};
 use refusals::exchange::exchange_fault;
 use subtree::replace_subtree;
 
@@ -25,7 +25,7 @@ pub fn exchange(
     replacement: &[u32],
 ) -> Exchanged
     ensures answer { λ r. ⌜
-        answerIn r
+        answerInExchanged r
         ≡ exchangeAnswer (now (alphabet .entry)) (now (table .entry)) (now (chapter .entry)) (now (marks .entry)) count element
         (now (replacement .entry))
         ⌝ }

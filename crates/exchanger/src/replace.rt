@@ -4,13 +4,13 @@ ghost use mathlib.Core.List.{_++_};
 ghost use lib.ListN.{take};
 ghost use lib.Seq.{slice};
 ghost use Rattle.operations.specs.Marks.{refit};
-ghost use Rattle.exchanger.specs.Tail.{TailFits};
+ghost use Rattle.exchanger.specs.Tail.{TailMovable};
 use slices::moves::clear_words;
 use slices::moves::move_words;
 
 // Of the slice's words the first `used` are in use. Those from index `end` on move to index `at`; what they leave becomes zero.
 pub(crate) fn move_tail(words: &mut [u32], used: usize, end: usize, at: usize)
-    requires { ⌜ TailFits (now words) used end at ⌝ }
+    requires { ⌜ TailMovable (now words) used end at ⌝ }
     ensures { λ _. ⌜
         now (words .exit) ≡ refit used (take at (now (words .entry)) ++ slice end used (now (words .entry))) (now (words .entry))
         ⌝ }

@@ -8,7 +8,7 @@ ghost use Rattle.words.specs.Answer.{accepted};
 ghost use Rattle.operations.specs.Marks.{sizeOf, refit};
 ghost use Rattle.operations.specs.Exchange.{setIn, recomputedIn, fault as Exchange·fault, newTree, outcomes};
 ghost use Rattle.exchanger.specs.Exchanging.{exchangedFrom, Exchangeable};
-ghost use Rattle.exchanger.specs.Answers.{answerIn};
+ghost use Rattle.exchanger.specs.Answers.{answerInExchanged};
 use super::Exchanged;
 use super::replace::move_tail;
 use index::write_index;
@@ -94,7 +94,7 @@ pub(crate) fn replace_subtree(
 ) -> Exchanged
     requires { ⌜ Exchange·fault (now alphabet) (now table) (now chapter) (now marks) count element (now replacement) ≡ 0 ⌝ }
     ensures answer { λ r. ⌜
-        answerIn r
+        answerInExchanged r
         ≡ accepted
         (length (newTree (now (alphabet .entry)) (now (table .entry)) (now (chapter .entry)) (now (marks .entry)) count element
         (now (replacement .entry)))

@@ -9,7 +9,7 @@ use Rattle.operations.specs.Exchange.{exchangeAnswer}
 use Rattle.operations.proofs.ValueLaws.{compile-value, run-values, list-value, exchange-values}
 use Rattle.compiler.specs.declared.Compiled.{Compiled}
 use Rattle.compiler.specs.declared.Compiled.the-variants.{Table}
-use Rattle.compiler.specs.Answers.{answerIn as answerInCompiled}
+use Rattle.compiler.specs.Answers.{answerInCompiled}
 use Rattle.matcher.specs.declared.Ran.{Ran}
 use Rattle.matcher.specs.declared.Ran.the-variants.{Marked}
 use Rattle.matcher.specs.declared.Listed.{Listed}
@@ -17,7 +17,7 @@ use Rattle.matcher.specs.declared.Listed.the-variants.{Matches}
 use Rattle.matcher.specs.Answers.{answerInRan, answerInListed}
 use Rattle.exchanger.specs.declared.Exchanged.{Exchanged}
 use Rattle.exchanger.specs.declared.Exchanged.the-variants.{Replaced}
-use Rattle.exchanger.specs.Answers.{answerIn as answerInExchanged}
+use Rattle.exchanger.specs.Answers.{answerInExchanged}
 
 pub compile-small : (a e slice : List ℕ) {k : ℕ} (r : Compiled) → r ≡ Table k → answerInCompiled r ≡ compileAnswer a e slice → k < 2 ^ 32
 compile-small a e slice r told answer = compile-value a e slice (rw told at answer)

@@ -6,7 +6,7 @@ use Prim.Native.Nat.{ℕ}
 use Rattle.words.specs.Answer.{Answer, refused, accepted}
 use Rattle.compiler.specs.declared.Compiled.{Compiled}
 use Rattle.compiler.specs.declared.Compiled.the-variants.{Table, Refused as Compiled·Refused}
-use Rattle.compiler.specs.Answers.{answerIn as answerInCompiled}
+use Rattle.compiler.specs.Answers.{answerInCompiled}
 use Rattle.matcher.specs.declared.Ran.{Ran}
 use Rattle.matcher.specs.declared.Ran.the-variants.{Marked, Refused as Ran·Refused}
 use Rattle.matcher.specs.declared.Listed.{Listed}
@@ -14,7 +14,7 @@ use Rattle.matcher.specs.declared.Listed.the-variants.{Matches, Refused as List
 use Rattle.matcher.specs.Answers.{answerInRan, answerInListed}
 use Rattle.exchanger.specs.declared.Exchanged.{Exchanged}
 use Rattle.exchanger.specs.declared.Exchanged.the-variants.{Replaced, Refused as Exchanged·Refused}
-use Rattle.exchanger.specs.Answers.{answerIn as answerInExchanged}
+use Rattle.exchanger.specs.Answers.{answerInExchanged}
 use Rattle.haqbylur.specs.Status.{statusOf, valueOr}
 
 module _ {X : Answer} {s s′ : List ℕ} where

@@ -19,7 +19,7 @@ use Rattle.operations.proofs.RunLaws.{run-writes, run-length}
 use Rattle.sets.proofs.StoredLaws.{words-few}
 use Rattle.index.specs.Index.{indexOf, Indexable}
 use Rattle.nodes.specs.Nodes.{markedFrom, Workable}
-use Rattle.nodes.specs.Marking.{AtNodes}
+use Rattle.nodes.specs.Marking.{NodesMarkable}
 use Rattle.nodes.proofs.WorkedLaws.{workedFrom, worked-is}
 use Rattle.nodes.proofs.MarkLaws.{holding-stored, markedFrom-rows}
 use Rattle.nodes.proofs.WorkableLaws.{workable-size, table-few}
@@ -33,7 +33,7 @@ pub tree-index : {a table ch : List ℕ} {marksLength : ℕ} → Workable a tabl
 tree-index g = record { few = table-few g; zeros = refl }
 
 pub tree-nodes : {a table ch marks : List ℕ} → Workable a table ch (length marks) → {index : List ℕ} → index ≡ indexOf table
-    → AtNodes a table index ch 0 (length ch) marks (replicate 4100 0) 4 (replicate 1024 0) (replicate 1024 0) (replicate 1021 0)
+    → NodesMarkable a table index ch 0 (length ch) marks (replicate 4100 0) 4 (replicate 1024 0) (replicate 1024 0) (replicate 1021 0)
     (replicate 64 0) (replicate 2048 0) (replicate 1024 0)
 tree-nodes {a} {ch = ch} g e =
     record {

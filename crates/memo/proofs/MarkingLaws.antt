@@ -14,20 +14,20 @@ use Rattle.operations.specs.Marks.{sizeOf, storedSet}
 use Rattle.step.specs.Ready.{childSets}
 use Rattle.sets.specs.Copyable.{Copyable}
 use Rattle.sets.proofs.StoredLaws.{words-few, stored-written, stored-before}
-use Rattle.memo.specs.Memo.{setOver, Placeable, Represents, itself, earlier, AtNew, MarkedNew}
+use Rattle.memo.specs.Memo.{setOver, Placeable, Represents, itself, earlier, NewMarkable, MarkedNew}
 
 pub length-setOver : (table : List ℕ) (f : ℕ) (marks cs : List ℕ) → length (setOver table f marks cs) ≡ sizeOf table
 unfolding setOver sizeOf
 length-setOver table f marks cs = length-stateSet _ f _
 
 pub size-few : {table index : List ℕ} {f : ℕ} {marks cs : List ℕ} {i : ℕ} {places owners rows pending : List ℕ}
-    → AtNew table index f marks cs i places owners rows pending
+    → NewMarkable table index f marks cs i places owners rows pending
     → sizeOf table ≤ 32
 unfolding sizeOf
 size-few {table} g = let r = g .steppable .prepared .ready in isTable-sizes (r .alphabet) table (r .checked) .size-most
 
 module _ {table index : List ℕ} {f : ℕ} {marks cs : List ℕ} {i : ℕ} {places owners rows pending : List ℕ}
-    (g : AtNew table index f marks cs i places owners rows pending)
+    (g : NewMarkable table index f marks cs i places owners rows pending)
     (set : StateSet) (e : set ≡ stateSet (automatonOf table) f (childSets (sizeOf table) marks cs) ++ replicate (32 - sizeOf table) 0)
     (size : ℕ) (s : size ≡ sizeOf table) where
   abbrev v : StateSet

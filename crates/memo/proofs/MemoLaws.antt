@@ -16,7 +16,7 @@ use Rattle.closures.specs.Closure.{Closures}
 use Rattle.sets.specs.Copyable.{Copyable}
 use Rattle.sets.proofs.StoredLaws.{row-inside, stored-before}
 use Rattle.memo.specs.Key.{packed, stepKey}
-use Rattle.memo.specs.Memo.{setOver, Slot, empty, known, Remembered, AtNew, AtNext, MarkedNew, MarkedNext}
+use Rattle.memo.specs.Memo.{setOver, Slot, empty, known, Remembered, NewMarkable, NextMarkable, MarkedNew, MarkedNext}
 use Rattle.memo.proofs.KeyLaws.{packed-same, stepKey-symbol, key-nodes, key-some}
 use Rattle.memo.proofs.MarkingLaws.{length-setOver, size-few}
 
@@ -80,7 +80,7 @@ module _ (table marks : List ℕ) (i : ℕ) (v : StateSet) (e : length v ≡ siz
 -- ---- marking node i
 
 module _ {table index : List ℕ} {f : ℕ} {marks four : List ℕ} {rank i : ℕ} {keys nodes places owners rows pending : List ℕ}
-    (g : AtNext table index f marks four rank i keys nodes places owners rows pending) where
+    (g : NextMarkable table index f marks four rank i keys nodes places owners rows pending) where
   abbrev cs : List ℕ
   cs = drop (4 - rank) four
 
@@ -97,7 +97,7 @@ module _ {table index : List ℕ} {f : ℕ} {marks four : List ℕ} {rank i : �
   part-is = take-all (4 - (4 - rank)) cs (rw (length-drop (4 - rank) four) (omega (arith, g .keyable .nodes .length-is)))
 
   -- what working it out asks
-  pub next-new : AtNew table index f marks (take (4 - (4 - rank)) (drop (4 - rank) four)) i places owners rows pending
+  pub next-new : NewMarkable table index f marks (take (4 - (4 - rank)) (drop (4 - rank) four)) i places owners rows pending
   next-new = rw part-is (g .new)
 
   module _ (key : ℕ) (k : key ≡ stepKey f (drop (4 - rank) four)) (s : ℕ) (l : s < 1024) where

@@ -56,7 +56,7 @@ pub record Remembered (table marks : List ℕ) (i : ℕ) (keys nodes places owne
 -- ---- marking node i
 
 -- what working it out asks
-pub record AtNew (table index : List ℕ) (f : ℕ) (marks cs : List ℕ) (i : ℕ) (places owners rows pending : List ℕ) : Type 0 where
+pub record NewMarkable (table index : List ℕ) (f : ℕ) (marks cs : List ℕ) (i : ℕ) (places owners rows pending : List ℕ) : Type 0 where
   pub steppable : Steppable table index f marks cs owners rows pending
   pub few : i < 4096
   pub row : i * sizeOf table + sizeOf table ≤ length marks
@@ -69,9 +69,9 @@ pub record MarkedNew (table : List ℕ) (f : ℕ) (marks cs : List ℕ) (i : ℕ
   pub same : storedSet (sizeOf table) marks′ r ≡ setOver table f marks cs
 
 -- what marking it by the memo asks; its children are represented by the last `rank` of four nodes
-pub record AtNext (table index : List ℕ) (f : ℕ) (marks four : List ℕ) (rank i : ℕ)
+pub record NextMarkable (table index : List ℕ) (f : ℕ) (marks four : List ℕ) (rank i : ℕ)
     (keys nodes places owners rows pending : List ℕ) : Type 0 where
-  pub new : AtNew table index f marks (drop (4 - rank) four) i places owners rows pending
+  pub new : NewMarkable table index f marks (drop (4 - rank) four) i places owners rows pending
   pub keyable : Keyable f four rank
   pub below : AllBelow i (drop (4 - rank) four)
   pub remembered : Remembered table marks i keys nodes places owners rows pending

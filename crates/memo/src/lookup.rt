@@ -5,7 +5,7 @@ ghost use lib.ListN.{take, drop};
 ghost use lib.Seq.{paste};
 ghost use Rattle.closures.specs.Closure.{Closures};
 ghost use Rattle.sets.specs.Copyable.{Copyable};
-ghost use Rattle.memo.specs.Memo.{AtNew, MarkedNew, AtNext, MarkedNext};
+ghost use Rattle.memo.specs.Memo.{NewMarkable, MarkedNew, NextMarkable, MarkedNext};
 use super::key::slot_of;
 use super::key::step_key;
 use super::representative::representative;
@@ -28,7 +28,7 @@ fn mark_new(
     pending: &mut [u32],
 ) -> usize
     requires { ⌜
-        AtNew (now table) (now index) symbol (now marks) (now children) i (now places) (now owners) (now rows) (now pending)
+        NewMarkable (now table) (now index) symbol (now marks) (now children) i (now places) (now owners) (now rows) (now pending)
         ⌝ }
     ensures answer { λ r. ⌜ MarkedNew (now (table .entry)) symbol (now (marks .entry)) (now (children .entry)) i (now (marks .exit)) r ⌝ }
     ensures closures { λ _. ⌜ Closures (now (table .entry)) (now (owners .exit)) (now (rows .exit)) ⌝ }
@@ -73,8 +73,8 @@ pub fn mark_next(
     pending: &mut [u32],
 ) -> usize
     requires { ⌜
-        AtNext (now table) (now index) symbol (now marks) (now four) rank i (now keys) (now nodes) (now places) (now owners) (now rows)
-        (now pending)
+        NextMarkable (now table) (now index) symbol (now marks) (now four) rank i (now keys) (now nodes) (now places) (now owners)
+        (now rows) (now pending)
         ⌝ }
     ensures { λ r. ⌜
         MarkedNext (now (table .entry)) symbol (now (marks .entry)) (drop (4 - rank) (now (four .entry))) i (now (marks .exit)) r

@@ -20,11 +20,11 @@ use Rattle.closures.proofs.FollowLaws.{states-most}
 use Rattle.step.proofs.SymbolLaws.{prepared-checked}
 use Rattle.slices.proofs.RefitLaws.{take-drop}
 use Rattle.sets.proofs.StoredLaws.{row-inside, stored-written}
-use Rattle.memo.specs.Memo.{setOver, AtNext, MarkedNext}
+use Rattle.memo.specs.Memo.{setOver, NextMarkable, MarkedNext}
 use Rattle.memo.proofs.MarkingLaws.{length-setOver}
 use Rattle.memo.proofs.MemoLaws.{stored-kept}
 use Rattle.nodes.specs.Nodes.{rootsOf, setFrom, markedAt, BoundedTree}
-use Rattle.nodes.specs.Marking.{Represented, AtNode, Maintained}
+use Rattle.nodes.specs.Marking.{Represented, NodeMarkable, Maintained}
 use Rattle.nodes.proofs.RootLaws.{drop-reverse, below-getD, roots-few}
 use Rattle.nodes.proofs.WorkableLaws.{node-arity}
 use Rattle.nodes.proofs.RootStackLaws.{nodes-fit, stack-fits, stack-height, represented-more}
@@ -34,7 +34,7 @@ below-up m n h [] b = tt
 below-up m n h (x ∷ l) b = (let y = b .0 in omega arith, below-up m n h l (b .1))
 
 module _ {a table index ch : List ℕ} {i : ℕ} {marks array : List ℕ} {height : ℕ} {keys known places owners rows pending : List ℕ}
-    (g : AtNode a table index ch i marks array height keys known places owners rows pending) (r : ℕ)
+    (g : NodeMarkable a table index ch i marks array height keys known places owners rows pending) (r : ℕ)
     (e : r ≡ rankOf a (symbolOf (getD ch i 0))) where
   abbrev w : ℕ
   w = getD ch i 0
@@ -150,7 +150,7 @@ module _ {a table index ch : List ℕ} {i : ℕ} {marks array : List ℕ} {heigh
         indexed = g .indexed;
       }
 
-  pub node-next : AtNext table index (symbolOf (getD ch i 0)) marks four r i keys known places owners rows pending
+  pub node-next : NextMarkable table index (symbolOf (getD ch i 0)) marks four r i keys known places owners rows pending
   node-next =
       let k = g .prepared .remembered in
       record {

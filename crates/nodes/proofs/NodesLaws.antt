@@ -7,7 +7,7 @@ use lib.ListN.{length, replicate}
 use Rattle.words.specs.Shape.{stackGivenBy}
 use Rattle.memo.proofs.MemoLaws.{nothing-remembered}
 use Rattle.nodes.specs.Nodes.{rootsOf, Held, markedAt, markedFrom}
-use Rattle.nodes.specs.Marking.{Maintained, AtNode, AtNodes}
+use Rattle.nodes.specs.Marking.{Maintained, NodeMarkable, NodesMarkable}
 use Rattle.nodes.proofs.WorkableLaws.{workable-long}
 use Rattle.nodes.proofs.RootStackLaws.{represent-roots}
 
@@ -21,7 +21,7 @@ pub record Marking (a table ch : List ℕ) (from to : ℕ) (marks₀ marks array
 
 module _ {a table index ch : List ℕ} {from to : ℕ} {marks₀ array₀ : List ℕ} {height₀ : ℕ}
     {keys₀ known₀ places₀ owners₀ rows₀ pending₀ : List ℕ}
-    (pre : AtNodes a table index ch from to marks₀ array₀ height₀ keys₀ known₀ places₀ owners₀ rows₀ pending₀) where
+    (pre : NodesMarkable a table index ch from to marks₀ array₀ height₀ keys₀ known₀ places₀ owners₀ rows₀ pending₀) where
   pub marking-none : Marking a table ch from to marks₀ marks₀ array₀ height₀ keys₀ known₀ places₀ owners₀ rows₀ pending₀ from
   unfolding markedFrom
   marking-none =
@@ -30,7 +30,7 @@ module _ {a table index ch : List ℕ} {from to : ℕ} {marks₀ array₀ : List
 
   module _ {marks array : List ℕ} {height : ℕ} {keys known places owners rows pending : List ℕ} {i : ℕ}
       (g : Marking a table ch from to marks₀ marks array height keys known places owners rows pending i) where
-    pub marking-at : i < to → AtNode a table index ch i marks array height keys known places owners rows pending
+    pub marking-at : i < to → NodeMarkable a table index ch i marks array height keys known places owners rows pending
     marking-at l =
         record {
           workable = workable-long (g .long) (pre .workable);

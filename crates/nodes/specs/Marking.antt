@@ -25,7 +25,7 @@ pub record Maintained (a table ch : List ℕ) (i : ℕ) (marks array : List ℕ)
   pub remembered : Remembered table marks i keys known places owners rows pending
 
 -- what marking node i asks; the index is the table's
-pub record AtNode (a table index ch : List ℕ) (i : ℕ) (marks array : List ℕ) (height : ℕ)
+pub record NodeMarkable (a table index ch : List ℕ) (i : ℕ) (marks array : List ℕ) (height : ℕ)
     (keys known places owners rows pending : List ℕ) : Type 0 where
   pub workable : Workable a table ch (length marks)
   pub indexed : index ≡ indexOf table
@@ -33,7 +33,7 @@ pub record AtNode (a table index ch : List ℕ) (i : ℕ) (marks array : List �
   pub prepared : Maintained a table ch i marks array height keys known places owners rows pending
 
 -- what marking the nodes from `from` up to `to` asks
-pub record AtNodes (a table index ch : List ℕ) (from to : ℕ) (marks array : List ℕ) (height : ℕ)
+pub record NodesMarkable (a table index ch : List ℕ) (from to : ℕ) (marks array : List ℕ) (height : ℕ)
     (keys known places owners rows pending : List ℕ) : Type 0 where
   pub workable : Workable a table ch (length marks)
   pub indexed : index ≡ indexOf table

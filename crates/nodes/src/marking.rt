@@ -3,7 +3,7 @@
 ghost use mathlib.Core.Path.{_≡_};
 ghost use Prim.Native.Nat.{_+_, _-_};
 ghost use Rattle.nodes.specs.Nodes.{markedAt, markedFrom};
-ghost use Rattle.nodes.specs.Marking.{Maintained, AtNode, AtNodes};
+ghost use Rattle.nodes.specs.Marking.{Maintained, NodeMarkable, NodesMarkable};
 use super::stack::STACK_BASE;
 use memo::lookup::mark_next;
 use words::alphabet::rank;
@@ -27,7 +27,7 @@ pub fn mark_node(
     pending: &mut [u32],
 ) -> usize
     requires { ⌜
-        AtNode (now alphabet) (now table) (now index) (now nodes) i (now marks) (now stack) height (now keys) (now known) (now places)
+        NodeMarkable (now alphabet) (now table) (now index) (now nodes) i (now marks) (now stack) height (now keys) (now known) (now places)
         (now owners) (now rows) (now pending)
         ⌝ }
     ensures marks { λ _. ⌜
@@ -79,7 +79,7 @@ pub fn mark_nodes(
     pending: &mut [u32],
 ) -> usize
     requires { ⌜
-        AtNodes (now alphabet) (now table) (now index) (now nodes) from to (now marks) (now stack) height (now keys) (now known)
+        NodesMarkable (now alphabet) (now table) (now index) (now nodes) from to (now marks) (now stack) height (now keys) (now known)
         (now places) (now owners) (now rows) (now pending)
         ⌝ }
     ensures marks { λ _. ⌜

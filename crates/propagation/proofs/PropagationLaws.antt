@@ -18,7 +18,7 @@ use Rattle.slices.proofs.CopyLaws.{paste-same}
 use Rattle.sets.proofs.StoredLaws.{row-inside, words-few, stored-written}
 use Rattle.memo.proofs.MemoLaws.{remembered-later}
 use Rattle.nodes.specs.Nodes.{setFrom, markedAt, Pushable}
-use Rattle.nodes.specs.Marking.{AtNode, Maintained}
+use Rattle.nodes.specs.Marking.{NodeMarkable, Maintained}
 use Rattle.nodes.proofs.WorkableLaws.{workable-size, node-arity}
 use Rattle.nodes.proofs.RootStackLaws.{stack-pushable, represented-more}
 use Rattle.nodes.proofs.MarkLaws.{length-setFrom}
@@ -48,7 +48,8 @@ module _ (a table ch : List ℕ) (i : ℕ) (marks : List ℕ) where
 
 -- the node's words lie inside the marks, and their places are small numbers
 module _ {a table index ch : List ℕ} {i : ℕ} {marks array : List ℕ} {height : ℕ} {keys known places owners rows pending : List ℕ}
-    (g : AtNode a table index ch i marks array height keys known places owners rows pending) (size : ℕ) (s : size ≡ sizeOf table) where
+    (g : NodeMarkable a table index ch i marks array height keys known places owners rows pending) (size : ℕ)
+    (s : size ≡ sizeOf table) where
   pub row-fits : i * size + size ≤ length marks
   row-fits = rw s (row-inside i (length ch) (sizeOf table) (length marks) (g .inside) (g .workable .marks-fit))
 
@@ -108,7 +109,7 @@ module _ {a table index ch : List ℕ} {i : ℕ} {marks array : List ℕ} {heigh
 -- ---- one node is passed
 
 module _ {a table index ch : List ℕ} {i : ℕ} {marks array : List ℕ} {height : ℕ} {keys known places owners rows pending : List ℕ}
-    (g : AtNode a table index ch i marks array height keys known places owners rows pending) where
+    (g : NodeMarkable a table index ch i marks array height keys known places owners rows pending) where
   pub node-rank : (k : ℕ) → k ≡ rankOf a (symbolOf (getD ch i 0)) → k ≡ arity a (getD ch i 0)
   node-rank k e = e ∙ sym (node-arity (g .workable .tree) i (g .inside))
 

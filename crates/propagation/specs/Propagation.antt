@@ -8,7 +8,7 @@ use lib.Dec.{ltb}
 use Rattle.words.specs.Postfix.{arity}
 use Rattle.operations.specs.Marks.{sizeOf, storedSet, sameWords}
 use Rattle.nodes.specs.Nodes.{setFrom, markedAt}
-use Rattle.nodes.specs.Marking.{AtNode, AtNodes}
+use Rattle.nodes.specs.Marking.{NodeMarkable, NodesMarkable}
 use Rattle.propagation.specs.declared.Progress.{Progress}
 
 -- Node i is recomputed: its words are written, and whether they differ from those that stood there.
@@ -42,12 +42,12 @@ initial count = record { reach = 0; recomputed = count; active = true }
 -- what going past node i asks: the counts stay small
 pub record Propagable (a table index ch : List ℕ) (i : ℕ) (marks array : List ℕ) (height : ℕ) (t : Progress)
     (keys known places owners rows pending : List ℕ) : Type 0 where
-  pub at : AtNode a table index ch i marks array height keys known places owners rows pending
+  pub at : NodeMarkable a table index ch i marks array height keys known places owners rows pending
   pub few-reached : t .reach ≤ 4096
   pub few-recomputed : t .recomputed ≤ 8192
 
 -- what the whole loop asks, with `count` nodes recomputed before
-pub record PropagationStart (a table index ch : List ℕ) (root : ℕ) (marks array : List ℕ) (height count : ℕ)
+pub record Startable (a table index ch : List ℕ) (root : ℕ) (marks array : List ℕ) (height count : ℕ)
     (keys known places owners rows pending : List ℕ) : Type 0 where
-  pub nodes : AtNodes a table index ch root (length ch) marks array height keys known places owners rows pending
+  pub nodes : NodesMarkable a table index ch root (length ch) marks array height keys known places owners rows pending
   pub few : count ≤ 4096

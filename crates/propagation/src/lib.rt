@@ -2,8 +2,8 @@
 ghost use mathlib.Core.Path.{_≡_};
 ghost use Prim.Native.Nat.{_+_, _-_};
 ghost use lib.ListN.{length};
-ghost use Rattle.nodes.specs.Marking.{Maintained, AtNode};
-ghost use Rattle.propagation.specs.Propagation.{recomputeAt, propagateStep, propagateFrom, initial, Propagable, PropagationStart};
+ghost use Rattle.nodes.specs.Marking.{Maintained, NodeMarkable};
+ghost use Rattle.propagation.specs.Propagation.{recomputeAt, propagateStep, propagateFrom, initial, Propagable, Startable};
 use nodes::marking::mark_node;
 use nodes::stack::push_node;
 use sets::whole::same_words;
@@ -51,7 +51,7 @@ fn recompute(
     pending: &mut [u32],
 ) -> Recomputed
     requires { ⌜
-        AtNode (now alphabet) (now table) (now index) (now nodes) i (now marks) (now stack) height (now keys) (now known) (now places)
+        NodeMarkable (now alphabet) (now table) (now index) (now nodes) i (now marks) (now stack) height (now keys) (now known) (now places)
         (now owners) (now rows) (now pending)
         ⌝ }
     ensures marks { λ r. ⌜
@@ -184,7 +184,7 @@ pub fn propagate(
     pending: &mut [u32],
 ) -> usize
     requires { ⌜
-        PropagationStart (now alphabet) (now table) (now index) (now nodes) root (now marks) (now stack) height count (now keys) (now known)
+        Startable (now alphabet) (now table) (now index) (now nodes) root (now marks) (now stack) height count (now keys) (now known)
         (now places) (now owners) (now rows) (now pending)
         ⌝ }
     ensures { λ r. ⌜

@@ -14,7 +14,7 @@ use Rattle.operations.proofs.AcceptedLaws.{accepted-values, list-accepted}
 use Rattle.operations.proofs.CompileLaws.{CompileAccepted, compile-accepted}
 use Rattle.compiler.specs.declared.Compiled.{Compiled}
 use Rattle.compiler.specs.declared.Compiled.the-variants.{Table, Refused as Compiled·Refused}
-use Rattle.compiler.specs.Answers.{answerIn}
+use Rattle.compiler.specs.Answers.{answerInCompiled}
 use Rattle.matcher.specs.declared.Ran.{Ran}
 use Rattle.matcher.specs.declared.Ran.the-variants.{Marked, Refused as Ran·Refused}
 use Rattle.matcher.specs.declared.Listed.{Listed}
@@ -23,7 +23,7 @@ use Rattle.matcher.specs.Answers.{answerInRan, answerInListed}
 use Rattle.operations.proofs.MatchLaws.{matchesOf-few}
 use Rattle.lines.specs.Line.{refusedLine, headLine, hitLines}
 use Rattle.report.specs.Output.{marklistOutput, outputOf}
-use Rattle.report.specs.Stages.{Compiles, Marks}
+use Rattle.report.specs.Stages.{ChapterReportable, HitsReportable}
 use Rattle.encoding.specs.ByteWriting.{BytesWritten}
 use Rattle.encoding.proofs.ByteWritingLaws.{bytes-written-same, bytes-written-whole}
 use Rattle.report.proofs.KeptLaws.{complete-output, early-output}
@@ -62,14 +62,15 @@ module _ (complete : Bool) (a e ch : List ℕ) {out out′ : List ℕ} {r : ℕ}
 -- ---- Compile
 
 module _ (a e ch : List ℕ) where
-  pub refused-compiled : {n x : ℕ} {out out′ : List ℕ} (r : Compiled) → r ≡ Compiled·Refused n → answerIn r ≡ compileAnswer a e (zeros 2048)
+  pub refused-compiled : {n x : ℕ} {out out′ : List ℕ} (r : Compiled) → r ≡ Compiled·Refused n
+      → answerInCompiled r ≡ compileAnswer a e (zeros 2048)
       → BytesWritten 0 (refusedLine n) out out′ x → BytesWritten 0 (marklistOutput a e ch) out out′ x
   refused-compiled {n} r q h w =
       let g : refused n ≡ compileAnswer a e (zeros 2048) = rw q at h in
       bytes-written-same w (sym (compile-refused a e ch (zeros 2048) n (many 2048) g))
 
-module _ (a e slice : List ℕ) {table : List ℕ} {k : ℕ} (r : Compiled) (told : r ≡ Table k) (h : answerIn r ≡ compileAnswer a e slice)
-    (exit : table ≡ compileExit a e slice) where
+module _ (a e slice : List ℕ) {table : List ℕ} {k : ℕ} (r : Compiled) (told : r ≡ Table k)
+    (h : answerInCompiled r ≡ compileAnswer a e slice) (exit : table ≡ compileExit a e slice) where
   answer : accepted (k ∷ []) ≡ compileAnswer a e slice
   answer = rw told at h
 
@@ -85,8 +86,8 @@ module _ (a e slice : List ℕ) {table : List ℕ} {k : ℕ} (r : Compiled) (tol
   pub table-fits : k ≤ length table
   table-fits = let l = length-take k table in omega (arith, table-counted)
 
-  pub compiles : length slice ≡ 2048 → Compiles a e (take k table)
-  compiles long = record {
+  pub chapter-reportable : length slice ≡ 2048 → ChapterReportable a e (take k table)
+  chapter-reportable long = record {
     slice = slice;
     long = long;
     answer = ap (λ (n : ℕ). accepted (n ∷ [])) (sym table-counted) ∙ answer;
@@ -95,7 +96,7 @@ module _ (a e slice : List ℕ) {table : List ℕ} {k : ℕ} (r : Compiled) (tol
 
 -- ---- Run
 
-module _ {a e table : List ℕ} (t : Compiles a e table) (ch : List ℕ) where
+module _ {a e table : List ℕ} (t : ChapterReportable a e table) (ch : List ℕ) where
   pub refused-over : {x : ℕ} {out out′ : List ℕ} → 256 < length ch → BytesWritten 0 (refusedLine 9) out out′ x
       → BytesWritten 0 (marklistOutput a e ch) out out′ x
   refused-over h w = bytes-written-same w (sym (chapter-over a e ch (t .slice) (length table) (t .long) (t .answer) h))
@@ -111,9 +112,9 @@ module _ {a e table : List ℕ} (t : Compiles a e table) (ch : List ℕ) where
         (g ∙ ap (λ (l : List ℕ). runAnswer a l ch (zeros 8192)) (t .same))))
 
     pub marked : {n cells : ℕ} {marks : List ℕ} (r : Ran) → r ≡ Marked n cells → answerInRan r ≡ runAnswer a table ch (zeros 8192)
-        → marks ≡ runExit a table ch (zeros 8192) → Marks a e table ch marks
+        → marks ≡ runExit a table ch (zeros 8192) → HitsReportable a e table ch marks
     marked {n} {cells} r q h exit = record {
-      compiles = t;
+      chapter = t;
       few = few;
       slice = zeros 8192;
       long = many 8192;
@@ -139,10 +140,10 @@ hits-most a table n marks {k} q e h =
     let count : length (matchesOf table n marks) ≡ k = head-eq-of-cons-eq (v .1) in
     omega arith
 
-module _ {a e table ch marks : List ℕ} (m : Marks a e table ch marks) where
+module _ {a e table ch marks : List ℕ} (m : HitsReportable a e table ch marks) where
   -- the table is the compiled one
-  abbrev t : Compiles a e table
-  t = m .compiles
+  abbrev t : ChapterReportable a e table
+  t = m .chapter
 
   abbrev left : List ℕ
   left = runExit a (compiledTable a e) ch (m .slice)

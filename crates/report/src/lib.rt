@@ -4,7 +4,7 @@ ghost use mathlib.Core.List.{List, _++_};
 ghost use Prim.Native.Nat.{ℕ, _≤_};
 ghost use lib.ListN.{length, drop};
 ghost use Rattle.report.specs.Output.{marklistOutput, outputOf};
-ghost use Rattle.report.specs.Stages.{Compiles, Marks};
+ghost use Rattle.report.specs.Stages.{ChapterReportable, HitsReportable};
 ghost use Rattle.encoding.specs.ByteWriting.{BytesWritten};
 use compiler::Compiled;
 use compiler::compile;
@@ -36,7 +36,7 @@ fn report_hits(
     out: &mut [u8],
 ) -> usize
     ensures { λ r. ⌜
-        ((rule : List ℕ) → Marks (now (alphabet .entry)) rule (now (table .entry)) (now (chapter .entry)) (now (marks .entry))
+        ((rule : List ℕ) → HitsReportable (now (alphabet .entry)) rule (now (table .entry)) (now (chapter .entry)) (now (marks .entry))
         → BytesWritten 0 (marklistOutput (now (alphabet .entry)) rule (now (chapter .entry))) (now (out .entry)) (now (out .exit)) r)
         ⌝ }
 {
@@ -56,7 +56,7 @@ fn report_hits(
 // Marks the chapter by the table of a rule, and writes the output.
 fn report_chapter(alphabet: &[u32], table: &[u32], chapter: &[u32], out: &mut [u8]) -> usize
     ensures { λ r. ⌜
-        ((rule : List ℕ) → Compiles (now (alphabet .entry)) rule (now (table .entry))
+        ((rule : List ℕ) → ChapterReportable (now (alphabet .entry)) rule (now (table .entry))
         → BytesWritten 0 (marklistOutput (now (alphabet .entry)) rule (now (chapter .entry))) (now (out .entry)) (now (out .exit)) r)
         ⌝ }
 {

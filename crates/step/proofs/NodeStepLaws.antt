@@ -17,16 +17,16 @@ use Rattle.automaton.proofs.SetLength.{length-stateSet}
 use Rattle.automaton.proofs.TableLaws.{isTable-automaton, isTable-sizes}
 use Rattle.operations.specs.Marks.{sizeOf}
 use Rattle.step.specs.Ready.{Ready, childSets}
-use Rattle.step.specs.Node.{Growing, Steppable, Seeding, SymbolFollowed}
+use Rattle.step.specs.Node.{Growing, Steppable, SymbolFollowable, SymbolFollowed}
 use Rattle.closures.proofs.TransitionStartLaws.{member-starts, table-transitions}
 use Rattle.closures.proofs.KeyedWordLaws.{starts-symbol, starts-target}
 
 -- ---- before the first transition
 
-pub node-seeding : {table index : List ℕ} {f size : ℕ} {marks children owners rows pending : List ℕ}
+pub node-followable : {table index : List ℕ} {f size : ℕ} {marks children owners rows pending : List ℕ}
     → Steppable table index f marks children owners rows pending
-    → size ≡ sizeOf table → Seeding table index f size marks children owners rows pending (replicate 32 0)
-node-seeding {table} g e =
+    → size ≡ sizeOf table → SymbolFollowable table index f size marks children owners rows pending (replicate 32 0)
+node-followable {table} g e =
     record {
       steppable = g;
       size-is = e;

@@ -13,7 +13,7 @@ use Rattle.automaton.specs.Transition.{sourcesAt}
 use Rattle.automaton.specs.StateSet.{contains, allContained}
 use Rattle.operations.specs.Marks.{storedSet}
 use Rattle.step.specs.Ready.{childSets}
-use Rattle.step.specs.Node.{Sources}
+use Rattle.step.specs.Node.{SourcesReadable}
 
 -- ---- the first of some part states
 
@@ -46,7 +46,7 @@ pub record SourcesHeld (table : List ℕ) (at size : ℕ) (marks children : List
   pub rest : allContained (sourcesAt (drop at table)) (childSets size marks children)
       ≡ allContained (sourcesAt (drop (at + k) table)) (childSets size marks (drop k children))
 
-pub sources-held-none : {table : List ℕ} {at size : ℕ} {marks children : List ℕ} → Sources table at size marks children
+pub sources-held-none : {table : List ℕ} {at size : ℕ} {marks children : List ℕ} → SourcesReadable table at size marks children
     → SourcesHeld table at size marks children 0
 sources-held-none {table} {at} {size} {marks} {children} s =
     let e : at + 0 ≡ at = omega arith in

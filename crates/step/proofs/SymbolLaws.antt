@@ -18,7 +18,8 @@ use Rattle.index.specs.Index.{keyOf}
 use Rattle.index.specs.Index.{IndexedTable}
 use Rattle.step.specs.Ready.{Prepared, RowsInside, childSets}
 use Rattle.closures.specs.Closure.{ReachedFrom, itself, onward, Closures, Joinable, JoinedClosure}
-use Rattle.step.specs.Node.{Sources, Growing, Satisfied, Steppable, Seeding, SeedingAt, Joined, SymbolFollowed}
+use Rattle.step.specs.Node.{SourcesReadable, Growing, Satisfied, Steppable}
+use Rattle.step.specs.Node.{SymbolFollowable, SymbolFollowed, TransitionFollowable, TransitionFollowed}
 use Rattle.index.proofs.ChainLaws.{FirstWith, SymbolWord, nextWith, next-some, next-none, keyed-symbol}
 use Rattle.closures.proofs.KeyedWordLaws.{symbol-below, symbol-reached, symbol-sources}
 use Rattle.closures.proofs.FollowLaws.{InChain, left, states-most, keyed, chain-first, in-chain, chain-next, left-less}
@@ -36,7 +37,7 @@ reached-on (onward m d) h = byEpsilon m (reached-on d h)
 -- ---- one transition
 
 module _ {table index : List ℕ} {size : ℕ} {marks children owners rows pending : List ℕ} {r : StateSet} {i : ℕ}
-    (g : SeedingAt table index size marks children owners rows pending r i) where
+    (g : TransitionFollowable table index size marks children owners rows pending r i) where
   f : ℕ
   f = keyOf (getD table i 0)
 
@@ -44,10 +45,10 @@ module _ {table index : List ℕ} {size : ℕ} {marks children owners rows pendi
   rs = childSets size marks children
 
   checked : IndexedTable table index
-  checked = prepared-checked (g .seeding .steppable .prepared)
+  checked = prepared-checked (g .followable .steppable .prepared)
 
   symbol : SymbolWord (getD table i 0) (keyOf (getD table i 0))
-  symbol = keyed-symbol (getD table i 0) refl (g .seeding .steppable .prepared .ready .symbol-below)
+  symbol = keyed-symbol (getD table i 0) refl (g .followable .steppable .prepared .ready .symbol-below)
 
   target-below : stateBelow (getD table i 0) < automatonOf table .states
   target-below = symbol-below checked i (g .inside) symbol
@@ -56,24 +57,24 @@ module _ {table index : List ℕ} {size : ℕ} {marks children owners rows pendi
   transition-few = omega (arith, keyed checked .few, g .inside)
 
   -- a transition on the node's symbol has as many part states as the node has children
-  pub transition-sources : Sources table (i + 1) size marks children
+  pub transition-sources : SourcesReadable table (i + 1) size marks children
   unfolding checked prepared-checked
   transition-sources =
       record {
-        count = sym (symbol-sources checked i (g .inside) symbol) ∙ g .seeding .steppable .prepared .ready .rank;
-        rows = subst (λ k. RowsInside k marks children) (sym (g .seeding .size-is)) (g .seeding .steppable .prepared .ready .rows);
+        count = sym (symbol-sources checked i (g .inside) symbol) ∙ g .followable .steppable .prepared .ready .rank;
+        rows = subst (λ k. RowsInside k marks children) (sym (g .followable .size-is)) (g .followable .steppable .prepared .ready .rows);
       }
 
   pub transition-joinable : Joinable table index (stateBelow (getD table i 0)) owners rows pending r
   unfolding checked prepared-checked
   transition-joinable =
-      let k = g .seeding .growing in
+      let k = g .followable .growing in
       let short = checked .short in
       let over = targets-below (isTable-automaton (checked .alphabet) (omega arith) table (checked .checked)) in
       record {
         keepable = record {
-          closable = record { checked = checked; state = target-below; fits = g .seeding .steppable .fits };
-          closures = g .seeding .steppable .closures;
+          closable = record { checked = checked; state = target-below; fits = g .followable .steppable .fits };
+          closures = g .followable .steppable .closures;
         };
         set = record {
           size = k .size;
@@ -85,13 +86,14 @@ module _ {table index : List ℕ} {size : ℕ} {marks children owners rows pendi
 
   -- the set stays: it has the target, or the part states are not in the children's sets
   pub transition-still : Satisfied table (childSets size marks children) r i
-      → Joined table (keyOf (getD table i 0)) (childSets size marks children) i r r owners rows
-  transition-still h = record { closures = g .seeding .steppable .closures; growing = g .seeding .growing; grown = λ q e. e; satisfied = h }
+      → TransitionFollowed table (keyOf (getD table i 0)) (childSets size marks children) i r r owners rows
+  transition-still h =
+      record { closures = g .followable .steppable .closures; growing = g .followable .growing; grown = λ q e. e; satisfied = h }
 
   pub transition-more : allContained (sourcesAt (drop (i + 1) table)) (childSets size marks children) ≡ true
       → {t : StateSet} {owners′ rows′ : List ℕ}
       → JoinedClosure table (stateBelow (getD table i 0)) r t owners′ rows′
-      → Joined table (keyOf (getD table i 0)) (childSets size marks children) i r t owners′ rows′
+      → TransitionFollowed table (keyOf (getD table i 0)) (childSets size marks children) i r t owners′ rows′
   transition-more h {t} j =
       let a = j .added in
       let target = symbol-reached checked i (g .inside) symbol (childSets size marks children) h in
@@ -100,7 +102,7 @@ module _ {table index : List ℕ} {size : ℕ} {marks children owners rows pendi
         growing = record {
           size = a .size;
           words = a .words;
-          reached = λ q e. ⊎-elim (g .seeding .growing .reached q) (λ d. reached-on d target) (a .within q e);
+          reached = λ q e. ⊎-elim (g .followable .growing .reached q) (λ d. reached-on d target) (a .within q e);
           closed = a .closed;
         };
         grown = a .grown;
@@ -112,32 +114,38 @@ module _ {table index : List ℕ} {size : ℕ} {marks children owners rows pendi
 -- at word i of the chain, or at its end, where i is 0: the words before are followed
 pub record SymbolAt (table index : List ℕ) (f size : ℕ) (marks children owners rows pending : List ℕ) (r : StateSet)
     (pendingLength i : ℕ) : Type 0 where
-  pub seeding : Seeding table index f size marks children owners rows pending r
+  pub followable : SymbolFollowable table index f size marks children owners rows pending r
   pub from : ℕ
   pub at : i ≡ nextWith table f from
   pub pending-long : length pending ≡ pendingLength
   pub followed : (j : ℕ) → j < from → j < length table → keyOf (getD table j 0) ≡ f → Satisfied table (childSets size marks children) r j
 
 module _ {table index : List ℕ} {f size : ℕ} {marks children owners rows pending : List ℕ} {r : StateSet} where
-  pub symbol-first : Seeding table index f size marks children owners rows pending r
+  pub symbol-first : SymbolFollowable table index f size marks children owners rows pending r
       → SymbolAt table index f size marks children owners rows pending r (length pending) (getD index f 0)
   symbol-first g =
       let c = prepared-checked (g .steppable .prepared) in
       let small = g .steppable .prepared .ready .symbol-below in
-      record { seeding = g; from = 0; at = chain-first c f (omega arith); pending-long = refl; followed = λ j h l e. absurd (omega arith) }
+      record {
+        followable = g;
+        from = 0;
+        at = chain-first c f (omega arith);
+        pending-long = refl;
+        followed = λ j h l e. absurd (omega arith);
+      }
 
   module _ {pendingLength i : ℕ} (s : SymbolAt table index f size marks children owners rows pending r pendingLength i) where
     chain : IndexedTable table index
-    chain = prepared-checked (s .seeding .steppable .prepared)
+    chain = prepared-checked (s .followable .steppable .prepared)
 
     key-below : f < 1280
-    key-below = let small = s .seeding .steppable .prepared .ready .symbol-below in omega arith
+    key-below = let small = s .followable .steppable .prepared .ready .symbol-below in omega arith
 
     pub symbol-end : i ≤ 0 → SymbolFollowed table f (childSets size marks children) r owners rows
     symbol-end h =
         record {
-          closures = s .seeding .steppable .closures;
-          growing = s .seeding .growing;
+          closures = s .followable .steppable .closures;
+          growing = s .followable .growing;
           satisfied = λ j l e. go j l e (decLt j (s .from));
         }
       where
@@ -153,10 +161,12 @@ module _ {table index : List ℕ} {f size : ℕ} {marks children owners rows pen
       pub symbol-in : InChain table index i
       symbol-in = in-chain chain symbol-next
 
-      pub symbol-at : SeedingAt table index size marks children owners rows pending r i
+      pub symbol-at : TransitionFollowable table index size marks children owners rows pending r i
       symbol-at =
           record {
-            seeding = subst (λ k. Seeding table index k size marks children owners rows pending r) (sym (symbol-next .keyed)) (s .seeding);
+            followable =
+                subst (λ k. SymbolFollowable table index k size marks children owners rows pending r) (sym (symbol-next .keyed))
+                (s .followable);
             inside = symbol-next .inside;
           }
 
@@ -164,17 +174,17 @@ module _ {table index : List ℕ} {f size : ℕ} {marks children owners rows pen
       symbol-less = left-less chain symbol-next key-below h
 
       pub symbol-more : {t : StateSet} {owners′ rows′ pending′ : List ℕ} → length pending′ ≡ length pending
-          → Joined table (keyOf (getD table i 0)) (childSets size marks children) i r t owners′ rows′
+          → TransitionFollowed table (keyOf (getD table i 0)) (childSets size marks children) i r t owners′ rows′
           → SymbolAt table index f size marks children owners′ rows′ pending′ t pendingLength (getD index (1280 + i) 0)
       symbol-more {t} {owners′} {rows′} {pending′} e j =
           record {
-            seeding = record {
+            followable = record {
               steppable = record {
-                prepared = s .seeding .steppable .prepared;
+                prepared = s .followable .steppable .prepared;
                 closures = j .closures;
-                fits = rw e (s .seeding .steppable .fits);
+                fits = rw e (s .followable .steppable .fits);
               };
-              size-is = s .seeding .size-is;
+              size-is = s .followable .size-is;
               growing = subst (λ k. Growing table k (childSets size marks children) t) (symbol-next .keyed) (j .growing);
             };
             from = i + 1;

@@ -15,7 +15,7 @@ use Rattle.step.specs.Ready.{RowsInside, Prepared, childSets}
 use Rattle.closures.specs.Closure.{Closed, Closures}
 
 -- the part states at an index are as many as the children
-pub record Sources (table : List ℕ) (at size : ℕ) (marks children : List ℕ) : Type 0 where
+pub record SourcesReadable (table : List ℕ) (at size : ℕ) (marks children : List ℕ) : Type 0 where
   pub count : length (sourcesAt (drop at table)) ≡ length children
   pub rows : RowsInside size marks children
 
@@ -38,18 +38,19 @@ pub record Steppable (table index : List ℕ) (f : ℕ) (marks children owners r
   pub fits : automatonOf table .states ≤ length pending
 
 -- the same, and the set so far
-pub record Seeding (table index : List ℕ) (f size : ℕ) (marks children owners rows pending : List ℕ) (r : StateSet) : Type 0 where
+pub record SymbolFollowable (table index : List ℕ) (f size : ℕ) (marks children owners rows pending : List ℕ) (r : StateSet) : Type 0 where
   pub steppable : Steppable table index f marks children owners rows pending
   pub size-is : size ≡ sizeOf table
   pub growing : Growing table f (childSets size marks children) r
 
 -- the same at word i, where a transition on the symbol begins
-pub record SeedingAt (table index : List ℕ) (size : ℕ) (marks children owners rows pending : List ℕ) (r : StateSet) (i : ℕ) : Type 0 where
-  pub seeding : Seeding table index (keyOf (getD table i 0)) size marks children owners rows pending r
+pub record TransitionFollowable (table index : List ℕ) (size : ℕ) (marks children owners rows pending : List ℕ) (r : StateSet)
+    (i : ℕ) : Type 0 where
+  pub followable : SymbolFollowable table index (keyOf (getD table i 0)) size marks children owners rows pending r
   pub inside : i < length table
 
 -- the transition at word i was followed: the set r has become t
-pub record Joined (table : List ℕ) (f : ℕ) (rs : List StateSet) (i : ℕ) (r t : StateSet) (owners rows : List ℕ) : Type 0 where
+pub record TransitionFollowed (table : List ℕ) (f : ℕ) (rs : List StateSet) (i : ℕ) (r t : StateSet) (owners rows : List ℕ) : Type 0 where
   pub closures : Closures table owners rows
   pub growing : Growing table f rs t
   pub grown : (q : ℕ) → contains r q ≡ true → contains t q ≡ true

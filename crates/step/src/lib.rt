@@ -9,7 +9,8 @@ ghost use Rattle.operations.specs.Marks.{sizeOf};
 ghost use Rattle.index.specs.Index.{keyOf};
 ghost use Rattle.step.specs.Ready.{childSets};
 ghost use Rattle.closures.specs.Closure.{Closures};
-ghost use Rattle.step.specs.Node.{Sources, Steppable, Seeding, SeedingAt, Joined, SymbolFollowed};
+ghost use Rattle.step.specs.Node.{SourcesReadable, Steppable, SymbolFollowable, SymbolFollowed};
+ghost use Rattle.step.specs.Node.{TransitionFollowable, TransitionFollowed};
 use closures::join_closure;
 use index::KEYS;
 use sets::state::contains;
@@ -18,7 +19,7 @@ use words::word::STATE_RANGE;
 
 // Whether the part states from word `at` on are all in the children's sets.
 fn sources_contained(table: &[u32], at: usize, size: usize, marks: &[u32], children: &[u32]) -> bool
-    requires { ⌜ Sources (now table) at size (now marks) (now children) ⌝ }
+    requires { ⌜ SourcesReadable (now table) at size (now marks) (now children) ⌝ }
     ensures { λ r. ⌜
         r
         ≡ allContained (sourcesAt (drop at (now (table .entry)))) (childSets size (now (marks .entry)) (now (children .entry)))
@@ -51,11 +52,12 @@ fn follow_transition(
     set: &mut [u32],
 )
     requires { ⌜
-        SeedingAt (now table) (now index) size (now marks) (now children) (now owners) (now rows) (now pending) (now set) i
+        TransitionFollowable (now table) (now index) size (now marks) (now children) (now owners) (now rows) (now pending) (now set) i
         ⌝ }
     ensures { λ _. ⌜
-        Joined (now (table .entry)) (keyOf (getD (now (table .entry)) i 0)) (childSets size (now (marks .entry)) (now (children .entry))) i
-        (now (set .entry)) (now (set .exit)) (now (owners .exit)) (now (rows .exit))
+        TransitionFollowed (now (table .entry)) (keyOf (getD (now (table .entry)) i 0))
+        (childSets size (now (marks .entry)) (now (children .entry))) i (now (set .entry)) (now (set .exit))
+        (now (owners .exit)) (now (rows .exit))
         ⌝ }
 {
     let target = (table[i] % STATE_RANGE) as usize;
@@ -82,7 +84,7 @@ fn follow_symbol(
     set: &mut [u32],
 )
     requires { ⌜
-        Seeding (now table) (now index) symbol size (now marks) (now children) (now owners) (now rows) (now pending) (now set)
+        SymbolFollowable (now table) (now index) symbol size (now marks) (now children) (now owners) (now rows) (now pending) (now set)
         ⌝ }
     ensures { λ _. ⌜
         SymbolFollowed (now (table .entry)) symbol (childSets size (now (marks .entry)) (now (children .entry))) (now (set .exit))

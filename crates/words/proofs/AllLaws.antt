@@ -7,26 +7,26 @@ All P [] = Unit {0}
 All P (x ∷ xs) = P x × All P xs
 
 module _ {A : Type 0} (P : A → Type 0) where
-  pub all-append : (xs ys : List A) → All P xs → All P ys → All P (xs ++ ys)
-  all-append [] ys p q = q
-  all-append (x ∷ xs) ys p q = (p .0, all-append xs ys (p .1) q)
+  pub each-append : (xs ys : List A) → All P xs → All P ys → All P (xs ++ ys)
+  each-append [] ys p q = q
+  each-append (x ∷ xs) ys p q = (p .0, each-append xs ys (p .1) q)
 
-  pub all-left : (xs ys : List A) → All P (xs ++ ys) → All P xs
-  all-left [] ys p = tt
-  all-left (x ∷ xs) ys p = (p .0, all-left xs ys (p .1))
+  pub each-left : (xs ys : List A) → All P (xs ++ ys) → All P xs
+  each-left [] ys p = tt
+  each-left (x ∷ xs) ys p = (p .0, each-left xs ys (p .1))
 
-  pub all-right : (xs ys : List A) → All P (xs ++ ys) → All P ys
-  all-right [] ys p = p
-  all-right (x ∷ xs) ys p = all-right xs ys (p .1)
+  pub each-right : (xs ys : List A) → All P (xs ++ ys) → All P ys
+  each-right [] ys p = p
+  each-right (x ∷ xs) ys p = each-right xs ys (p .1)
 
   pub all-at : {x : A} (xs : List A) → All P xs → List·Memᴰ x xs → P x
   all-at (y ∷ ys) p (List·Memᴰ·head e) = subst P (sym e) (p .0)
   all-at (y ∷ ys) p (List·Memᴰ·tail m) = all-at ys (p .1) m
 
 module _ {A : Type 0} (P Q : A → Type 0) where
-  pub all-map : ((x : A) → P x → Q x) → (xs : List A) → All P xs → All Q xs
-  all-map h [] p = tt
-  all-map h (x ∷ xs) p = (h x (p .0), all-map h xs (p .1))
+  pub each-map : ((x : A) → P x → Q x) → (xs : List A) → All P xs → All Q xs
+  each-map h [] p = tt
+  each-map h (x ∷ xs) p = (h x (p .0), each-map h xs (p .1))
 
   pub all-both : (xs : List A) → All P xs → All Q xs → All (λ x. P x × Q x) xs
   all-both [] p q = tt
@@ -36,4 +36,4 @@ module _ {A : Type 0} (P Q : A → Type 0) where
 pub all-self : {A : Type 0} (xs : List A) → All (λ x. List·Memᴰ x xs) xs
 all-self [] = tt
 all-self (x ∷ xs) =
-    (List·Memᴰ·head refl, all-map (λ y. List·Memᴰ y xs) (λ y. List·Memᴰ y (x ∷ xs)) (λ y m. List·Memᴰ·tail m) xs (all-self xs))
+    (List·Memᴰ·head refl, each-map (λ y. List·Memᴰ y xs) (λ y. List·Memᴰ y (x ∷ xs)) (λ y m. List·Memᴰ·tail m) xs (all-self xs))

@@ -15,9 +15,9 @@ use Rattle.words.proofs.PostfixLaws.{startFrom-none, startFrom-more, st
 -- ---- arities
 
 -- a rank is a byte
-pub arity-most : (a : List ℕ) (w r : ℕ) → r ≡ arity a w → r ≤ 255
+pub arity-byte : (a : List ℕ) (w r : ℕ) → r ≡ arity a w → r ≤ 255
 unfolding arity rankOf
-arity-most a w r e = rw e (arityAt-most 255 (rankOf a (lowByte w)) (kindOf w) (omega arith) (omega arith))
+arity-byte a w r e = rw e (arityAt-most 255 (rankOf a (lowByte w)) (kindOf w) (omega arith) (omega arith))
 
 -- a missing word takes no children
 pub arity-missing : (a : List ℕ) → arity a 0 ≡ 0

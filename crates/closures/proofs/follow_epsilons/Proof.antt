@@ -24,7 +24,7 @@ mul-i c = omega (arith, key-inside (c .before .before .before .before .pre))
 shared-slice-read-i : tie.Need-shared-slice-read-i Inv-loop μ-loop
 shared-slice-read-i c =
     let g = c .before .before .before .before .before .pre in
-    omega (arith, key-inside g, index-long (g .closing .checked))
+    omega (arith, key-inside g, index-long (g .followable .checked))
 
 cast-i : tie.Need-cast-i Inv-loop μ-loop
 cast-i c = omega (arith, c .shared-slice-known3 .given (256 + c .before .before .before .before .before .args .p))
@@ -82,7 +82,7 @@ loop-again c =
 
 same-length : tie.Need-same-length Inv-loop μ-loop
 same-length c =
-    c .before .loop .inv .stack .size ∙ sym (c .before .before .before .before .before .before .before .pre .closing .stack .size)
+    c .before .loop .inv .stack .size ∙ sym (c .before .before .before .before .before .before .before .pre .followable .stack .size)
 
 same-length-2 : tie.Need-same-length-2 Inv-loop μ-loop
 same-length-2 c = c .before .loop .inv .size

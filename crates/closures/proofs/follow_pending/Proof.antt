@@ -38,7 +38,7 @@ follow-epsilons-requires c κs =
     let t = c .before .before .before in
     let v = t .before .loop .inv .1 in
     record {
-      closing = record {
+      followable = record {
         checked = t .before .before .before .before .before .before .pre .checked;
         stack = pending-stack v _ (omega arith);
       };

@@ -1,4 +1,4 @@
--- `closures::reach` meets its contract by those of `contains` and `insert`.
+-- `closures::reach` meets its contract: those of `contains` and `insert` give it.
 use mathlib.Core.Path.{sym, _∙_}
 use native.Mathlib.Omega.{arith}
 use borrow.Author.Needs.{needs}

@@ -1,4 +1,4 @@
--- `haqbylur_compile` meets its contract: it hands on what Compile answers and leaves, and each value fits 32 bits.
+-- `haqbylur::haqbylur_compile` meets its contract: it hands on what Compile answers and leaves, and each value fits 32 bits.
 use native.Mathlib.Omega.{arith}
 use Rattle.haqbylur.proofs.StatusLaws.{compiled-table, compiled-refused}
 use Rattle.haqbylur.proofs.AnswerValueLaws.{compile-small}

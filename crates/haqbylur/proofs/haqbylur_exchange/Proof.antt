@@ -1,4 +1,4 @@
--- `haqbylur_exchange` meets its contract: it hands on what Exchange answers and leaves, and each value fits 32 bits.
+-- `haqbylur::haqbylur_exchange` meets its contract: it hands on what Exchange answers and leaves, and each value fits 32 bits.
 use Rattle.haqbylur.proofs.StatusLaws.{exchanged-replaced, exchanged-refused}
 use Rattle.haqbylur.proofs.AnswerValueLaws.{exchange-small}
 use native.Mathlib.Omega.{arith}

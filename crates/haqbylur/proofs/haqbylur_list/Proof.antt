@@ -1,4 +1,4 @@
--- `haqbylur_list` meets its contract: it hands on what List answers and leaves, and each value fits 32 bits.
+-- `haqbylur::haqbylur_list` meets its contract: it hands on what List answers and leaves, and each value fits 32 bits.
 use Rattle.haqbylur.proofs.StatusLaws.{listed-matches, listed-refused}
 use Rattle.haqbylur.proofs.AnswerValueLaws.{list-small}
 use native.Mathlib.Omega.{arith}

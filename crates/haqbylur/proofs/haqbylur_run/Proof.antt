@@ -1,4 +1,4 @@
--- `haqbylur_run` meets its contract: it hands on what Run answers and leaves, and each value fits 32 bits.
+-- `haqbylur::haqbylur_run` meets its contract: it hands on what Run answers and leaves, and each value fits 32 bits.
 use Rattle.haqbylur.proofs.StatusLaws.{ran-marked, ran-refused}
 use Rattle.haqbylur.proofs.AnswerValueLaws.{run-small}
 use native.Mathlib.Omega.{arith}

@@ -1,4 +1,4 @@
--- `index::put_word` meets its contract by that of `key`.
+-- `index::put_word` meets its contract: that of `key` gives it.
 use lib.ListN.{length-set}
 use native.Mathlib.Omega.{arith}
 use borrow.Author.Needs.{needs}

@@ -1,4 +1,4 @@
--- `write_hit` meets its contract: the parts of the line are written one after the other, and a subtree begins at or
+-- `lines::write_hit` meets its contract: the parts of the line are written one after the other, and a subtree begins at or
 -- before its last node.
 use native.Mathlib.Omega.{arith}
 use Rattle.words.specs.Postfix.{arity}

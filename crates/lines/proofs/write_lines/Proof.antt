@@ -1,4 +1,4 @@
--- `write_lines` meets its contract: the loop writes the hit lines one after the other behind the head line.
+-- `lines::write_lines` meets its contract: the loop writes the hit lines one after the other behind the head line.
 use Prim.Native.Nat.{_-_}
 use mathlib.Core.Path.{_∙_}
 use lib.ListN.{length}

@@ -1,4 +1,4 @@
--- `write_refused` meets its contract: the parts of the line are written one after the other.
+-- `lines::write_refused` meets its contract: the parts of the line are written one after the other.
 use mathlib.Core.Path.{_∙_}
 use Rattle.lines.proofs.LineLaws.{refused-written}
 use borrow.Author.Needs.{needs}

@@ -1,4 +1,4 @@
--- `answer_input` meets its contract: the counts say how many words follow, and what it lends of each slice are the words
+-- `marklist::answer_input` meets its contract: the counts say how many words follow, and what it lends of each slice are the words
 -- that make a difference.
 use Rattle.marklist.proofs.PrintedLaws.{kept-fit, kept-long, answered}
 use borrow.Author.Needs.{needs}

@@ -1,4 +1,4 @@
--- `main` is safe: what it lends of the buffer lies inside it.
+-- `marklist::main` is safe: what it lends of the buffer lies inside it.
 use mathlib.Core.Path.{sym}
 use native.Mathlib.Omega.{arith}
 use lib.Seq.{length-take-le}

@@ -1,4 +1,4 @@
--- `read_words` meets its contract and ends: each part has at least one word and fits the buffer, and its words are stored
+-- `marklist::read_words` meets its contract and ends: each part has at least one word and fits the buffer, and its words are stored
 -- behind those before.
 use Prim.Native.Nat.{_-_}
 use mathlib.Core.Path.{sym}

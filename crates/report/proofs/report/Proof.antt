@@ -1,7 +1,8 @@
--- `report` meets its contract: each return writes what the laws of Compile say of its answer, and the output fits the slice,
+-- `report::report` meets its contract: each return writes what the laws of Compile say of its answer, and the output fits the slice,
 -- so all of it is written.
 use borrow.Author.Tests.{not-true, not-false}
-use Rattle.report.proofs.ReportLaws.{complete-whole, early-whole, refused-compiled, table-counted, table-fits, compiles, many}
+use Rattle.report.proofs.ReportLaws.{complete-whole, early-whole, refused-compiled, table-counted, table-fits}
+use Rattle.report.proofs.ReportLaws.{chapter-reportable, many}
 use borrow.Author.Needs.{needs}
 use Rattle.report.proofs.report.Statement.{statement}
 use Rattle.report.proofs.report.Tie as tie
@@ -55,7 +56,7 @@ returns-2 c =
     (c .before .before .before .before .before .before .before .before .before .before .before .before .before .before .before .before .pre)
     (not-false _ (c .before .before .before .before .before .before .before .before .before .before .before .if1 .left))
     (c .before .before .report-chapter .ensures _
-    (compiles _ _ _ _ (c .before .before .before .before .before .before .size .given .1) (call .ensures .0) (call .ensures .1)
+    (chapter-reportable _ _ _ _ (c .before .before .before .before .before .before .size .given .1) (call .ensures .0) (call .ensures .1)
     (many 2048)))
 
 same-length-3 : tie.Need-same-length-3

@@ -1,4 +1,4 @@
--- `report_chapter` meets its contract: each return writes what the laws of Run say of its answer.
+-- `report::report_chapter` meets its contract: each return writes what the laws of Run say of its answer.
 use Rattle.report.proofs.ReportLaws.{refused-over, refused-ran, marked}
 use borrow.Author.Needs.{needs}
 use Rattle.report.proofs.report_chapter.Statement.{statement}

@@ -1,4 +1,4 @@
--- `report_hits` meets its contract: List accepts the marks that Run left, and the lines are those of what it names.
+-- `report::report_hits` meets its contract: List accepts the marks that Run left, and the lines are those of what it names.
 use mathlib.Core.Path.{sym}
 use native.Mathlib.Omega.{arith}
 use lib.Seq.{length-take-le}

@@ -87,12 +87,12 @@ loop-again c =
 
 same-length : tie.Need-same-length Inv-loop μ-loop
 same-length c =
-    c .before .loop .inv .seeding .steppable .closures .owners-are
+    c .before .loop .inv .followable .steppable .closures .owners-are
     ∙ sym (c .before .before .before .before .before .before .before .before .before .before .before .pre .steppable .closures .owners-are)
 
 same-length-2 : tie.Need-same-length-2 Inv-loop μ-loop
 same-length-2 c =
-    c .before .loop .inv .seeding .steppable .closures .rows-are
+    c .before .loop .inv .followable .steppable .closures .rows-are
     ∙ sym (c .before .before .before .before .before .before .before .before .before .before .before .pre .steppable .closures .rows-are)
 
 same-length-3 : tie.Need-same-length-3 Inv-loop μ-loop
@@ -100,7 +100,7 @@ same-length-3 c = c .before .loop .inv .pending-long
 
 same-length-4 : tie.Need-same-length-4 Inv-loop μ-loop
 same-length-4 c =
-    c .before .loop .inv .seeding .growing .size
+    c .before .loop .inv .followable .growing .size
     ∙ sym (c .before .before .before .before .before .before .before .before .before .before .before .pre .growing .size)
 
 returns : tie.Need-returns Inv-loop μ-loop

@@ -1,5 +1,5 @@
 -- `step::node_set` meets its contract: from the empty set all transitions on the symbol are followed.
-use Rattle.step.proofs.NodeStepLaws.{node-seeding, node-end}
+use Rattle.step.proofs.NodeStepLaws.{node-followable, node-end}
 use borrow.Author.Needs.{needs}
 use Rattle.step.proofs.node_set.Statement.{statement}
 use Rattle.step.proofs.node_set.Tie as tie
@@ -12,7 +12,7 @@ slice-aggregate-follow-symbol c = search needs
 
 follow-symbol-requires : tie.Need-follow-symbol-requires
 follow-symbol-requires c κs =
-    node-seeding (c .before .before .before .before .before .before .before .before .before .before .before .before .pre)
+    node-followable (c .before .before .before .before .before .before .before .before .before .before .before .before .pre)
     (c .before .before .before .before .set-size .ensures)
 
 same-length : tie.Need-same-length

@@ -1,4 +1,4 @@
--- `compiler::states::states_after` meets its contract. The invariant: the words from i on bring the states to the same number.
+-- `compiler::states::states_after` meets its contract: before each turn the words from i on bring the states to the same number.
 use Prim.Native.Nat.{_-_}
 use lib.ListN.{length}
 use borrow.Author.Needs.{needs}

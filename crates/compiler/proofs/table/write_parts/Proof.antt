@@ -6,11 +6,11 @@ use lib.ListN.{length}
 use lib.Seq.{length-take-le}
 use borrow.Author.Needs.{needs}
 use Rattle.words.proofs.AcceptedAlphabet.{alphabet-accepted}
-use Rattle.emitter.proofs.WritingLaws.{wrote-next}
+use Rattle.emitter.proofs.WritingLaws.{words-written-next}
 use Rattle.compiler.proofs.KnownConstants.{constants-symbols}
 use Rattle.words.proofs.AcceptedExpression.{expression-passed}
 use Rattle.compiler.proofs.AcceptedRuleLaws.{constants-counted, length-take-most, states-few}
-use Rattle.compiler.proofs.TablePartLaws.{word-last, wrote-table}
+use Rattle.compiler.proofs.TablePartLaws.{word-last, table-written}
 use Rattle.compiler.proofs.table.write_parts.Statement.{statement}
 use Rattle.compiler.proofs.table.write_parts.Tie as tie
 
@@ -102,7 +102,7 @@ push-constants-requires : tie.Need-push-constants-requires
 push-constants-requires c κs =
     let p = c .before .before .before .before .before .before .before .before .before .before .before .before .before .before .pre in
     let h = alphabet-accepted _ (p .accepted .alphabet) in
-    let n = wrote-next _ _ _ _ _ _ (c .before .before .before .push .ensures) in
+    let n = words-written-next _ _ _ _ _ _ (c .before .before .before .push .ensures) in
     record {
       few = rw (p .constants) (h .fewConstants);
       symbols = constants-symbols _ _ (p .constants) (h .few);
@@ -114,8 +114,8 @@ write-words-requires c κs =
     let p =
     c .before .before .before .before .before .before .before .before .before .before .before .before .before .before .before .before
     .before .before .pre in
-    let m = wrote-next _ _ _ _ _ _ (c .before .before .before .before .before .before .before .push .ensures) in
-    let n = wrote-next _ _ _ _ _ _ (c .before .before .before .push-constants .ensures) in
+    let m = words-written-next _ _ _ _ _ _ (c .before .before .before .before .before .before .before .push .ensures) in
+    let n = words-written-next _ _ _ _ _ _ (c .before .before .before .push-constants .ensures) in
     record { accepted = p .accepted; constants = p .constants; early = omega arith }
 
 same-length : tie.Need-same-length
@@ -130,7 +130,7 @@ returns c =
     c .before .before .before .before .before .before .before .before .before .before .before .before .before .before .before .before
     .before .before .before .before .before .args in
     let e = expression-passed _ _ (p .accepted .expression) in
-    wrote-table (a .alphabet .now) (a .constants .now) (a .expression .now) (e .some) _ _ _ _ _ _ _ _ _ _ (p .constants)
+    table-written (a .alphabet .now) (a .constants .now) (a .expression .now) (e .some) _ _ _ _ _ _ _ _ _ _ (p .constants)
     (c .before .before .before .before .before .before .before .before .before .before .before .before .before .before .states-after
     .ensures .0)
     (c .before .before .before .before .before .before .before .before .before .before .before .before .before .states-of .ensures .0)

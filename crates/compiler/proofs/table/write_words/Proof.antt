@@ -1,4 +1,4 @@
--- `compiler::table::write_words` meets its contract. The invariant: the transitions of the first i words are written, and those of
+-- `compiler::table::write_words` meets its contract: before each turn the transitions of the first i words are written, and those of
 -- the words from i on follow from the next state and the stack.
 use Prim.Native.Nat.{_-_}
 use mathlib.Core.Path.{refl, ap}
@@ -8,7 +8,7 @@ use borrow.Author.Needs.{needs}
 use Rattle.words.proofs.AcceptedAlphabet.{alphabet-accepted}
 use Rattle.words.proofs.AcceptedExpression.{expression-passed}
 use Rattle.compiler.proofs.EmittedLaws.{Emitted, emitted-none, emitted-word, emitted-children, emitted-height}
-use Rattle.compiler.proofs.EmittedLaws.{emitted-emits, emitted-takes, emitted-more, emitted-end}
+use Rattle.compiler.proofs.EmittedLaws.{emitted-emittable, emitted-own-emittable, emitted-more, emitted-end}
 use Rattle.compiler.proofs.table.write_words.Statement.{statement}
 use Rattle.compiler.proofs.table.write_words.Tie as tie
 
@@ -62,8 +62,8 @@ push-own-requires c κs =
     let e = expression-passed _ _ (p .accepted .expression) in
     let h = c .before .before .before .before .before .loop-test .taken in
     let r = c .before .before .before .arity .ensures in (
-      emitted-emits m _ _ (p .constants) (alphabet-accepted _ (p .accepted .alphabet)) h (e .few) (p .early) r refl,
-      emitted-takes m _ _ (p .constants) h (e .few) r refl,
+      emitted-emittable m _ _ (p .constants) (alphabet-accepted _ (p .accepted .alphabet)) h (e .few) (p .early) r refl,
+      emitted-own-emittable m _ _ (p .constants) h (e .few) r refl,
     )
 
 word-port-requires : tie.Need-word-port-requires Inv-loop μ-loop

@@ -1,9 +1,9 @@
--- `emitter::constants::push_every` meets its contract. The invariant: the moves of the first k constants are written.
+-- `emitter::constants::push_every` meets its contract: before each turn the moves of the first k constants are written.
 use Prim.Native.Nat.{_-_}
 use native.Mathlib.Omega.{arith}
 use lib.ListN.{length}
 use borrow.Author.Needs.{needs}
-use Rattle.emitter.proofs.WritingLaws.{wrote-next}
+use Rattle.emitter.proofs.WritingLaws.{words-written-next}
 use Rattle.emitter.proofs.ConstantTransitionLaws.{Moved, moved-none, moved-more, moved-end}
 use Rattle.emitter.proofs.constants.push_every.Statement.{statement}
 use Rattle.emitter.proofs.constants.push_every.Tie as tie
@@ -43,7 +43,7 @@ push-transition-requires c κs =
     let fits = p .0 .fits in
     let low = p .1 in
     let h = c .before .before .loop-test .taken in
-    let n = wrote-next _ _ _ _ _ _ (w .wrote) in
+    let n = words-written-next _ _ _ _ _ _ (w .written) in
     (omega arith, (p .0 .symbols (c .before .before .before .loop .k) h, omega arith))
 
 add-k : tie.Need-add-k Inv-loop μ-loop

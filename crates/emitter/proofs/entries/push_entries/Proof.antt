@@ -1,4 +1,4 @@
--- `emitter::entries::push_entries` meets its contract. The invariant: the transitions for the first k constants are written.
+-- `emitter::entries::push_entries` meets its contract: before each turn the transitions for the first k constants are written.
 use Prim.Native.Nat.{_-_}
 use native.Mathlib.Omega.{arith}
 use lib.ListN.{length}

@@ -1,7 +1,7 @@
 -- `emitter::entries::push_product_entry` meets its contract: the children from the second on stand behind the first port.
 use Prim.Native.Nat.{_+_}
 use borrow.Author.Needs.{needs}
-use Rattle.emitter.proofs.EntryLaws.{emits-behind, product-here, product-other}
+use Rattle.emitter.proofs.EntryLaws.{emittable-behind, product-here, product-other}
 use Rattle.emitter.proofs.entries.push_product_entry.Statement.{statement}
 use Rattle.emitter.proofs.entries.push_product_entry.Tie as tie
 
@@ -23,7 +23,7 @@ part-push-to-children-end c = search needs
 push-to-children-requires : tie.Need-push-to-children-requires
 push-to-children-requires c κs =
     let p = c .before .before .before .before .before .before .before .pre in
-    (emits-behind _ _ _ _ _ (p .0), p .1 .0)
+    (emittable-behind _ _ _ _ _ (p .0), p .1 .0)
 
 same-length : tie.Need-same-length
 same-length c = search needs

@@ -1,9 +1,9 @@
--- `emitter::entries::push_to_children` meets its contract. The invariant: the transitions to the first i children are written.
+-- `emitter::entries::push_to_children` meets its contract: before each turn the transitions to the first i children are written.
 use Prim.Native.Nat.{_+_, _-_}
 use native.Mathlib.Omega.{arith}
 use lib.ListN.{length, getD}
 use borrow.Author.Needs.{needs}
-use Rattle.emitter.proofs.WritingLaws.{wrote-next}
+use Rattle.emitter.proofs.WritingLaws.{words-written-next}
 use Rattle.emitter.proofs.EntryLaws.{ToChildren, children-none, children-more, children-end}
 use Rattle.emitter.proofs.entries.push_to_children.Statement.{statement}
 use Rattle.emitter.proofs.entries.push_to_children.Tie as tie
@@ -46,7 +46,7 @@ push-to-requires c κs =
     let low = p .0 .low in
     let fits = p .0 .fits in
     let children = p .0 .children in
-    let n = wrote-next _ _ _ _ _ _ (w .wrote) in
+    let n = words-written-next _ _ _ _ _ _ (w .written) in
     let t = c .before .before .before .loop-test .taken in
     (omega arith, (omega arith, c .before .entry-at .ensures .low))
 

@@ -1,6 +1,6 @@
 -- `emitter::own::push_both` meets its contract: one transition stands behind the other.
 use borrow.Author.Needs.{needs}
-use Rattle.emitter.proofs.WritingLaws.{wrote-more}
+use Rattle.emitter.proofs.WritingLaws.{words-written-more}
 use Rattle.emitter.proofs.own.push_both.Statement.{statement}
 use Rattle.emitter.proofs.own.push_both.Tie as tie
 
@@ -15,7 +15,7 @@ same-length c = search needs
 
 returns : tie.Need-returns
 returns c =
-    wrote-more 1 1 _ _ _ _ _ _ _ _ (c .before .before .before .before .before .before .push-epsilon .ensures)
+    words-written-more 1 1 _ _ _ _ _ _ _ _ (c .before .before .before .before .before .before .push-epsilon .ensures)
     (c .before .before .push-epsilon2 .ensures)
 
 pub push-both-spec : {M : Type 1} → statement M

@@ -8,14 +8,14 @@ use Rattle.words.specs.declared.word.Kind.the-variants.{Symbol, Union, Product,
 use Rattle.words.proofs.DecodedLaws.{told-number, left-number}
 use Rattle.automaton.specs.Numbering.{fullPort}
 use Rattle.emitter.proofs.OwnKindLaws.{own-none, own-symbol, own-union, own-product, own-closure}
-use Rattle.emitter.proofs.OwnKindLaws.{own-other, wrote-transitions, wrote-no-transitions}
+use Rattle.emitter.proofs.OwnKindLaws.{own-other, transitions-written, no-transitions-written}
 use Rattle.emitter.proofs.own.push_own.Statement.{statement}
 use Rattle.emitter.proofs.own.push_own.Tie as tie
 
 returns : tie.Need-returns
 returns c =
     let a = c .before .before .before .before .args in
-    wrote-no-transitions _ _ _ _ (own-none (a .w) (fullPort (a .constants .now) (a .exit)) (a .constants .now) (a .ports .now)
+    no-transitions-written _ _ _ _ (own-none (a .w) (fullPort (a .constants .now) (a .exit)) (a .constants .now) (a .ports .now)
     (c .if1 .taken))
 
 kind-of-requires : tie.Need-kind-of-requires
@@ -62,7 +62,7 @@ returns-2 c =
     let m = c .before .before .before .before .before .before in
     let a = m .before .before .before .before .before .args in
     let number = told-number _ _ (m .kind-of .ensures) Symbol (c .before .before .before .before .enum-told .given .1) (omega arith) in
-    wrote-transitions _ _ _ _ _ _ _
+    transitions-written _ _ _ _ _ _ _
     (own-symbol (a .w) (fullPort (a .constants .now) (a .exit)) (a .constants .now) (a .ports .now) (m .before .if1 .left) number)
     (c .before .before .push-symbol .ensures)
 
@@ -75,7 +75,7 @@ returns-3 c =
     let a = m .before .before .before .before .before .args in
     let p = m .before .before .before .before .before .pre .1 in
     let number = told-number _ _ (m .kind-of .ensures) Union (c .before .before .before .before .enum-told2 .given .1) (omega arith) in
-    wrote-transitions _ _ _ _ _ _ _
+    transitions-written _ _ _ _ _ _ _
     (own-union (a .w) (fullPort (a .constants .now) (a .exit)) (a .constants .now) (a .ports .now) (p .union number) number)
     (c .before .before .push-union .ensures)
 
@@ -88,7 +88,7 @@ returns-4 c =
     let a = m .before .before .before .before .before .args in
     let p = m .before .before .before .before .before .pre .1 in
     let number = told-number _ _ (m .kind-of .ensures) Product (c .before .before .before .before .enum-told3 .given .1) (omega arith) in
-    wrote-transitions _ _ _ _ _ _ _
+    transitions-written _ _ _ _ _ _ _
     (own-product (a .w) (fullPort (a .constants .now) (a .exit)) (a .constants .now) (a .ports .now) (p .product number .0) number)
     (c .before .before .push-product .ensures)
 
@@ -101,7 +101,7 @@ returns-5 c =
     let a = m .before .before .before .before .before .args in
     let p = m .before .before .before .before .before .pre .1 in
     let number = told-number _ _ (m .kind-of .ensures) Closure (c .before .before .before .before .enum-told4 .given .1) (omega arith) in
-    wrote-transitions _ _ _ _ _ _ _
+    transitions-written _ _ _ _ _ _ _
     (own-closure (a .w) (fullPort (a .constants .now) (a .exit)) (a .constants .now) (a .ports .now) (p .closure number .0) number)
     (c .before .before .push-closure .ensures)
 
@@ -110,7 +110,7 @@ returns-6 c =
     let a = c .before .before .before .before .before .before .args in
     let k = c .before .kind-of .result in
     let decoded = c .before .kind-of .ensures in
-    wrote-no-transitions _ _ _ _ (own-other (a .w) (fullPort (a .constants .now) (a .exit)) (a .constants .now) (a .ports .now)
+    no-transitions-written _ _ _ _ (own-other (a .w) (fullPort (a .constants .now) (a .exit)) (a .constants .now) (a .ports .now)
     (left-number _ k decoded (Symbol ∷ Union ∷ Product ∷ Closure ∷ []) (c .match .keys5) symbolKind refl)
     (left-number _ k decoded (Symbol ∷ Union ∷ Product ∷ Closure ∷ []) (c .match .keys5) unionKind refl)
     (left-number _ k decoded (Symbol ∷ Union ∷ Product ∷ Closure ∷ []) (c .match .keys5) productKind refl)

@@ -2,17 +2,17 @@
 use native.Mathlib.Omega.{arith}
 use lib.ListN.{getD}
 use borrow.Author.Needs.{needs}
-use Rattle.emitter.proofs.WritingLaws.{wrote-next}
+use Rattle.emitter.proofs.WritingLaws.{words-written-next}
 use Rattle.emitter.proofs.EntryLaws.{to-entry}
-use Rattle.emitter.proofs.OwnLaws.{emits-later, product-own}
+use Rattle.emitter.proofs.OwnLaws.{emittable-later, product-own}
 use Rattle.emitter.proofs.own.push_product.Statement.{statement}
 use Rattle.emitter.proofs.own.push_product.Tie as tie
 
 shared-slice-read-entry-at : tie.Need-shared-slice-read-entry-at
 shared-slice-read-entry-at c = search needs
 
-index-of-requires : tie.Need-index-of-requires
-index-of-requires c κs = search needs
+constant-index-requires : tie.Need-constant-index-requires
+constant-index-requires c κs = search needs
 
 entry-at-requires : tie.Need-entry-at-requires
 entry-at-requires c κs = search needs
@@ -37,7 +37,7 @@ push-to-requires c κs =
     let p =
     c .before .before .before .before .before .before .before .before .before .before .before .before .before .before .before .pre .0 in
     let fits = p .fits in
-    let n = wrote-next _ _ _ _ _ _ (c .before .before .before .before .before .push-epsilon .ensures) in
+    let n = words-written-next _ _ _ _ _ _ (c .before .before .before .before .before .push-epsilon .ensures) in
     let x = c .exit-of2 .ensures .1 in
     (omega arith, (omega arith, c .before .before .before .before .before .before .before .before .before .entry-at .ensures .low))
 
@@ -46,9 +46,9 @@ push-entries-requires c κs =
     let p = c .before .before .before .before .before .before .before .before .before .before .before .before .before .before .before
     .before .before .before .before .pre in
     let two = p .1 .0 in (
-      emits-later _ _ _ _ _ (p .0) (let m = wrote-next _ _ _ _ _ _
+      emittable-later _ _ _ _ _ (p .0) (let m = words-written-next _ _ _ _ _ _
           (c .before .before .before .before .before .before .before .before .before .push-epsilon .ensures) in
-          let n = wrote-next _ _ _ _ _ _
+          let n = words-written-next _ _ _ _ _ _
           (c .before .before .before .push-to .ensures) in omega arith),
       omega arith,
     )
@@ -70,7 +70,7 @@ returns c =
     (c .before .before .before .before .before .before .before .before .before .before .before .before .before .before .before
     .before .entry-at .ensures)
     (c .before .before .before .before .before .before .before .before .before .before .before .before .before .before .before .before
-    .before .index-of .ensures .1)
+    .before .constant-index .ensures .1)
     (c .before .before .before .before .before .before .push-to .ensures))
     (c .before .before .push-entries .ensures)
 
@@ -79,7 +79,7 @@ push-product-spec =
     tie.close
     (tie.spec
     shared-slice-read-entry-at
-    index-of-requires
+    constant-index-requires
     entry-at-requires
     shared-slice-read-exit-of
     exit-of-requires

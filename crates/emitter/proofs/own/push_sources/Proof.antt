@@ -1,9 +1,9 @@
--- `emitter::own::push_sources` meets its contract. The invariant: the first i children's exits are written.
+-- `emitter::own::push_sources` meets its contract: before each turn the first i children's exits are written.
 use Prim.Native.Nat.{_-_}
 use native.Mathlib.Omega.{arith}
 use lib.ListN.{length}
 use borrow.Author.Needs.{needs}
-use Rattle.emitter.proofs.WritingLaws.{wrote-next}
+use Rattle.emitter.proofs.WritingLaws.{words-written-next}
 use Rattle.emitter.proofs.SourceLaws.{Sourced, sourced-none, sourced-more, sourced-end}
 use Rattle.emitter.proofs.own.push_sources.Statement.{statement}
 use Rattle.emitter.proofs.own.push_sources.Tie as tie
@@ -36,7 +36,7 @@ push-requires : tie.Need-push-requires Inv-loop μ-loop
 push-requires c κs =
     let w = c .before .before .before .before .loop .inv in
     let p = c .before .before .before .before .before .before .before .pre in
-    let n = wrote-next _ _ _ _ _ _ (w .wrote) in
+    let n = words-written-next _ _ _ _ _ _ (w .written) in
     let t = c .before .before .before .loop-test .taken in
     let l = p .0 in
     let fits = p .1 in

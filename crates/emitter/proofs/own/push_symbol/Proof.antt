@@ -1,8 +1,8 @@
 -- `emitter::own::push_symbol` meets its contract: its three writers leave the transitions of a symbol.
 use native.Mathlib.Omega.{arith}
 use borrow.Author.Needs.{needs}
-use Rattle.emitter.proofs.WritingLaws.{wrote-next}
-use Rattle.emitter.proofs.OwnLaws.{emits-later, symbol-own}
+use Rattle.emitter.proofs.WritingLaws.{words-written-next}
+use Rattle.emitter.proofs.OwnLaws.{emittable-later, symbol-own}
 use Rattle.emitter.proofs.own.push_symbol.Statement.{statement}
 use Rattle.emitter.proofs.own.push_symbol.Tie as tie
 
@@ -15,9 +15,9 @@ push-sources-requires c κs = search needs
 push-entries-requires : tie.Need-push-entries-requires
 push-entries-requires c κs =
     let p = c .before .before .before .before .before .before .before .before .before .before .before .before .pre in (
-      emits-later _ _ _ _ _ (p .0) (let m = wrote-next _ _ _ _ _ _
+      emittable-later _ _ _ _ _ (p .0) (let m = words-written-next _ _ _ _ _ _
           (c .before .before .before .before .before .before .before .push-transition .ensures) in
-          let n = wrote-next _ _ _ _ _ _ (c .before .before .before .push-sources .ensures) in omega arith),
+          let n = words-written-next _ _ _ _ _ _ (c .before .before .before .push-sources .ensures) in omega arith),
       p .1 .1,
     )
 

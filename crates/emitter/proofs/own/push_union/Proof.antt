@@ -1,8 +1,8 @@
 -- `emitter::own::push_union` meets its contract: its two writers leave the transitions of a union.
 use native.Mathlib.Omega.{arith}
 use borrow.Author.Needs.{needs}
-use Rattle.emitter.proofs.WritingLaws.{wrote-next}
-use Rattle.emitter.proofs.OwnLaws.{emits-later, union-own}
+use Rattle.emitter.proofs.WritingLaws.{words-written-next}
+use Rattle.emitter.proofs.OwnLaws.{emittable-later, union-own}
 use Rattle.emitter.proofs.own.push_union.Statement.{statement}
 use Rattle.emitter.proofs.own.push_union.Tie as tie
 
@@ -24,7 +24,8 @@ push-both-requires c κs = search needs
 push-entries-requires : tie.Need-push-entries-requires
 push-entries-requires c κs =
     let p = c .before .before .before .before .before .before .before .before .before .before .before .before .pre in (
-      emits-later _ _ _ _ _ (p .0) (let n = wrote-next _ _ _ _ _ _ (c .before .before .before .push-both .ensures) in omega arith),
+      emittable-later _ _ _ _ _ (p .0)
+          (let n = words-written-next _ _ _ _ _ _ (c .before .before .before .push-both .ensures) in omega arith),
       omega (arith, p .1),
     )
 

@@ -4,7 +4,7 @@ use mathlib.Core.Logic.{⊎-elim}
 use lib.ListN.{length, set, length-set}
 use lib.Seq.{set-out}
 use borrow.Author.Needs.{needs}
-use Rattle.emitter.proofs.WritingLaws.{wrote-one}
+use Rattle.emitter.proofs.WritingLaws.{words-written-one}
 use Rattle.emitter.proofs.writer.push.Statement.{statement}
 use Rattle.emitter.proofs.writer.push.Tie as tie
 
@@ -25,7 +25,7 @@ same-length : tie.Need-same-length
 same-length c = ap length (stored c) ∙ simp length-set
 
 returns : tie.Need-returns
-returns c = wrote-one _ _ _ _ (stored c)
+returns c = words-written-one _ _ _ _ (stored c)
 
 pub push-spec : {M : Type 1} → statement M
 push-spec = tie.close (tie.spec mul-out slice-write-out add-result same-length returns)

@@ -1,4 +1,4 @@
--- `replace::move_tail` meets its contract: the two steps leave what the definition of a slice with other words in use says.
+-- `exchanger::replace::move_tail` meets its contract: the two steps leave what the definition of a slice with other words in use says.
 use borrow.Author.Needs.{needs}
 use Rattle.exchanger.proofs.TailLaws.{tail-moved}
 use Rattle.exchanger.proofs.replace.move_tail.Statement.{statement}

@@ -1,4 +1,4 @@
--- `subtree::recompute_nodes` meets its contract: the index of the table, the stack of the nodes before the replacement, the
+-- `exchanger::subtree::recompute_nodes` meets its contract: the index of the table, the stack of the nodes before the replacement, the
 -- replacement's nodes up to its root, and the loop over the root and the ancestors.
 use native.Mathlib.Omega.{arith}
 use Rattle.exchanger.proofs.RecomputedNodesLaws.{nodes-index, nodes-stack, nodes-marks, nodes-propagate, nodes-exchanged}

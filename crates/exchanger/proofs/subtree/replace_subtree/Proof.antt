@@ -1,12 +1,12 @@
--- `subtree::replace_subtree` meets its contract: both tails move, the replacement fills the chapter's gap, and the loops recompute
--- what the definition says, with the old element's words at the root's place.
+-- `exchanger::subtree::replace_subtree` meets its contract: both tails move, the replacement fills the chapter's gap, and the loops
+-- recompute what the definition says, with the old element's words at the root's place.
 use mathlib.Core.Path.{sym, ap₂}
 use mathlib.Core.List.{[], _∷_}
 use Prim.Native.Nat.{ℕ}
 use native.Mathlib.Omega.{arith}
 use Rattle.words.specs.Answer.{accepted}
 use Rattle.operations.specs.Exchange.{newTree}
-use Rattle.exchanger.proofs.CallNumberLaws.{CallNumbers, call-numbers, accepted-call, length-used, chapter-fits, marks-fits}
+use Rattle.exchanger.proofs.CallNumberLaws.{CallNumbers, call-numbers, accepted-call, length-used, chapter-movable, marks-movable}
 use Rattle.exchanger.proofs.ReplaceLaws.{chapter-exit, chapter-count, call-exchangeable, marks-exit}
 use borrow.Author.Needs.{needs}
 use Rattle.exchanger.proofs.subtree.replace_subtree.Statement.{statement}
@@ -67,7 +67,7 @@ add-move-tail c = let f = facts (c .before) in omega arith
 move-tail-requires : tie.Need-move-tail-requires
 move-tail-requires c κs =
     let p = c .before in
-    chapter-fits _ _ _ _ _ _ _ (start (sized p) .pre) _ (p .subtree-start .ensures) _ (sized p .set-size .ensures)
+    chapter-movable _ _ _ _ _ _ _ (start (sized p) .pre) _ (p .subtree-start .ensures) _ (sized p .set-size .ensures)
 
 copy-words-requires : tie.Need-copy-words-requires
 copy-words-requires c κs =
@@ -88,7 +88,7 @@ mul-move-tail-3 c = let f = facts (placed (moved (c .before .before .before))) i
 move-tail-requires-2 : tie.Need-move-tail-requires-2
 move-tail-requires-2 c κs =
     let p = placed (moved (c .before .before .before)) in
-    marks-fits _ _ _ _ _ _ _ (start (sized p) .pre) _ (p .subtree-start .ensures) _ (sized p .set-size .ensures)
+    marks-movable _ _ _ _ _ _ _ (start (sized p) .pre) _ (p .subtree-start .ensures) _ (sized p .set-size .ensures)
 
 slice-reshare-prefix-recompute-nodes : tie.Need-slice-reshare-prefix-recompute-nodes
 slice-reshare-prefix-recompute-nodes c =

@@ -1,4 +1,4 @@
--- `matches::list_accepted` meets its contract: the loop keeps that the matches among the first i nodes are written.
+-- `matcher::matches::list_accepted` meets its contract: the loop keeps that the matches among the first i nodes are written.
 use Prim.Native.Nat.{_+_, _-_, _*_, _≤_}
 use native.Mathlib.Omega.{arith}
 use lib.ListN.{length}

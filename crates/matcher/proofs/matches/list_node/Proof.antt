@@ -1,4 +1,4 @@
--- `matches::list_node` meets its contract: the node is a match exactly if its state set holds the final state.
+-- `matcher::matches::list_node` meets its contract: the node is a match exactly if its state set holds the final state.
 use mathlib.Core.Path.{sym, _∙_}
 use native.Mathlib.Omega.{arith}
 use Rattle.matcher.proofs.ListingLaws.{match-here, match-none}

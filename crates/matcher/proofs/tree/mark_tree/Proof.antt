@@ -1,4 +1,4 @@
--- `tree::mark_tree` meets its contract: the arrays are large enough, and nothing is remembered at first.
+-- `matcher::tree::mark_tree` meets its contract: the arrays are large enough, and nothing is remembered at first.
 use Rattle.matcher.proofs.RunCallLaws.{tree-index, tree-nodes, tree-marked}
 use borrow.Author.Needs.{needs}
 use Rattle.matcher.proofs.tree.mark_tree.Statement.{statement}

@@ -1,4 +1,4 @@
--- `tree::run_accepted` meets its contract: the nodes marked one after the other leave the state sets of the tree.
+-- `matcher::tree::run_accepted` meets its contract: the nodes marked one after the other leave the state sets of the tree.
 use mathlib.Core.Path.{sym}
 use native.Mathlib.Omega.{arith}
 use Rattle.matcher.proofs.RunCallLaws.{workable, run-left, run-fits, run-few, run-part, run-cells}

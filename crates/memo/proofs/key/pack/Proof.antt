@@ -1,4 +1,4 @@
--- `key::pack` meets its contract: each digit is below 8,192, so that a shift leaves those above.
+-- `memo::key::pack` meets its contract: each digit is below 8,192, so that a shift leaves those above.
 use native.Mathlib.Omega.{arith}
 use Rattle.memo.proofs.KeyLaws.{digits, pack-is}
 use borrow.Author.Needs.{needs}

@@ -1,4 +1,4 @@
--- `key::step_key` meets its contract: the number fits.
+-- `memo::key::step_key` meets its contract: the number fits.
 use native.Mathlib.Omega.{arith}
 use Rattle.memo.proofs.KeyLaws.{key-few, key-is}
 use borrow.Author.Needs.{needs}

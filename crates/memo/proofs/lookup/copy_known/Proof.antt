@@ -1,4 +1,4 @@
--- `lookup::copy_known` meets its contract: one word is as many words as its index says.
+-- `memo::lookup::copy_known` meets its contract: one word is as many words as its index says.
 use Rattle.memo.proofs.MarkingLaws.{one-copyable, one-copied}
 use borrow.Author.Needs.{needs}
 use Rattle.memo.proofs.lookup.copy_known.Statement.{statement}

@@ -1,4 +1,4 @@
--- `lookup::mark_new` meets its contract: the first words of the set that is worked out are written at the node's place.
+-- `memo::lookup::mark_new` meets its contract: the first words of the set that is worked out are written at the node's place.
 use native.Mathlib.Omega.{arith}
 use Rattle.memo.proofs.MarkingLaws.{set-length, set-long, set-few, set-fits, set-placeable, set-new}
 use borrow.Author.Needs.{needs}

@@ -1,4 +1,4 @@
--- `lookup::mark_next` meets its contract: a slot with the node's key holds a node with its state set, and otherwise the node is
+-- `memo::lookup::mark_next` meets its contract: a slot with the node's key holds a node with its state set, and otherwise the node is
 -- worked out and remembered.
 use native.Mathlib.Omega.{arith}
 use Rattle.memo.proofs.MemoLaws.{next-new, found-few, found-copyable, found-next, stored-next}

@@ -1,4 +1,4 @@
--- `representative::place_of` meets its contract: the sum fits, and the place is a remainder.
+-- `memo::representative::place_of` meets its contract: the sum fits, and the place is a remainder.
 use Prim.Native.Nat.{_-_}
 use native.Mathlib.Omega.{arith}
 use lib.ListN.{length}

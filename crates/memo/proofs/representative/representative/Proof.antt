@@ -1,4 +1,4 @@
--- `representative::representative` meets its contract: an earlier node is taken only if its words are the same.
+-- `memo::representative::representative` meets its contract: an earlier node is taken only if its words are the same.
 use mathlib.Core.Path.{refl}
 use native.Mathlib.Omega.{arith}
 use Rattle.memo.specs.Memo.{itself}

@@ -1,4 +1,4 @@
--- `marking::mark_node` meets its contract: the last of the four words that are lent represent the children.
+-- `nodes::marking::mark_node` meets its contract: the last of the four words that are lent represent the children.
 use native.Mathlib.Omega.{arith}
 use Rattle.nodes.proofs.NodeLaws.{node-low, node-fits, node-height, node-few, node-next, node-words, node-kept}
 use borrow.Author.Needs.{needs}

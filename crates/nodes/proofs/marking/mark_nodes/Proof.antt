@@ -1,5 +1,5 @@
--- `marking::mark_nodes` meets its contract: the loop keeps that the nodes before i are marked, and that the stack and what is kept from
--- node to node are right.
+-- `nodes::marking::mark_nodes` meets its contract: the loop keeps that the nodes before i are marked, and that the stack and what is
+-- kept from node to node are right.
 use mathlib.Core.Path.{sym, _∙_}
 use Prim.Native.Nat.{_-_}
 use native.Mathlib.Omega.{arith}

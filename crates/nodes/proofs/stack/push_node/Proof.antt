@@ -1,4 +1,4 @@
--- `stack::push_node` meets its contract: the rank tells how many children the node takes.
+-- `nodes::stack::push_node` meets its contract: the rank tells how many children the node takes.
 use mathlib.Core.Path.{ap}
 use Prim.Native.Nat.{ℕ, _+_, _-_}
 use lib.ListN.{set}

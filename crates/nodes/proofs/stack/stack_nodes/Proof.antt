@@ -1,4 +1,4 @@
--- `stack::stack_nodes` meets its contract: before each turn the stack holds the roots of the first i nodes.
+-- `nodes::stack::stack_nodes` meets its contract: before each turn the stack holds the roots of the first i nodes.
 use mathlib.Core.Path.{sym, _∙_}
 use Prim.Native.Nat.{_-_}
 use native.Mathlib.Omega.{arith}

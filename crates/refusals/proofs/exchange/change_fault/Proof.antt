@@ -1,5 +1,5 @@
--- `exchange::change_fault` meets its contract: it asks the conditions of 14, 15 and 16 in their order, and 16 of the length that
--- the result has.
+-- `refusals::exchange::change_fault` meets its contract: it asks the conditions of 14, 15 and 16 in their order, and 16 of the length
+-- that the result has.
 use mathlib.Core.Path.{sym, ap, _∙_}
 use mathlib.Core.Bool.{not}
 use lib.ListN.{length}

@@ -1,4 +1,4 @@
--- `exchange::exchange_fault` meets its contract: it asks the conditions in their order.
+-- `refusals::exchange::exchange_fault` meets its contract: it asks the conditions in their order.
 use mathlib.Core.Path.{refl, sym, _∙_}
 use mathlib.Core.List.{List}
 use Prim.Native.Nat.{ℕ}

@@ -1,4 +1,4 @@
--- `exchange::no_replacement` meets its contract: it asks for the length, and then for a tree over the alphabet.
+-- `refusals::exchange::no_replacement` meets its contract: it asks for the length, and then for a tree over the alphabet.
 use mathlib.Core.Path.{sym, _∙_}
 use borrow.Author.Needs.{needs}
 use Rattle.operations.specs.Exchange.{noReplacement}

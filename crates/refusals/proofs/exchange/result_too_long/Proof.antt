@@ -1,4 +1,4 @@
--- `exchange::result_too_long` meets its contract: it asks the three conditions of 16 in their order.
+-- `refusals::exchange::result_too_long` meets its contract: it asks the three conditions of 16 in their order.
 use mathlib.Core.Path.{sym, _∙_}
 use borrow.Author.Needs.{needs}
 use borrow.Author.Tests.{lt-ltb, le-ltb}

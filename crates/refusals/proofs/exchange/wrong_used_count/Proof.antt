@@ -1,4 +1,4 @@
--- `exchange::wrong_used_count` meets its contract: it asks both conditions in their order.
+-- `refusals::exchange::wrong_used_count` meets its contract: it asks both conditions in their order.
 use mathlib.Core.Path.{sym, _∙_}
 use borrow.Author.Needs.{needs}
 use Rattle.operations.specs.Exchange.{wrongUsedCount}

@@ -1,4 +1,4 @@
--- `list::list_fault` meets its contract: it asks the conditions in their order.
+-- `refusals::list::list_fault` meets its contract: it asks the conditions in their order.
 use mathlib.Core.Path.{refl, sym, _∙_}
 use borrow.Author.Needs.{needs}
 use borrow.Author.Tests.{lt-ltb, le-ltb}

@@ -1,4 +1,4 @@
--- `run::run_fault` meets its contract: it asks the conditions in their order.
+-- `refusals::run::run_fault` meets its contract: it asks the conditions in their order.
 use mathlib.Core.Path.{refl, sym, _∙_}
 use borrow.Author.Needs.{needs}
 use Rattle.words.specs.Refusal.{Refusals}

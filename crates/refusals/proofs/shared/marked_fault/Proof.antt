@@ -1,4 +1,4 @@
--- `shared::marked_fault` meets its contract: it asks the conditions of 10, 11 and 12 in their order.
+-- `refusals::shared::marked_fault` meets its contract: it asks the conditions of 10, 11 and 12 in their order.
 use mathlib.Core.Path.{refl, sym, _∙_}
 use lib.ListN.{length}
 use borrow.Author.Needs.{needs}

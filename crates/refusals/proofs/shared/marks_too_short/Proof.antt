@@ -1,4 +1,4 @@
--- `shared::marks_too_short` meets its contract: a state set has at most 64 words, so that the product fits.
+-- `refusals::shared::marks_too_short` meets its contract: a state set has at most 64 words, so that the product fits.
 use native.Mathlib.Omega.{arith}
 use Rattle.operations.specs.Run.{marksTooShort}
 use Rattle.operations.proofs.ValueLaws.{words-most}

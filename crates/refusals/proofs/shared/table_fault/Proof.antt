@@ -1,4 +1,4 @@
--- `shared::table_fault` meets its contract: it asks the conditions of 1, 2 and 8 in their order.
+-- `refusals::shared::table_fault` meets its contract: it asks the conditions of 1, 2 and 8 in their order.
 use mathlib.Core.Path.{refl, sym, ap, _∙_}
 use mathlib.Core.Bool.{not}
 use borrow.Author.Needs.{needs}

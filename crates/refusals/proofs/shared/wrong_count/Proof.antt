@@ -1,4 +1,4 @@
--- `shared::wrong_count` meets its contract: it asks both conditions in their order.
+-- `refusals::shared::wrong_count` meets its contract: it asks both conditions in their order.
 use borrow.Author.Tests.{eq-eqb, ne-eqb}
 use Rattle.operations.specs.Run.{wrongCount}
 use Rattle.refusals.proofs.shared.wrong_count.Statement.{statement}

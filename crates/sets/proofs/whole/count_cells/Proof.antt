@@ -1,4 +1,4 @@
--- `whole::count_cells` meets its contract: before each turn the first k words are counted; one may be left.
+-- `sets::whole::count_cells` meets its contract: before each turn the first k words are counted; one may be left.
 use Prim.Native.Nat.{_+_, _-_}
 use native.Mathlib.Omega.{arith}
 use lib.ListN.{length, getD}

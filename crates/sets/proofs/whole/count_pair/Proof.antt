@@ -1,4 +1,4 @@
--- `whole::count_pair` meets its contract: the digits of both words are counted apart.
+-- `sets::whole::count_pair` meets its contract: the digits of both words are counted apart.
 use native.Mathlib.Omega.{arith}
 use Rattle.sets.proofs.CellCountLaws.{pair-ones, pair-few}
 use borrow.Author.Needs.{needs}

@@ -1,4 +1,4 @@
--- `moves::clear_words` meets its contract: the loop copies from a list of zeros.
+-- `slices::moves::clear_words` meets its contract: the loop copies from a list of zeros.
 use Prim.Native.Nat.{ℕ, _+_, _-_, _≤_}
 use mathlib.Core.Path.{_≡_}
 use native.Mathlib.Omega.{arith}

@@ -1,4 +1,4 @@
--- `moves::copy_words` meets its contract: the loop keeps that the first k words are copied.
+-- `slices::moves::copy_words` meets its contract: the loop keeps that the first k words are copied.
 use Prim.Native.Nat.{_-_}
 use mathlib.Core.Path.{refl}
 use native.Mathlib.Omega.{arith}

@@ -1,4 +1,4 @@
--- `moves::move_down` meets its contract: a word is read at or behind the place that is written next, so it is still as it was.
+-- `slices::moves::move_down` meets its contract: a word is read at or behind the place that is written next, so it is still as it was.
 use Prim.Native.Nat.{_-_, _≤_}
 use mathlib.Core.Path.{refl, sym, _∙_}
 use native.Mathlib.Omega.{arith}

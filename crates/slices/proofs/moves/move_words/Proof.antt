@@ -1,4 +1,4 @@
--- `moves::move_words` meets its contract: words moved to their own place stay as they were, and otherwise the direction decides.
+-- `slices::moves::move_words` meets its contract: words moved to their own place stay as they were, and otherwise the direction decides.
 use borrow.Author.Needs.{needs}
 use Rattle.slices.proofs.CopyLaws.{paste-same}
 use Rattle.slices.proofs.moves.move_words.Statement.{statement}

@@ -1,4 +1,4 @@
--- `alphabet::alphabet_fault` meets its contract: it asks the conditions of 1 and 2 in their order.
+-- `words::alphabet::alphabet_fault` meets its contract: it asks the conditions of 1 and 2 in their order.
 use mathlib.Core.Path.{sym}
 use borrow.Author.Needs.{needs}
 use borrow.Author.Tests.{eq-eqb, ne-eqb, lt-ltb, le-ltb}

@@ -1,4 +1,4 @@
--- `alphabet::count_constants` meets its contract. The loop's invariant: `count` of the first `i` entries are constants.
+-- `words::alphabet::count_constants` meets its contract: before each turn `count` of the first `i` entries are constants.
 use mathlib.Core.Path.{_∙_, sym}
 use mathlib.Core.Logic.{⊎-elim}
 use Prim.Native.Nat.{_-_}

@@ -1,4 +1,4 @@
--- `alphabet::is_constant` meets its contract: the first test says whether the alphabet has the symbol.
+-- `words::alphabet::is_constant` meets its contract: the first test says whether the alphabet has the symbol.
 use borrow.Author.Needs.{needs}
 use borrow.Author.Tests.{lt-ltb, le-ltb}
 use Rattle.words.specs.Alphabet.{isConstant, rankOf}

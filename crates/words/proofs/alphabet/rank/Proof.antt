@@ -1,4 +1,4 @@
--- `alphabet::rank` meets its contract: a symbol that the alphabet has not is read as the word 0, whose low byte is 0.
+-- `words::alphabet::rank` meets its contract: a symbol that the alphabet has not is read as the word 0, whose low byte is 0.
 use lib.ListN.{List·getD-eq-default}
 use borrow.Author.Needs.{needs}
 use Rattle.words.specs.Alphabet.{rankOf}

@@ -1,4 +1,4 @@
--- `alphabet::write_constants` meets its contract. The loop's invariant: the constants of the first `i` entries are stored from
+-- `words::alphabet::write_constants` meets its contract: before each turn the constants of the first `i` entries are stored from
 -- the first word of the list on, as far as it reaches, and `n` is their number.
 use mathlib.Core.Path.{_∙_, sym}
 use mathlib.Core.Logic.{⊎-elim}

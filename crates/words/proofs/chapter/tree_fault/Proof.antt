@@ -1,4 +1,4 @@
--- `chapter::tree_fault` meets its contract. The loop's invariant: the words before word i are nodes and make `made` trees, so
+-- `words::chapter::tree_fault` meets its contract: before each turn the words before word i are nodes and make `made` trees, so
 -- that the words from i on decide.
 use mathlib.Core.Path.{_∙_, sym}
 use Prim.Native.Nat.{_-_}

@@ -1,4 +1,4 @@
--- `expression::expression_fault` meets its contract: it asks the conditions of 3, 4 and 5 in their order.
+-- `words::expression::expression_fault` meets its contract: it asks the conditions of 3, 4 and 5 in their order.
 use mathlib.Core.Path.{sym}
 use borrow.Author.Needs.{needs}
 use borrow.Author.Tests.{eq-eqb, ne-eqb, lt-ltb, le-ltb}

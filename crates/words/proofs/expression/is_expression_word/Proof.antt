@@ -1,4 +1,4 @@
--- `expression::is_expression_word` meets its contract: of a word whose spare bits are clear each case has the test of its kind,
+-- `words::expression::is_expression_word` meets its contract: of a word whose spare bits are clear each case has the test of its kind,
 -- and none of the kinds that are left is a rule word's.
 use mathlib.Core.Path.{_≡_, refl, sym, _∙_}
 use mathlib.Core.Bool.{Bool, true, false, not}

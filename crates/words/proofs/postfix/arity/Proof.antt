@@ -1,4 +1,4 @@
--- `postfix::arity` meets its contract: each case has the arity of its kind, and no kind that is left takes children.
+-- `words::postfix::arity` meets its contract: each case has the arity of its kind, and no kind that is left takes children.
 use mathlib.Core.Path.{_≡_, refl, sym, _∙_}
 use mathlib.Core.List.{List, [], _∷_}
 use Prim.Native.Nat.{ℕ}

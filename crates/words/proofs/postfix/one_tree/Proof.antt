@@ -1,4 +1,4 @@
--- `postfix::one_tree` meets its contract. The loop's invariant: the words from `i` on, after the trees so far, make one tree
+-- `words::postfix::one_tree` meets its contract: before each turn the words from `i` on, after the trees so far, make one tree
 -- exactly if all words do.
 use mathlib.Core.Path.{_≡_, _∙_, sym}
 use Prim.Native.Nat.{_-_, _≤_}

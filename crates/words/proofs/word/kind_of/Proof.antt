@@ -1,4 +1,4 @@
--- `word::kind_of` meets its contract: each number has the kind of its case, and any other number has none.
+-- `words::word::kind_of` meets its contract: each number has the kind of its case, and any other number has none.
 use mathlib.Core.Path.{sym}
 use Rattle.words.specs.Word.{kindAt}
 use Rattle.words.proofs.KindLaws.{kindAt-rest}

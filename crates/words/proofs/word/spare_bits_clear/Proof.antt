@@ -1,4 +1,4 @@
--- `word::spare_bits_clear` meets its contract, by what `field_range` answers of the word's kind.
+-- `words::word::spare_bits_clear` meets its contract: what `field_range` answers of the word's kind gives it.
 use borrow.Author.Needs.{needs}
 use Rattle.words.specs.Word.{spareBitsClear}
 use Rattle.words.proofs.word.spare_bits_clear.Statement.{statement}

@@ -1,12 +1,12 @@
--- `emitter::own::index_of` meets its contract. The invariant: c stands at no index below k.
+-- `emitter::own::constant_index` meets its contract: before each turn c stands at no index below k.
 use Prim.Native.Nat.{ℕ, _≤_, _<_, _-_}
 use mathlib.Core.Path.{_≡_}
 use native.Mathlib.Omega.{arith}
 use lib.ListN.{length, getD}
 use borrow.Author.Count.{below-more}
 use borrow.Author.Needs.{needs}
-use Rattle.emitter.proofs.own.index_of.Statement.{statement}
-use Rattle.emitter.proofs.own.index_of.Tie as tie
+use Rattle.emitter.proofs.own.constant_index.Statement.{statement}
+use Rattle.emitter.proofs.own.constant_index.Tie as tie
 
 abbrev Inv-loop : tie.InvT-loop
 Inv-loop constants c k₀ k = (k ≤ length constants) × ((j : ℕ) → j < k → getD constants j 0 ≡ c → ⊥)
@@ -41,8 +41,8 @@ returns-2 c =
     let left = c .loop-test .left in
     absurd (c .before .loop .inv .1 k (omega arith) e)
 
-pub index-of-spec : {M : Type 1} → statement M
-index-of-spec =
+pub constant-index-spec : {M : Type 1} → statement M
+constant-index-spec =
     tie.close
     (tie.spec
     Inv-loop
