@@ -11,7 +11,7 @@ use Rattle.words.specs.Word.{lowByte}
 use Rattle.words.specs.Alphabet.{constantsOf, isConstant}
 use Rattle.words.specs.Postfix.{arity}
 use Rattle.words.specs.Expression.{expressionFault}
-use Rattle.words.proofs.AllLaws.{All, each-append, each-map, all-both, all-self}
+use Rattle.words.proofs.AllLaws.{All, each-append, each-map, each-both, each-self}
 use Rattle.words.proofs.AlphabetLaws.{constantsOf-isConstant, isConstant-zero}
 use Rattle.words.proofs.Ascending.{Ascending, end, next, ascending-le, ascending-append, ascending-one}
 use Rattle.automaton.specs.Transition.{Transition, onSymbol, epsilon}
@@ -117,7 +117,7 @@ module _ (a : List ℕ) where
   entries-constants {x} every =
       numbered-all (λ c. isConstant a c ≡ true) (suc x) (constantsOf a)
       (each-map (λ c. List·Memᴰ c (constantsOf a)) (λ c. isConstant a c ≡ true) (λ c m. constantsOf-isConstant a c .0 m) (constantsOf a)
-      (all-self (constantsOf a)))
+      (each-self (constantsOf a)))
   entries-constants (own c h) = (h, tt)
   entries-constants missing = tt
 
@@ -126,7 +126,7 @@ module _ (a : List ℕ) where
       to-constants (TransitionOver a n) (P .entries)
       (each-map (λ e. (isConstant a (e .0) ≡ true) × (e .1 < n)) (λ e. TransitionOver a n (onSymbol (e .0) [] (e .1)))
       (λ e h. let z = isConstant-zero a (e .0) (h .0) in (z .0, z .1, tt, h .1)) (P .entries)
-      (all-both (λ e. isConstant a (e .0) ≡ true) (λ e. e .1 < n) (P .entries) (entries-constants (p .shape))
+      (each-both (λ e. isConstant a (e .0) ≡ true) (λ e. e .1 < n) (P .entries) (entries-constants (p .shape))
       (entries-below (P .entries) (p .states))))
 
   pub compiled-over : (e : List ℕ) → expressionFault a e ≡ 0 → compiled a e .states ≤ 1024 → AutomatonOver a (compiled a e)

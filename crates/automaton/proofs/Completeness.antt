@@ -8,7 +8,7 @@ use mathlib.Core.List.{List, [], _∷_, _++_, flatMap, List·Memᴰ}
 use lib.Dec.{eqb}
 use borrow.Author.Tests.{eqb-false}
 use Rattle.words.specs.Tree.{Tree, Trees, node, more}
-use Rattle.words.proofs.AllLaws.{All, each-append, each-left, each-right, each-map, all-both}
+use Rattle.words.proofs.AllLaws.{All, each-append, each-left, each-right, each-map, each-both}
 use Rattle.language.specs.Expression.{Expression, Expressions, symbol, empty, union, product, closure, noneᵉ, moreᵉ}
 use Rattle.language.specs.Membership.{Language, Assignment, Substitution, Substitutions, atConstant}
 use Rattle.language.specs.Membership.{atSymbol, atNone, atMore, Product, Step, Member, Members}
@@ -138,7 +138,7 @@ module _ (cs : List ℕ) (ts : List Transition) where
           (to-exit (eqb c c) refl (each-right (ReachedBy ts (σ c)) (entry cs F n c) (straight c) (each c kc)), tt))
       every-step (suc k) =
           each-map (λ q. ReachedBy ts (steps k) q × ReachedBy ts (turn k) q) (ReachedBy ts (steps (suc k))) (either k) loop
-          (all-both (ReachedBy ts (steps k)) (ReachedBy ts (turn k)) loop (every-step k)
+          (each-both (ReachedBy ts (steps k)) (ReachedBy ts (turn k)) loop (every-step k)
           (turned k (each-left (ReachedBy ts (steps k)) (entry cs F n c) (x ∷ []) (every-step k))))
 
   -- the same of a row of parts

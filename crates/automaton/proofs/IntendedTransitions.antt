@@ -3,7 +3,7 @@ use Prim.Native.Nat.{ℕ}
 use mathlib.Core.Logic.{_↔_}
 use mathlib.Core.List.{List, [], _∷_, _++_, flatMap}
 use Rattle.words.specs.Tree.{Tree, Trees, node, none, more}
-use Rattle.words.proofs.AllLaws.{All, each-append, all-at, each-map}
+use Rattle.words.proofs.AllLaws.{All, each-append, each-at, each-map}
 use Rattle.language.specs.Expression.{Expression, Expressions, noneᵉ, moreᵉ}
 use Rattle.language.specs.Membership.{Assignment}
 use Rattle.automaton.specs.Transition.{Transition, onSymbol, epsilon}
@@ -29,8 +29,8 @@ Keeps I (epsilon p q) = (t : Tree) → I p t → I q t
 module _ (I : Intended) (ts : List Transition) (k : All (Keeps I) ts) where
   mutual
     pub intended : {q : ℕ} {t : Tree} → Reaches ts q t → I q t
-    intended (onNode {us = us} m r) = all-at (Keeps I) ts k m us (intended-all r)
-    intended (onEpsilon {t = t} m r) = all-at (Keeps I) ts k m t (intended r)
+    intended (onNode {us = us} m r) = each-at (Keeps I) ts k m us (intended-all r)
+    intended (onEpsilon {t = t} m r) = each-at (Keeps I) ts k m t (intended r)
 
     intended-all : {ps : List ℕ} {us : Trees} → ReachesAll ts ps us → Intend I ps us
     intended-all onNone = tt

@@ -8,7 +8,7 @@ use mathlib.Core.List.{List, [], List·Memᴰ}
 use lib.Dec.{eqb}
 use borrow.Author.Tests.{eqb-true, eqb-false}
 use Rattle.words.specs.Tree.{Tree}
-use Rattle.words.proofs.AllLaws.{All, each-map, all-both, all-self}
+use Rattle.words.proofs.AllLaws.{All, each-map, each-both, each-self}
 use Rattle.language.specs.Expression.{Expression, symbol, empty, union, product, closure, noneᵉ, moreᵉ}
 use Rattle.language.specs.Membership.{Language, Assignment}
 use Rattle.language.proofs.SubstitutionLaws.{assigned}
@@ -43,7 +43,7 @@ module _ (ts : List Transition) where
 
 module _ (cs : List ℕ) where
   numbered-listed : (n : ℕ) → All (λ e. List·Memᴰ (e .0) cs) (numbered n cs)
-  numbered-listed n = numbered-all (λ c. List·Memᴰ c cs) n cs (all-self cs)
+  numbered-listed n = numbered-all (λ c. List·Memᴰ c cs) n cs (each-self cs)
 
   entries-listed : (E : Expression) (n : ℕ) → ConstantsListed cs E → All (λ e. List·Memᴰ (e .0) cs) (entryStates cs E n)
   entries-listed (symbol c noneᵉ) n k = (k .0, tt)
@@ -67,7 +67,7 @@ module _ (cs : List ℕ) where
               (λ e b. each-map (λ p. Present ts (epsilon (e .1) p)) (ReachedBy ts (σ (e .0))) (λ p j t s. onEpsilon j (b .0 t s))
               (targets (e .0)) (b .1))
               (numbered n cs)
-              (all-both (λ e. ReachedBy ts (σ (e .0)) (e .1)) (λ e. All (λ p. Present ts (epsilon (e .1) p)) (targets (e .0)))
+              (each-both (λ e. ReachedBy ts (σ (e .0)) (e .1)) (λ e. All (λ p. Present ts (epsilon (e .1) p)) (targets (e .0)))
               (numbered n cs) f (of-entryEpsilons (Present ts) targets (numbered n cs) h))
 
     -- the entries of a part, from the listed constants

@@ -8,7 +8,7 @@ use lib.ListN.{length}
 use Rattle.words.specs.Alphabet.{rankOf, constantsOf}
 use Rattle.words.specs.Tree.{Tree}
 use Rattle.words.proofs.AlphabetLaws.{zero-isConstant, constantsOf-isConstant}
-use Rattle.words.proofs.AllLaws.{all-self, each-left, each-right, each-map}
+use Rattle.words.proofs.AllLaws.{each-self, each-left, each-right, each-map}
 use Rattle.language.specs.Expression.{Expression, Expressions, symbol, empty, union, product, closure, noneᵉ}
 use Rattle.language.specs.Expression.{moreᵉ, numberᵉ, expressionWords, ExpressionOver, ExpressionsOver}
 use Rattle.language.specs.Membership.{Member}
@@ -36,11 +36,11 @@ module _ (cs : List ℕ) (E : Expression) where
   member-reaches : ConstantsListed cs E → (t : Tree) → Member E t → Reaches ts (exitState cs E 0) t
   member-reaches k t m =
       complete-expression cs ts E 0 k
-      (each-right (Present ts) (constantTransitions (entryStates cs E 0)) (transitionsOf cs E 0) (all-self ts)) itself
+      (each-right (Present ts) (constantTransitions (entryStates cs E 0)) (transitionsOf cs E 0) (each-self ts)) itself
       (each-map (λ e. Present ts (onSymbol (e .0) [] (e .1))) (λ e. ReachedBy ts (itself (e .0)) (e .1))
       (λ e l s p. subst (λ z. Reaches ts (e .1) z) (sym p) (onNode l onNone)) (entryStates cs E 0)
       (of-constants (Present ts) (entryStates cs E 0)
-      (each-left (Present ts) (constantTransitions (entryStates cs E 0)) (transitionsOf cs E 0) (all-self ts))))
+      (each-left (Present ts) (constantTransitions (entryStates cs E 0)) (transitionsOf cs E 0) (each-self ts))))
       t (t, m, substitution-same t)
 
   pub thompson-tree : ConstantsListed cs E → (t : Tree) → Reaches ts (exitState cs E 0) t ↔ Member E t

@@ -17,7 +17,6 @@ use Rattle.automaton.specs.StateSet.{StateSet, stateSet}
 use Rattle.operations.specs.Marks.{sizeOf, nodeSet, storedSet}
 use Rattle.step.specs.Ready.{RowsInside, Prepared}
 use Rattle.closures.proofs.FollowLaws.{states-most}
-use Rattle.step.proofs.SymbolLaws.{prepared-checked}
 use Rattle.slices.proofs.RefitLaws.{take-drop}
 use Rattle.sets.proofs.StoredLaws.{row-inside, stored-written}
 use Rattle.memo.specs.Memo.{setOver, NextMarkable, MarkedNext}
@@ -136,18 +135,13 @@ module _ {a table index ch : List ℕ} {i : ℕ} {marks array : List ℕ} {heigh
   row : i * sizeOf table + sizeOf table ≤ length marks
   row = row-inside i (length ch) (sizeOf table) (length marks) (g .inside) (g .workable .marks-fit)
 
-  ready : Prepared table index (symbolOf (getD ch i 0)) marks (drop (4 - r) four)
-  ready =
+  prepared : Prepared table index (symbolOf (getD ch i 0)) marks (drop (4 - r) four)
+  prepared =
       record {
-        ready = record {
-          alphabet = a;
-          short = g .workable .alphabet;
-          checked = g .workable .checked;
-          symbol-below = omega arith;
-          rank = sym e ∙ sym part-length;
-          rows = rows-inside;
-        };
-        indexed = g .indexed;
+        indexed = record { alphabet = a; short = g .workable .alphabet; checked = g .workable .checked; indexed = g .indexed };
+        symbol-below = omega arith;
+        rank = sym e ∙ sym part-length;
+        rows = rows-inside;
       }
 
   pub node-next : NextMarkable table index (symbolOf (getD ch i 0)) marks four r i keys known places owners rows pending
@@ -156,9 +150,9 @@ module _ {a table index ch : List ℕ} {i : ℕ} {marks array : List ℕ} {heigh
       record {
         new = record {
           steppable = record {
-            prepared = ready;
+            prepared = prepared;
             closures = k .closures;
-            fits = omega (arith, states-most (prepared-checked ready), k .pending-are);
+            fits = omega (arith, states-most (prepared .indexed), k .pending-are);
           };
           few = few;
           row = row;

@@ -16,7 +16,8 @@ use Rattle.automaton.proofs.ClosureLaws.{targets-below, seeded-closed-all, word
 use Rattle.automaton.proofs.SetLength.{length-stateSet}
 use Rattle.automaton.proofs.TableLaws.{isTable-automaton, isTable-sizes}
 use Rattle.operations.specs.Marks.{sizeOf}
-use Rattle.step.specs.Ready.{Ready, childSets}
+use Rattle.index.specs.Index.{IndexedTable}
+use Rattle.step.specs.Ready.{Prepared, childSets}
 use Rattle.step.specs.Node.{Growing, Steppable, SymbolFollowable, SymbolFollowed}
 use Rattle.closures.proofs.TransitionStartLaws.{member-starts, table-transitions}
 use Rattle.closures.proofs.KeyedWordLaws.{starts-symbol, starts-target}
@@ -61,7 +62,7 @@ words-zeros x n w i = rw (zeros-at x n i) (w i)
 
 -- ---- the node's state set
 
-module _ {table : List ℕ} {f : ℕ} {marks children : List ℕ} (ready : Ready table f marks children) (rs : List StateSet) (r : StateSet)
+module _ {table index : List ℕ} {f : ℕ} (indexed : IndexedTable table index) (rs : List StateSet) (r : StateSet)
     (owners rows : List ℕ) (g : SymbolFollowed table f rs r owners rows) where
   A : Automaton
   A = automatonOf table
@@ -71,7 +72,7 @@ module _ {table : List ℕ} {f : ℕ} {marks children : List ℕ} (ready : Ready
   seeded ps q m e =
       let s =
       member-starts table (onSymbol f ps q)
-      (subst (List·Memᴰ (onSymbol f ps q)) (sym (table-transitions (ready .alphabet) table (ready .checked))) m) in
+      (subst (List·Memᴰ (onSymbol f ps q)) (sym (table-transitions (indexed .alphabet) table (indexed .checked))) m) in
       let t = starts-target table (s .index) (s .member) in
       rw (t .1) (g .satisfied (s .index) (s .inside) (starts-symbol table (s .index) (s .member)) (rw (t .0) at e))
 
@@ -84,9 +85,9 @@ module _ {table : List ℕ} {f : ℕ} {marks children : List ℕ} (ready : Ready
   unfolding A sizeOf
   whole =
       let x = stateSet A f rs in
-      let most = isTable-sizes (ready .alphabet) table (ready .checked) .size-most in
-      let short = ready .short in
-      let below = targets-below (isTable-automaton (ready .alphabet) (omega arith) table (ready .checked)) in
+      let most = isTable-sizes (indexed .alphabet) table (indexed .checked) .size-most in
+      let short = indexed .short in
+      let below = targets-below (isTable-automaton (indexed .alphabet) (omega arith) table (indexed .checked)) in
       let long : length (x ++ replicate (32 - sizeFor (A .states)) 0) ≡ 32 =
       rw (length-append, length-stateSet A f rs, length-replicate {A = ℕ}) (omega arith) in
       contains-determines r (x ++ replicate (32 - sizeFor (A .states)) 0) (g .growing .size ∙ sym long) (g .growing .words)
@@ -96,9 +97,10 @@ module _ {table : List ℕ} {f : ℕ} {marks children : List ℕ} (ready : Ready
       (λ e. contains-zeros x (32 - sizeFor (A .states)) q ∙ stateSet-reached A f rs below q .1 (g .growing .reached q e))
       (λ e. has-reached (stateSet-reached A f rs below q .0 (sym (contains-zeros x (32 - sizeFor (A .states)) q) ∙ e))))
 
-pub node-end : {table : List ℕ} {f size : ℕ} {marks children owners rows : List ℕ} → Ready table f marks children → size ≡ sizeOf table
+pub node-end : {table index : List ℕ} {f size : ℕ} {marks children owners rows : List ℕ} → Prepared table index f marks children
+    → size ≡ sizeOf table
     → {r : StateSet} → SymbolFollowed table f (childSets size marks children) r owners rows
     → r ≡ stateSet (automatonOf table) f (childSets (sizeOf table) marks children) ++ replicate (32 - sizeOf table) 0
-node-end {table} {f} {size} {marks} {children} {owners} {rows} ready e {r} g =
-    whole ready (childSets size marks children) r owners rows g
+node-end {table} {index} {f} {size} {marks} {children} {owners} {rows} p e {r} g =
+    whole (p .indexed) (childSets size marks children) r owners rows g
     ∙ ap (λ (k : ℕ). stateSet (automatonOf table) f (childSets k marks children) ++ replicate (32 - sizeOf table) 0) e

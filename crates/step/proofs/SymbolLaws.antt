@@ -24,11 +24,6 @@ use Rattle.index.proofs.ChainLaws.{FirstWith, SymbolWord, nextWith, next-some, 
 use Rattle.closures.proofs.KeyedWordLaws.{symbol-below, symbol-reached, symbol-sources}
 use Rattle.closures.proofs.FollowLaws.{InChain, left, states-most, keyed, chain-first, in-chain, chain-next, left-less}
 
-pub prepared-checked : {table index : List ℕ} {f : ℕ} {marks children : List ℕ} → Prepared table index f marks children
-    → IndexedTable table index
-prepared-checked p =
-    record { alphabet = p .ready .alphabet; short = p .ready .short; checked = p .ready .checked; indexed = p .indexed }
-
 -- what is reached from a reached state is reached
 reached-on : {ts : List Transition} {f : ℕ} {rs : List StateSet} {s q : ℕ} → ReachedFrom ts s q → Reached ts f rs s → Reached ts f rs q
 reached-on itself h = h
@@ -45,10 +40,10 @@ module _ {table index : List ℕ} {size : ℕ} {marks children owners rows pendi
   rs = childSets size marks children
 
   checked : IndexedTable table index
-  checked = prepared-checked (g .followable .steppable .prepared)
+  checked = g .followable .steppable .prepared .indexed
 
   symbol : SymbolWord (getD table i 0) (keyOf (getD table i 0))
-  symbol = keyed-symbol (getD table i 0) refl (g .followable .steppable .prepared .ready .symbol-below)
+  symbol = keyed-symbol (getD table i 0) refl (g .followable .steppable .prepared .symbol-below)
 
   target-below : stateBelow (getD table i 0) < automatonOf table .states
   target-below = symbol-below checked i (g .inside) symbol
@@ -58,15 +53,15 @@ module _ {table index : List ℕ} {size : ℕ} {marks children owners rows pendi
 
   -- a transition on the node's symbol has as many part states as the node has children
   pub transition-sources : SourcesReadable table (i + 1) size marks children
-  unfolding checked prepared-checked
+  unfolding checked
   transition-sources =
       record {
-        count = sym (symbol-sources checked i (g .inside) symbol) ∙ g .followable .steppable .prepared .ready .rank;
-        rows = subst (λ k. RowsInside k marks children) (sym (g .followable .size-is)) (g .followable .steppable .prepared .ready .rows);
+        count = sym (symbol-sources checked i (g .inside) symbol) ∙ g .followable .steppable .prepared .rank;
+        rows = subst (λ k. RowsInside k marks children) (sym (g .followable .size-is)) (g .followable .steppable .prepared .rows);
       }
 
   pub transition-joinable : Joinable table index (stateBelow (getD table i 0)) owners rows pending r
-  unfolding checked prepared-checked
+  unfolding checked
   transition-joinable =
       let k = g .followable .growing in
       let short = checked .short in
@@ -124,8 +119,8 @@ module _ {table index : List ℕ} {f size : ℕ} {marks children owners rows pen
   pub symbol-first : SymbolFollowable table index f size marks children owners rows pending r
       → SymbolAt table index f size marks children owners rows pending r (length pending) (getD index f 0)
   symbol-first g =
-      let c = prepared-checked (g .steppable .prepared) in
-      let small = g .steppable .prepared .ready .symbol-below in
+      let c = g .steppable .prepared .indexed in
+      let small = g .steppable .prepared .symbol-below in
       record {
         followable = g;
         from = 0;
@@ -136,10 +131,10 @@ module _ {table index : List ℕ} {f size : ℕ} {marks children owners rows pen
 
   module _ {pendingLength i : ℕ} (s : SymbolAt table index f size marks children owners rows pending r pendingLength i) where
     chain : IndexedTable table index
-    chain = prepared-checked (s .followable .steppable .prepared)
+    chain = s .followable .steppable .prepared .indexed
 
     key-below : f < 1280
-    key-below = let small = s .followable .steppable .prepared .ready .symbol-below in omega arith
+    key-below = let small = s .followable .steppable .prepared .symbol-below in omega arith
 
     pub symbol-end : i ≤ 0 → SymbolFollowed table f (childSets size marks children) r owners rows
     symbol-end h =

@@ -19,21 +19,21 @@ module _ {A : Type 0} (P : A → Type 0) where
   each-right [] ys p = p
   each-right (x ∷ xs) ys p = each-right xs ys (p .1)
 
-  pub all-at : {x : A} (xs : List A) → All P xs → List·Memᴰ x xs → P x
-  all-at (y ∷ ys) p (List·Memᴰ·head e) = subst P (sym e) (p .0)
-  all-at (y ∷ ys) p (List·Memᴰ·tail m) = all-at ys (p .1) m
+  pub each-at : {x : A} (xs : List A) → All P xs → List·Memᴰ x xs → P x
+  each-at (y ∷ ys) p (List·Memᴰ·head e) = subst P (sym e) (p .0)
+  each-at (y ∷ ys) p (List·Memᴰ·tail m) = each-at ys (p .1) m
 
 module _ {A : Type 0} (P Q : A → Type 0) where
   pub each-map : ((x : A) → P x → Q x) → (xs : List A) → All P xs → All Q xs
   each-map h [] p = tt
   each-map h (x ∷ xs) p = (h x (p .0), each-map h xs (p .1))
 
-  pub all-both : (xs : List A) → All P xs → All Q xs → All (λ x. P x × Q x) xs
-  all-both [] p q = tt
-  all-both (x ∷ xs) p q = ((p .0, q .0), all-both xs (p .1) (q .1))
+  pub each-both : (xs : List A) → All P xs → All Q xs → All (λ x. P x × Q x) xs
+  each-both [] p q = tt
+  each-both (x ∷ xs) p q = ((p .0, q .0), each-both xs (p .1) (q .1))
 
 -- every member of a list is in it
-pub all-self : {A : Type 0} (xs : List A) → All (λ x. List·Memᴰ x xs) xs
-all-self [] = tt
-all-self (x ∷ xs) =
-    (List·Memᴰ·head refl, each-map (λ y. List·Memᴰ y xs) (λ y. List·Memᴰ y (x ∷ xs)) (λ y m. List·Memᴰ·tail m) xs (all-self xs))
+pub each-self : {A : Type 0} (xs : List A) → All (λ x. List·Memᴰ x xs) xs
+each-self [] = tt
+each-self (x ∷ xs) =
+    (List·Memᴰ·head refl, each-map (λ y. List·Memᴰ y xs) (λ y. List·Memᴰ y (x ∷ xs)) (λ y m. List·Memᴰ·tail m) xs (each-self xs))

@@ -1,7 +1,7 @@
 -- Lists in which nothing stands twice.
 use mathlib.Core.Logic.{⊎-elim}
 use mathlib.Core.List.{List, [], _∷_, _++_, List·Memᴰ, List·Memᴰ·append-cases}
-use Rattle.words.proofs.AllLaws.{All, all-at}
+use Rattle.words.proofs.AllLaws.{All, each-at}
 
 abbrev pub Distinct : {A : Type 0} → List A → Type 0
 Distinct [] = Unit {0}
@@ -12,6 +12,6 @@ pub distinct-append : {A : Type 0} (P Q : A → Type 0) → ((x : A) → P x →
     → Distinct xs → Distinct ys → Distinct (xs ++ ys)
 distinct-append P Q apart [] ys p q d e = e
 distinct-append P Q apart (x ∷ xs) ys p q d e = (
-  λ m. ⊎-elim (λ k. d .0 k) (λ k. apart x (p .0) (all-at Q ys q k)) (List·Memᴰ·append-cases xs m),
+  λ m. ⊎-elim (λ k. d .0 k) (λ k. apart x (p .0) (each-at Q ys q k)) (List·Memᴰ·append-cases xs m),
   distinct-append P Q apart xs ys (p .1) q (d .1) e,
 )

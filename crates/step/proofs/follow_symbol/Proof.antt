@@ -4,7 +4,7 @@ use Prim.Native.Nat.{_+_}
 use native.Mathlib.Omega.{arith}
 use lib.ListN.{length}
 use Rattle.closures.proofs.FollowLaws.{left, index-long}
-use Rattle.step.proofs.SymbolLaws.{SymbolAt, prepared-checked, symbol-first, symbol-in}
+use Rattle.step.proofs.SymbolLaws.{SymbolAt, symbol-first, symbol-in}
 use Rattle.step.proofs.SymbolLaws.{symbol-at, symbol-less, symbol-more, symbol-end}
 use borrow.Author.Needs.{needs}
 use Rattle.step.proofs.follow_symbol.Statement.{statement}
@@ -18,12 +18,12 @@ abbrev μ-loop : tie.MeasureT-loop
 μ-loop table index symbol size marks children owners₀ rows₀ pending₀ set₀ i₀ owners rows pending set i = left table i
 
 mul-i : tie.Need-mul-i Inv-loop μ-loop
-mul-i c = omega (arith, c .before .before .before .before .before .before .before .before .pre .steppable .prepared .ready .symbol-below)
+mul-i c = omega (arith, c .before .before .before .before .before .before .before .before .pre .steppable .prepared .symbol-below)
 
 shared-slice-read-i : tie.Need-shared-slice-read-i Inv-loop μ-loop
 shared-slice-read-i c =
     let g = c .before .before .before .before .before .before .before .before .before .pre .steppable .prepared in
-    omega (arith, g .ready .symbol-below, index-long (prepared-checked g))
+    omega (arith, g .symbol-below, index-long (g .indexed))
 
 cast-i : tie.Need-cast-i Inv-loop μ-loop
 cast-i c =

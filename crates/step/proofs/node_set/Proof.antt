@@ -29,7 +29,7 @@ returns c =
     let s = c .before .before .before .before .before .before .before .follow-symbol .ensures in (
       node-end
           (c .before .before .before .before .before .before .before .before .before .before .before .before .before .before .before .before
-          .before .before .before .before .pre .prepared .ready)
+          .before .before .before .before .pre .prepared)
           (c .before .before .before .before .before .before .before .before .before .before .before .before .set-size .ensures) s,
       s .closures,
     )
