@@ -11,7 +11,7 @@ use Rattle.words.proofs.ListLaws.{sets-whole}
 use Rattle.automaton.specs.Numbering.{statesAfter, compiled}
 use Rattle.words.specs.Answer.{refused, accepted}
 use Rattle.operations.specs.Compile.{compiledTable, tooManyStates, tableTooLong, compileFault, compileAnswer, compileExit}
-use Rattle.operations.proofs.AcceptedLaws.{rule-alphabet, rule-expression, CompilePassed, compile-passed}
+use Rattle.operations.proofs.AcceptedLaws.{rule-alphabet, rule-expression, CompileAccepted, compile-accepted}
 use Rattle.compiler.specs.Compiling.{Accepted}
 
 -- ---- 6 and 7
@@ -50,8 +50,8 @@ module _ (a e slice : List ℕ) (f : ℕ) (h : f ≡ compileFault a e (length sl
   accepted-answer n z t = let k : n ≡ length (compiledTable a e) = omega arith in rw (← h, eq-eqb f 0 z, k)
 
   module _ (z : f ≡ 0) where
-    passed : CompilePassed a e (length slice)
-    passed = compile-passed a e (length slice) (sym h ∙ z)
+    passed : CompileAccepted a e (length slice)
+    passed = compile-accepted a e (length slice) (sym h ∙ z)
 
     pub accepted-parts : Accepted a e
     accepted-parts = record { alphabet = rule-alphabet (passed .rule); expression = rule-expression (passed .rule) }

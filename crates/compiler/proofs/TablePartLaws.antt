@@ -13,11 +13,11 @@ use Rattle.words.specs.Expression.{isExpressionWord}
 use Rattle.words.proofs.TestLaws.{and-true, all-right}
 use Rattle.automaton.specs.Transition.{transitionsWords}
 use Rattle.automaton.specs.Numbering.{Port, statesOf, portOf, childPort, portsFrom, statesAfter, transitionsFrom, lastPort, compiled}
+use Rattle.automaton.specs.Numbering.{constantTransitions}
 use Rattle.automaton.proofs.TransitionLaws.{transitionsWords-append}
 use Rattle.operations.specs.Compile.{compiledTable}
 use Rattle.emitter.specs.Writing.{WordsWritten}
 use Rattle.ports.specs.Ports.{portIn}
-use Rattle.emitter.specs.Emission.{constantTransitions}
 use Rattle.emitter.proofs.WritingLaws.{words-written-more, words-written-same}
 
 -- ---- the last word

@@ -7,7 +7,6 @@ use lib.ListN.{length, getD, drop}
 use lib.Dec.{eqb}
 use Rattle.words.specs.Word.{numberOf, lowByte, closureKind, productKind, unionKind, kindNumber}
 use Rattle.automaton.specs.Numbering.{symbolTargets}
-pub use Rattle.automaton.specs.Numbering.{constantTransitions}
 use Rattle.emitter.specs.Writing.{lastIndex}
 use Rattle.emitter.specs.declared.entries.Targets.{Targets}
 use Rattle.emitter.specs.declared.entries.Targets.the-variants.{Children, Product, Closure}

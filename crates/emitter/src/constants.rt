@@ -1,10 +1,10 @@
 // "the symbol moves of the constants into the last word's entries, in symbol order".
 ghost use Prim.Native.Nat.{suc, _+_, _<_};
 ghost use Rattle.automaton.specs.Transition.{transitionsWords};
-ghost use Rattle.automaton.specs.Numbering.{numbered};
+ghost use Rattle.automaton.specs.Numbering.{numbered, constantTransitions};
 ghost use Rattle.emitter.specs.Writing.{WordsWritten};
 ghost use Rattle.ports.specs.Ports.{portIn};
-ghost use Rattle.emitter.specs.Emission.{ConstantsEmittable, constantTransitions};
+ghost use Rattle.emitter.specs.Emission.{ConstantsEmittable};
 use super::writer::push_transition;
 use ports::port::EVERY;
 use ports::port::EXIT_UNIT;

@@ -23,7 +23,7 @@ use Rattle.operations.proofs.MarksLaws.{length-flatten, take-refit}
 use Rattle.operations.proofs.RuleLaws.{follows-length, follows-outcomes}
 use Rattle.nodes.proofs.LoopLaws.{setAt}
 use Rattle.nodes.proofs.LoopLaws as loops
-use Rattle.exchanger.proofs.UpwardLoop.{upwards}
+use Rattle.exchanger.proofs.PropagateSets.{propagateSets}
 use Rattle.exchanger.proofs.ExchangeLoops.{movedSets, replacedSets, exchangedSets, exchangedSets-outcomes}
 use Rattle.exchanger.proofs.ExchangeLoops.{length-movedSets, length-replacedSets, words-behind}
 use Rattle.nodes.specs.Nodes.{setFrom, markedFrom}
@@ -32,7 +32,7 @@ use Rattle.propagation.specs.declared.Progress.{Progress}
 use Rattle.propagation.specs.Propagation.{propagateStep, propagateFrom, initial}
 use Rattle.exchanger.specs.Exchanging.{exchangedFrom}
 use Rattle.propagation.proofs.PropagationLaws.{recomputed-is, step-ancestor, propagate-continues, propagate-stops}
-use Rattle.exchanger.proofs.UpwardLaws.{Upward, Same, propagate-upwards}
+use Rattle.exchanger.proofs.PropagateSetsLaws.{Propagating, Same, propagate-propagateSets}
 use Rattle.exchanger.proofs.TailLaws.{tail-filled}
 use Rattle.exchanger.proofs.CallNumberLaws.{CallNumbers, call-numbers, accepted-call, length-used, chapter-movable}
 use Rattle.exchanger.proofs.MovedLaws.{gapSets, behindUse}
@@ -176,10 +176,10 @@ module _ (a table chapter marks : List ℕ) (n element : ℕ) (xs : List ℕ) (o
 
     behind : (t : Progress) → t .reach ≡ 1 → t .recomputed ≡ length xs
         → Same a table tree used element rest above
-        (propagateFrom a table tree (suc (s + m)) left work t) (upwards a table tree above (s + length xs) left rows (length xs))
+        (propagateFrom a table tree (suc (s + m)) left work t) (propagateSets a table tree above (s + length xs) left rows (length xs))
     behind t r c =
         let g = accepted-call a table chapter marks n element xs ok in
-        let at : Upward a table tree used element rest above (s + length xs) (element + 1) 0 left work rows = record {
+        let at : Propagating a table tree used element rest above (s + length xs) (element + 1) 0 left work rows = record {
           words =
               λ t. sym (getD-drop (s + length xs) tree t 0)
               ∙ ap (λ (l : List ℕ). getD l t 0)
@@ -195,8 +195,8 @@ module _ (a table chapter marks : List ℕ) (n element : ℕ) (xs : List ℕ) (o
         rw first
         (subst
         (λ (i : ℕ). Same a table tree used element rest above (propagateFrom a table tree (s + length xs) left work t)
-        (upwards a table tree above (s + length xs) left rows i))
-        c (propagate-upwards a table tree used element rest above left (s + length xs) (element + 1) 0 work rows t r at))
+        (propagateSets a table tree above (s + length xs) left rows i))
+        c (propagate-propagateSets a table tree used element rest above left (s + length xs) (element + 1) 0 work rows t r at))
 
     -- ---- both loops
 
@@ -221,14 +221,14 @@ module _ (a table chapter marks : List ℕ) (n element : ℕ) (xs : List ℕ) (o
         (recomputed-is a table tree (s + m) before b h)
 
     abbrev up : List StateSet × ℕ
-    up = upwards a table tree above (s + length xs) left rows (length xs)
+    up = propagateSets a table tree above (s + length xs) left rows (length xs)
 
     sets-is : exchangedSets a table stored used element xs gap ≡ cond (sameWords new old) (rows, length xs) up
     unfolding exchangedSets
     sets-is =
         ap
         (λ (i : ℕ). cond (sameWords (setAt (replaced i) (s + length xs - 1)) (stored element)) (replaced i, length xs)
-        (upwards a table tree above (s + length xs) left (replaced i) (length xs)))
+        (propagateSets a table tree above (s + length xs) left (replaced i) (length xs)))
         some
         ∙ ap (λ (b : Bool). cond b (rows, length xs) up) tests
 

@@ -24,7 +24,7 @@ use Rattle.operations.proofs.PropagateLaws.{sets-kept, count-kept}
 use Rattle.operations.proofs.OutcomeLaws.{sets-recomputed, root-read}
 use Rattle.operations.proofs.OutcomeParts.{recomputed-parts}
 use Rattle.nodes.proofs.LoopLaws.{setAt, setFromSets, Recomputing, recomputing-none, recomputing-more}
-use Rattle.exchanger.proofs.UpwardLoop.{upwards, upwards-is}
+use Rattle.exchanger.proofs.PropagateSets.{propagateSets, propagateSets-is}
 
 module _ (a table : List ℕ) (stored : ℕ → StateSet) (ch : List ℕ) (element : ℕ) (x : List ℕ) (gap : List StateSet) where
   abbrev s : ℕ
@@ -50,7 +50,7 @@ module _ (a table : List ℕ) (stored : ℕ → StateSet) (ch : List ℕ) (eleme
   exchangedSets =
       cond (sameWords (setAt (replacedSets (length x)) (s + length x - 1)) (stored element))
       (replacedSets (length x), length x)
-      (upwards a table tree (λ i. isAncestor a ch element (i - (s + length x) + (element + 1))) (s + length x) (length behind)
+      (propagateSets a table tree (λ i. isAncestor a ch element (i - (s + length x) + (element + 1))) (s + length x) (length behind)
       (replacedSets (length x)) (length x))
 
   module _ (he : element < length ch) (hx : oneTree a x ≡ true) (some : 0 < length x) (hg : length gap ≡ length x) where
@@ -197,7 +197,7 @@ module _ (a table : List ℕ) (stored : ℕ → StateSet) (ch : List ℕ) (eleme
             (sym (add-zero (length x)) ∙ ap (λ (i : ℕ). length x + i) (sym (count-kept stored (length behind) (element + 1)))))
         go (fails b) =
             rw (root-replaced, b)
-            (upwards-is a table tree stored (λ i. isAncestor a ch element (i - (s + length x) + (element + 1)))
+            (propagateSets-is a table tree stored (λ i. isAncestor a ch element (i - (s + length x) + (element + 1)))
             (isAncestor a ch element) behind (s + length x) (element + 1)
             (replacedSets (length x)) (length x) (rootSet a table x ∷ σ) words-behind
             (λ t. ap (isAncestor a ch element) (omega arith))

@@ -1,7 +1,7 @@
-pub mod UpwardLoop
+pub mod PropagateSets
 pub mod ExchangeLoops
 pub mod TailLaws
-pub mod UpwardLaws
+pub mod PropagateSetsLaws
 pub mod CallNumberLaws
 pub mod MovedLaws
 pub mod ExchangeLaws

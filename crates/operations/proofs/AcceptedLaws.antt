@@ -163,15 +163,15 @@ module _ {a e : List ℕ} (g : RuleAccepted a e) where
   rule-expression = none-refusal (expressionRefusals a e) (g .few, (g .words, (g .tree, tt)))
 
 -- `tableLength` is the length of the table slice
-pub record CompilePassed (a e : List ℕ) (tableLength : ℕ) : Type 0 where
+pub record CompileAccepted (a e : List ℕ) (tableLength : ℕ) : Type 0 where
   -- 1 to 6
   pub rule : RuleAccepted a e
   -- 7
   pub fits : length (compiledTable a e) ≤ tableLength
 
-pub compile-passed : (a e : List ℕ) (tableLength : ℕ) → compileFault a e tableLength ≡ 0 → CompilePassed a e tableLength
+pub compile-accepted : (a e : List ℕ) (tableLength : ℕ) → compileFault a e tableLength ≡ 0 → CompileAccepted a e tableLength
 unfolding tableTooLong
-compile-passed a e tableLength h =
+compile-accepted a e tableLength h =
     let p = parts-pass (ruleRefusals a e) ((7, tableTooLong a e tableLength) ∷ []) refl h in
     record {
       rule = rule-accepted a e (p .0);

@@ -30,7 +30,7 @@ use Rattle.operations.specs.Compile.{compileAnswer, compileExit}
 use Rattle.operations.specs.Marks.{sizeOf, nodeSet, ReachedSet, nodeSets, storedSet}
 use Rattle.operations.specs.Run.{runFault, runMarks, runAnswer, runExit}
 use Rattle.operations.proofs.AcceptedLaws.{accepted-values, RunAccepted, run-accepted}
-use Rattle.operations.proofs.CompileLaws.{compile-accepted}
+use Rattle.operations.proofs.CompileLaws.{compile-result}
 use Rattle.operations.proofs.MarksLaws.{length-nodeSet, sized-nodeSets, length-nodeSets, storedSet-flatten, stored-right}
 use Rattle.operations.proofs.RunLaws.{run-writes, run-exit, node-tree}
 
@@ -109,5 +109,5 @@ module _ (a table ch marks : List ℕ) (n cells : ℕ) (h : runAnswer a table ch
 pub compiled-passes : (a e slice : List ℕ) (k : ℕ) → compileAnswer a e slice ≡ accepted (k ∷ [])
     → (noTable a (take k (compileExit a e slice)) ≡ false) × (k ≤ 1147)
 compiled-passes a e slice k h =
-    let c = compile-accepted a e slice k h in
+    let c = compile-result a e slice k h in
     (rw (c .table) (c .passes), rw (c .count) (c .most))

@@ -20,10 +20,10 @@ use Rattle.automaton.proofs.CompiledOver.{compiled-over}
 use Rattle.automaton.proofs.CompiledTable.{compiled-isTable, table-most}
 use Rattle.words.specs.Answer.{accepted}
 use Rattle.operations.specs.Compile.{compiledTable, compileFault, compileAnswer, compileExit}
-use Rattle.operations.proofs.AcceptedLaws.{accepted-values, compile-passed, rule-alphabet, rule-expression}
+use Rattle.operations.proofs.AcceptedLaws.{accepted-values, compile-accepted, rule-alphabet, rule-expression}
 
 -- an accepted call that answers k
-pub record CompileAccepted (a e slice : List ℕ) (k : ℕ) : Type 0 where
+pub record CompileResult (a e slice : List ℕ) (k : ℕ) : Type 0 where
   pub alphabet : noAlphabet a ≡ false
   pub few : length a ≤ 64
   pub expression : ExactlyOne (ExpressionOf a e)
@@ -37,11 +37,11 @@ pub record CompileAccepted (a e slice : List ℕ) (k : ℕ) : Type 0 where
   -- "No compiled table takes more than 1,147 words."
   pub most : length (compiledTable a e) ≤ 1147
 
-pub compile-accepted : (a e slice : List ℕ) (k : ℕ) → compileAnswer a e slice ≡ accepted (k ∷ []) → CompileAccepted a e slice k
+pub compile-result : (a e slice : List ℕ) (k : ℕ) → compileAnswer a e slice ≡ accepted (k ∷ []) → CompileResult a e slice k
 unfolding compileAnswer compileExit noTable
-compile-accepted a e slice k h =
+compile-result a e slice k h =
     let v = accepted-values (compileFault a e (length slice)) (length (compiledTable a e) ∷ []) (k ∷ []) h in
-    let f = compile-passed a e (length slice) (v .0) .rule in
+    let f = compile-accepted a e (length slice) (v .0) .rule in
     let few = alphabet-most a (f .alphabet) in
     let over = compiled-over a e (rule-expression f) (f .states) in
     let n : k ≡ length (compiledTable a e) = cc in

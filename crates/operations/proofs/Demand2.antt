@@ -30,7 +30,7 @@ use Rattle.operations.specs.Run.{runFault, runMarks, runAnswer, runExit,
 use Rattle.operations.specs.Listing.{listFault, matchesIn, matchesOf, listAnswer, listExit}
 use Rattle.operations.specs.Demands.{Calls, namesOf, AllAccepted, Named, Demand2}
 use Rattle.operations.proofs.AcceptedLaws.{accepted-values, RunAccepted, run-accepted}
-use Rattle.operations.proofs.CompileLaws.{CompileAccepted, compile-accepted}
+use Rattle.operations.proofs.CompileLaws.{CompileResult, compile-result}
 use Rattle.operations.proofs.MarksLaws.{length-nodeSets}
 use Rattle.operations.proofs.MatchLaws.{Holding, holding-named, named-holding}
 use Rattle.operations.proofs.RunLaws.{run-writes, run-exit, matches-nodeSets, node-tree}
@@ -110,8 +110,8 @@ module _ (c : Calls) (h : AllAccepted c) where
   abbrev T : List ℕ
   T = compiledTable (c .alphabet) (c .rule)
 
-  compiles : CompileAccepted a (c .rule) (c .tableSlice) (c .words)
-  compiles = compile-accepted a (c .rule) (c .tableSlice) (c .words) (h .compiles)
+  compiles : CompileResult a (c .rule) (c .tableSlice) (c .words)
+  compiles = compile-result a (c .rule) (c .tableSlice) (c .words) (h .compiles)
 
   runs : runAnswer a T (c .chapter) (c .marksSlice) ≡ accepted (c .elements ∷ c .cells ∷ [])
   runs = rw (compiles .table) at (h .runs)

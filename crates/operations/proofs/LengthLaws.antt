@@ -20,7 +20,7 @@ use Rattle.operations.specs.Marks.{sizeOf, finalOf, storedSet, refit}
 use Rattle.operations.specs.Run.{runFault, runMarks, runExit}
 use Rattle.operations.specs.Listing.{listFault, matchesIn, matchesOf, listExit}
 use Rattle.operations.specs.Exchange.{setIn, outcomesAfter, fault, newTree, outcomes, exchangeChapter, exchangeMarks}
-use Rattle.operations.proofs.AcceptedLaws.{compile-passed, run-accepted, list-accepted, ExchangeAccepted, exchange-accepted}
+use Rattle.operations.proofs.AcceptedLaws.{compile-accepted, run-accepted, list-accepted, ExchangeAccepted, exchange-accepted}
 use Rattle.operations.proofs.MarksLaws.{Sized, length-storedSet, length-flatten, length-refit}
 use Rattle.operations.proofs.RunLaws.{run-length}
 use Rattle.operations.proofs.RuleLaws.{follows-length, follows-outcomes}
@@ -45,7 +45,7 @@ pub compile-length : (a e slice : List ℕ) → length (compileExit a e slice) �
 unfolding compileExit
 compile-length a e slice =
     length-exit (compileFault a e (length slice)) (compiledTable a e ++ drop (length (compiledTable a e)) slice) slice
-    (λ h. length-over (compiledTable a e) slice (compile-passed a e (length slice) h .fits))
+    (λ h. length-over (compiledTable a e) slice (compile-accepted a e (length slice) h .fits))
 
 pub run-exit-length : (a table ch marks : List ℕ) → length (runExit a table ch marks) ≡ length marks
 unfolding runExit

@@ -16,7 +16,7 @@ use Rattle.operations.specs.Listing.{matchesOf, listFault, listAnswer}
 use Rattle.operations.specs.Exchange.{Outcome, kept, recomputed, recomputedIn, fault, newTree, outcomes, exchangeAnswer}
 use Rattle.operations.specs.ExchangeCall.{ExchangeCall}
 use Rattle.operations.proofs.AcceptedLaws.{accepted-values, run-accepted, list-accepted, exchange-accepted}
-use Rattle.operations.proofs.CompileLaws.{compile-accepted}
+use Rattle.operations.proofs.CompileLaws.{compile-result}
 use Rattle.operations.proofs.CellLaws.{cells-nodeSets}
 use Rattle.operations.proofs.MatchLaws.{matchesOf-few}
 use Rattle.operations.proofs.Recomputed.{recomputation}
@@ -24,7 +24,7 @@ use Rattle.operations.proofs.Recomputed.{recomputation}
 -- Compile: at most 1,147 words
 pub compile-value : (a e slice : List ℕ) {k : ℕ} → accepted (k ∷ []) ≡ compileAnswer a e slice → k < 2 ^ 32
 compile-value a e slice {k} h =
-    let g = compile-accepted a e slice k (sym h) in
+    let g = compile-result a e slice k (sym h) in
     omega (arith, g .count, g .most)
 
 -- the words of all state sets, whatever the head says of the states

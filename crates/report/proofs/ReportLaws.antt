@@ -11,7 +11,7 @@ use Rattle.operations.specs.Compile.{compiledTable, compileAnswer, compileExit}
 use Rattle.operations.specs.Run.{runAnswer, runExit}
 use Rattle.operations.specs.Listing.{matchesOf, listFault, listAnswer, listExit}
 use Rattle.operations.proofs.AcceptedLaws.{accepted-values, list-accepted}
-use Rattle.operations.proofs.CompileLaws.{CompileAccepted, compile-accepted}
+use Rattle.operations.proofs.CompileLaws.{CompileResult, compile-result}
 use Rattle.compiler.specs.declared.Compiled.{Compiled}
 use Rattle.compiler.specs.declared.Compiled.the-variants.{Table, Refused as Compiled·Refused}
 use Rattle.compiler.specs.Answers.{answerInCompiled}
@@ -74,8 +74,8 @@ module _ (a e slice : List ℕ) {table : List ℕ} {k : ℕ} (r : Compiled) (tol
   answer : accepted (k ∷ []) ≡ compileAnswer a e slice
   answer = rw told at h
 
-  known : CompileAccepted a e slice k
-  known = compile-accepted a e slice k (sym answer)
+  known : CompileResult a e slice k
+  known = compile-result a e slice k (sym answer)
 
   table-is : take k table ≡ compiledTable a e
   table-is = ap (take k) exit ∙ known .table

@@ -23,7 +23,7 @@ use Rattle.operations.specs.Listing.{listFault, matchesIn, matchesOf, listAnswe
 use Rattle.operations.proofs.AcceptedLaws.{accepted-values, RuleAccepted, rule-accepted, rule-alphabet}
 use Rattle.operations.proofs.AcceptedLaws.{rule-expression, run-accepted, accepted-list}
 use Rattle.operations.proofs.RunLaws.{run-exit, run-writes, run-length, matches-nodeSets}
-use Rattle.operations.proofs.CompileLaws.{CompileAccepted, compile-accepted}
+use Rattle.operations.proofs.CompileLaws.{CompileResult, compile-result}
 use Rattle.operations.proofs.Demand1.{refused-by}
 use Rattle.lines.specs.Line.{refusedLine, headLine, hitLines}
 use Rattle.report.specs.Output.{wrongChapter, chapterRefusals, marklistRefusals, marklistFault, hitsOf, marklistOutput}
@@ -70,8 +70,8 @@ module _ (a e : List ℕ) where
     rule : RuleAccepted a e
     rule = rule-accepted a e rule-none
 
-    known : CompileAccepted a e slice k
-    known = compile-accepted a e slice k (sym h)
+    known : CompileResult a e slice k
+    known = compile-result a e slice k (sym h)
 
     -- the refusals that are left
     pub left-fault : marklistFault a e ch ≡ refusal (chapterRefusals a ch)

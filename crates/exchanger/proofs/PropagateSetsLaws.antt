@@ -15,7 +15,7 @@ use Rattle.automaton.specs.StateSet.{StateSet}
 use Rattle.operations.specs.Marks.{sizeOf, storedSet, sameWords}
 use Rattle.nodes.proofs.LoopLaws.{setAt}
 use Rattle.nodes.proofs.LoopLaws as loops
-use Rattle.exchanger.proofs.UpwardLoop.{upwards, upwards-beside, upwards-last, upwards-onward}
+use Rattle.exchanger.proofs.PropagateSets.{propagateSets, propagateSets-beside, propagateSets-last, propagateSets-onward}
 use Rattle.nodes.specs.Nodes.{setFrom, markedAt}
 use Rattle.nodes.proofs.MarkLaws.{MarksHolding, holding-set, setFrom-rows, markedAt-rows}
 use Rattle.propagation.specs.declared.Progress.{Progress}
@@ -36,7 +36,7 @@ module _ (a table ch used : List ℕ) (element : ℕ) (rest : List ℕ) (above :
   size = sizeOf table
 
   -- the loop is at node i of the new tree, which was node j of the old one; n nodes are left
-  pub record Upward (i j d n : ℕ) (marks : List ℕ) (rows : List StateSet) : Type 0 where
+  pub record Propagating (i j d n : ℕ) (marks : List ℕ) (rows : List StateSet) : Type 0 where
     pub words : (t : ℕ) → getD ch (i + t) 0 ≡ getD used (j + t) 0
     pub ancestors : (t : ℕ) → above (i + t) ≡ isAncestor a used element (j + t)
     pub holding : HoldingTree (arity a) used element j d
@@ -53,15 +53,15 @@ module _ (a table ch used : List ℕ) (element : ℕ) (rest : List ℕ) (above :
   propagates = propagateFrom a table ch
 
   abbrev ups : ℕ → ℕ → List StateSet → ℕ → List StateSet × ℕ
-  ups = upwards a table ch above
+  ups = propagateSets a table ch above
 
   abbrev Goal : ℕ → Type 0
   Goal n =
-      (i j d : ℕ) (marks : List ℕ) (rows : List StateSet) (t : Progress) → t .reach ≡ suc d → Upward i j d n marks rows
+      (i j d : ℕ) (marks : List ℕ) (rows : List StateSet) (t : Progress) → t .reach ≡ suc d → Propagating i j d n marks rows
       → Same (propagates i n marks t) (ups i n rows (t .recomputed))
 
   module _ (n : ℕ) (ih : Goal n) (i j d : ℕ) (marks : List ℕ) (rows : List StateSet) (t : Progress) (reached : t .reach ≡ suc d)
-      (g : Upward i j d (suc n) marks rows) where
+      (g : Propagating i j d (suc n) marks rows) where
     abbrev r : ℕ
     r = arity a (getD ch i 0)
 
@@ -73,7 +73,7 @@ module _ (a table ch used : List ℕ) (element : ℕ) (rest : List ℕ) (above :
 
     -- the loop at the next node
     next : (d′ : ℕ) (marks′ : List ℕ) (rows′ : List StateSet) → HoldingTree (arity a) used element (suc j) d′ → length rows′ ≡ length rows
-        → MarksHolding size marks′ rows′ rest → Upward (suc i) (suc j) d′ n marks′ rows′
+        → MarksHolding size marks′ rows′ rest → Propagating (suc i) (suc j) d′ n marks′ rows′
     next d′ marks′ rows′ y l s =
         let inside = g .inside in
         let rows-inside = g .rows-inside in
@@ -96,7 +96,8 @@ module _ (a table ch used : List ℕ) (element : ℕ) (rest : List ℕ) (above :
         let p : propagates i (suc n) marks t ≡ propagates (suc i) n marks t′ =
         propagate-continues a table ch i marks t n marks t′ (step-beside a table ch i marks t r refl (omega arith)) refl in
         let q : ups i (suc n) rows (t .recomputed) ≡ ups (suc i) n rows (t .recomputed) =
-        upwards-beside a table ch above i n rows (t .recomputed) (above-here ∙ takes-others (arity a) used element j d (g .holding) l′) in
+        propagateSets-beside a table ch above i n rows (t .recomputed)
+        (above-here ∙ takes-others (arity a) used element j d (g .holding) l′) in
         rw (p, q) (ih (suc i) (suc j) (d - r + 1) marks rows t′ (omega arith) (next (d - r + 1) marks rows y refl (g .sets)))
 
     ancestor : d < r → Same (propagates i (suc n) marks t) (ups i (suc n) rows (t .recomputed))
@@ -133,7 +134,7 @@ module _ (a table ch used : List ℕ) (element : ℕ) (rest : List ℕ) (above :
             propagate-stops a table ch i marks t n marks t′
             (step-ancestor a table ch i marks t r refl (omega arith) (marks, false) (recomputed-same a table ch i marks b)) refl in
             let q : ups i (suc n) rows (t .recomputed) ≡ (rows, t .recomputed + 1) =
-            upwards-last a table ch above i n rows (t .recomputed) up (tests ∙ b) in
+            propagateSets-last a table ch above i n rows (t .recomputed) up (tests ∙ b) in
             rw (p, q) (record { sets = g .sets; count = refl })
         go (fails b) =
             let t′ : Progress = record { reach = 1; recomputed = t .recomputed + 1; active = true } in
@@ -143,16 +144,16 @@ module _ (a table ch used : List ℕ) (element : ℕ) (rest : List ℕ) (above :
             propagate-continues a table ch i marks t n marks′ t′
             (step-ancestor a table ch i marks t r refl (omega arith) (marks′, true) (recomputed-is a table ch i marks false b)) refl in
             let q : ups i (suc n) rows (t .recomputed) ≡ ups (suc i) n rows′ (t .recomputed + 1) =
-            upwards-onward a table ch above i n rows (t .recomputed) up (tests ∙ b) in
+            propagateSets-onward a table ch above i n rows (t .recomputed) up (tests ∙ b) in
             rw (p, q)
             (ih (suc i) (suc j) 0 marks′ rows′ t′ refl
             (next 0 marks′ rows′ (holding-ancestor (arity a) used element j d (g .holding) l′) (length-set rows i _)
             (markedAt-rows a table ch marks rows rest i (g .sets) inside-rows inside)))
 
-  pub propagate-upwards : (n : ℕ) → Goal n
-  unfolding propagateFrom upwards
-  propagate-upwards zero i j d marks rows t reached g = record { sets = g .sets; count = refl }
-  propagate-upwards (suc n) i j d marks rows t reached g = choose (decLe (arity a (getD ch i 0)) d) (propagate-upwards n)
+  pub propagate-propagateSets : (n : ℕ) → Goal n
+  unfolding propagateFrom propagateSets
+  propagate-propagateSets zero i j d marks rows t reached g = record { sets = g .sets; count = refl }
+  propagate-propagateSets (suc n) i j d marks rows t reached g = choose (decLe (arity a (getD ch i 0)) d) (propagate-propagateSets n)
     where
       choose : Dec (arity a (getD ch i 0) ≤ d) → Goal n → Same (propagates i (suc n) marks t) (ups i (suc n) rows (t .recomputed))
       choose (yes l) ih = beside n ih i j d marks rows t reached g l

@@ -23,47 +23,47 @@ use Rattle.nodes.proofs.LoopLaws.{setAt, setFromSets, set-of, stack-push, stack
 module _ (a table ch : List ℕ) where
   -- ---- the nodes behind: n nodes from i on, where `count` nodes are recomputed so far
 
-  unfoldable pub upwards : (ℕ → Bool) → ℕ → ℕ → List StateSet → ℕ → List StateSet × ℕ
-  upwards above i zero sets count = (sets, count)
-  upwards above i (suc n) sets count =
-      let beside = upwards above (suc i) n sets count in
-      let onward = upwards above (suc i) n (set sets i (setFromSets a table ch i sets)) (count + 1) in
+  unfoldable pub propagateSets : (ℕ → Bool) → ℕ → ℕ → List StateSet → ℕ → List StateSet × ℕ
+  propagateSets above i zero sets count = (sets, count)
+  propagateSets above i (suc n) sets count =
+      let beside = propagateSets above (suc i) n sets count in
+      let onward = propagateSets above (suc i) n (set sets i (setFromSets a table ch i sets)) (count + 1) in
       let ancestor = cond (sameWords (setFromSets a table ch i sets) (setAt sets i)) (sets, count + 1) onward in
       cond (above i) ancestor beside
 
   module _ (above : ℕ → Bool) (i n : ℕ) (sets : List StateSet) (count : ℕ) where
-    pub upwards-beside : above i ≡ false → upwards above i (suc n) sets count ≡ upwards above (suc i) n sets count
-    unfolding upwards
-    upwards-beside b = rw b
+    pub propagateSets-beside : above i ≡ false → propagateSets above i (suc n) sets count ≡ propagateSets above (suc i) n sets count
+    unfolding propagateSets
+    propagateSets-beside b = rw b
 
-    pub upwards-last : above i ≡ true → sameWords (setFromSets a table ch i sets) (setAt sets i) ≡ true
-        → upwards above i (suc n) sets count ≡ (sets, count + 1)
-    unfolding upwards
-    upwards-last b c = rw (b, c)
+    pub propagateSets-last : above i ≡ true → sameWords (setFromSets a table ch i sets) (setAt sets i) ≡ true
+        → propagateSets above i (suc n) sets count ≡ (sets, count + 1)
+    unfolding propagateSets
+    propagateSets-last b c = rw (b, c)
 
-    pub upwards-onward : above i ≡ true → sameWords (setFromSets a table ch i sets) (setAt sets i) ≡ false
-        → upwards above i (suc n) sets count ≡ upwards above (suc i) n (set sets i (setFromSets a table ch i sets)) (count + 1)
-    unfolding upwards
-    upwards-onward b c = rw (b, c)
+    pub propagateSets-onward : above i ≡ true → sameWords (setFromSets a table ch i sets) (setAt sets i) ≡ false
+        → propagateSets above i (suc n) sets count ≡ propagateSets above (suc i) n (set sets i (setFromSets a table ch i sets)) (count + 1)
+    unfolding propagateSets
+    propagateSets-onward b c = rw (b, c)
 
   -- the sets from i on with these outcomes, and the count with theirs
   abbrev pub ended : ℕ → List StateSet → ℕ → List Outcome → List StateSet × ℕ
   ended i sets count os = (take i sets ++ map setIn os, count + recomputedIn os)
 
   -- the sets from i on are those stored from node j of the old tree on
-  pub upwards-is : (stored : ℕ → StateSet) (above above′ : ℕ → Bool) (ws : List ℕ) (i j : ℕ) (sets : List StateSet) (count : ℕ)
+  pub propagateSets-is : (stored : ℕ → StateSet) (above above′ : ℕ → Bool) (ws : List ℕ) (i j : ℕ) (sets : List StateSet) (count : ℕ)
       (stack : List StateSet)
       → drop i ch ≡ ws → ((t : ℕ) → above (i + t) ≡ above′ (j + t)) → i ≤ length sets → drop i sets ≡ listFrom stored j (length ws)
       → map (setAt sets) (numbers (arity a) ch i) ≡ stack
-      → upwards above i (length ws) sets count ≡ ended i sets count (propagate a table stored above′ j ws stack)
-  unfolding upwards propagate recomputedIn
-  upwards-is stored above above′ [] i j sets count stack q same l r e =
+      → propagateSets above i (length ws) sets count ≡ ended i sets count (propagate a table stored above′ j ws stack)
+  unfolding propagateSets propagate recomputedIn
+  propagateSets-is stored above above′ [] i j sets count stack q same l r e =
       ap₂ (λ (x : List StateSet) (y : ℕ). (x, y))
       (sym (ap (λ (t : List StateSet). take i sets ++ t) (sym r) ∙ take-append-drop i sets)) (sym (add-zero count))
-  upwards-is stored above above′ (w ∷ ws) i j sets count stack q same l r e =
+  propagateSets-is stored above above′ (w ∷ ws) i j sets count stack q same l r e =
       go (tested (above′ j)) (tested (sameWords new (stored j)))
-      (upwards-is stored above above′ ws (suc i) (suc j) sets count (stored j ∷ rest))
-      (upwards-is stored above above′ ws (suc i) (suc j) (set sets i new) (count + 1) (new ∷ rest))
+      (propagateSets-is stored above above′ ws (suc i) (suc j) sets count (stored j ∷ rest))
+      (propagateSets-is stored above above′ ws (suc i) (suc j) (set sets i new) (count + 1) (new ∷ rest))
     where
       rest : List StateSet
       rest = drop (arity a w) stack
@@ -102,7 +102,8 @@ module _ (a table ch : List ℕ) where
       Ih sets′ count′ stack′ =
           drop (suc i) ch ≡ ws → ((t : ℕ) → above (suc i + t) ≡ above′ (suc j + t)) → suc i ≤ length sets′
           → drop (suc i) sets′ ≡ listFrom stored (suc j) (length ws) → map (setAt sets′) (numbers (arity a) ch (suc i)) ≡ stack′
-          → upwards above (suc i) (length ws) sets′ count′ ≡ ended (suc i) sets′ count′ (propagate a table stored above′ (suc j) ws stack′)
+          → propagateSets above (suc i) (length ws) sets′ count′
+          ≡ ended (suc i) sets′ count′ (propagate a table stored above′ (suc j) ws stack′)
 
       -- one outcome more
       kept-more : (os : List Outcome) → ended (suc i) sets count os ≡ ended i sets count (kept (stored j) ∷ os)
@@ -122,15 +123,15 @@ module _ (a table ch : List ℕ) where
 
       go : Tested (above′ j) → Tested (sameWords new (stored j)) → Ih sets count (stored j ∷ rest)
           → Ih (set sets i new) (count + 1) (new ∷ rest)
-          → upwards above i (suc (length ws)) sets count ≡ ended i sets count (propagate a table stored above′ j (w ∷ ws) stack)
+          → propagateSets above i (suc (length ws)) sets count ≡ ended i sets count (propagate a table stored above′ j (w ∷ ws) stack)
       go (fails b) c ih₁ ih₂ =
-          upwards-beside above i (length ws) sets count (above-here ∙ b)
+          propagateSets-beside above i (length ws) sets count (above-here ∙ b)
           ∙ ih₁ words above-later insideSets later
           (stack-pass a table ch i sets stack inside e ∙ ap₂ (λ (x : StateSet) (v : ℕ). x ∷ drop (arity a v) stack) here word)
           ∙ kept-more (propagate a table stored above′ (suc j) ws (stored j ∷ rest))
           ∙ ap (ended i sets count) (sym (propagate-beside a table stored above′ j w ws stack b))
       go (holds b) (holds c) ih₁ ih₂ =
-          upwards-last above i (length ws) sets count (above-here ∙ b) (ap₂ sameWords recomputes here ∙ c)
+          propagateSets-last above i (length ws) sets count (above-here ∙ b) (ap₂ sameWords recomputes here ∙ c)
           ∙ ap₂ (λ (x : List StateSet) (y : ℕ). (x, count + y))
           (sym (take-append-drop i sets)
           ∙ ap (λ (t : List StateSet). take i sets ++ t)
@@ -139,8 +140,8 @@ module _ (a table ch : List ℕ) where
           (sym (ap (λ (x : ℕ). 1 + x) (count-kept stored (length ws) (suc j))))
           ∙ ap (ended i sets count) (sym (propagate-last a table stored above′ j w ws stack b c))
       go (holds b) (fails c) ih₁ ih₂ =
-          upwards-onward above i (length ws) sets count (above-here ∙ b) (ap₂ sameWords recomputes here ∙ c)
-          ∙ ap (λ (x : StateSet). upwards above (suc i) (length ws) (set sets i x) (count + 1)) recomputes
+          propagateSets-onward above i (length ws) sets count (above-here ∙ b) (ap₂ sameWords recomputes here ∙ c)
+          ∙ ap (λ (x : StateSet). propagateSets above (suc i) (length ws) (set sets i x) (count + 1)) recomputes
           ∙ ih₂ words above-later (lt-length-set sets i new insideSets) (drop-set-lt (suc i) sets i new (omega arith) ∙ later)
           (stack-push a table ch i sets stack new inside insideSets e ∙ ap (λ (v : ℕ). new ∷ drop (arity a v) stack) word)
           ∙ recomputed-more (propagate a table stored above′ (suc j) ws (new ∷ rest))
