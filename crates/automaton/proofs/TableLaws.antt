@@ -8,7 +8,7 @@ use native.Mathlib.Omega.{arith}
 use lib.ListN.{length}
 use lib.Dec.{ltb, leb}
 use borrow.Author.Tests.{lt-ltb, ltb-true, le-leb, leb-true}
-use Rattle.words.specs.Word.{headKind, fieldRange, isOf, wordOf, countAbove, stateBelow, packed}
+use Rattle.words.specs.Word.{headKind, fieldRange, isOf, wordOf, countAbove, stateBelow, aboveState}
 use Rattle.words.proofs.TestLaws.{and-true, true-and}
 use Rattle.words.proofs.KindLaws.{isOf-facts, isOf-wordOf}
 use Rattle.automaton.specs.Transition.{Automaton, transitionsWords, headWord, tableWords, automatonOf}
@@ -39,16 +39,16 @@ head-facts w h =
       word = let i = isOf-facts headKind w (d .0) in omega arith;
     }
 
-head-passes : (n f : ℕ) → 0 < n → n ≤ 1024 → f < n → isHead (wordOf headKind (packed n f)) ≡ true
+head-passes : (n f : ℕ) → 0 < n → n ≤ 1024 → f < n → isHead (wordOf headKind (aboveState n f)) ≡ true
 unfolding isHead
 head-passes n f some most final =
-    let w = wordOf headKind (packed n f) in
-    let lw : packed n f < fieldRange headKind = omega arith in
+    let w = wordOf headKind (aboveState n f) in
+    let lw : aboveState n f < fieldRange headKind = omega arith in
     let s : 0 < countAbove w = omega arith in
     let m : countAbove w ≤ 1024 = omega arith in
     let t : stateBelow w < countAbove w = omega arith in
     rw (
-      isOf-wordOf headKind (packed n f) lw,
+      isOf-wordOf headKind (aboveState n f) lw,
       lt-ltb 0 (countAbove w) s,
       le-leb (countAbove w) 1024 m,
       lt-ltb (stateBelow w) (countAbove w) t,

@@ -9,7 +9,7 @@ use lib.ListN.{length}
 use lib.Dec.{ltb}
 use borrow.Author.Tests.{eq-eqb, ne-eqb, eqb-true, lt-ltb, ltb-true}
 use Rattle.words.specs.Word.{transitionKind, epsilonKind, sourceKind, numberOf, isOf}
-use Rattle.words.specs.Word.{fieldRange, wordOf, symbolAbove, stateAbove, stateBelow, kindNumber, packed}
+use Rattle.words.specs.Word.{fieldRange, wordOf, symbolAbove, stateAbove, stateBelow, kindNumber, aboveState}
 use Rattle.words.specs.Alphabet.{isSymbol, rankOf}
 use Rattle.words.proofs.TestLaws.{and-true, true-and, or-true}
 use Rattle.words.proofs.KindLaws.{isOf-facts, isOf-wordOf}
@@ -148,27 +148,27 @@ module _ (a : List ℕ) (n : ℕ) where
         (true-and (isOf sourceKind w) (ltb (stateBelow w) n) (isOf-wordOf sourceKind p l) (lt-ltb (stateBelow w) n t))
         (sources-pass ps ws (b .1) h)
 
-    symbol-passes : (f q : ℕ) → f < length a → q < n → symbolTest (wordOf transitionKind (packed f q)) ≡ true
+    symbol-passes : (f q : ℕ) → f < length a → q < n → symbolTest (wordOf transitionKind (aboveState f q)) ≡ true
     symbol-passes f q lf lq =
-        let w = wordOf transitionKind (packed f q) in
-        let lw : packed f q < fieldRange transitionKind = omega arith in
+        let w = wordOf transitionKind (aboveState f q) in
+        let lw : aboveState f q < fieldRange transitionKind = omega arith in
         let s : symbolAbove w < length a = omega arith in
         let t : stateBelow w < n = omega arith in
-        rw (isOf-wordOf transitionKind (packed f q) lw, lt-ltb (symbolAbove w) (length a) s, lt-ltb (stateBelow w) n t)
+        rw (isOf-wordOf transitionKind (aboveState f q) lw, lt-ltb (symbolAbove w) (length a) s, lt-ltb (stateBelow w) n t)
 
-    epsilon-passes : (p q : ℕ) → p < n → q < n → epsilonTest (wordOf epsilonKind (packed p q)) ≡ true
+    epsilon-passes : (p q : ℕ) → p < n → q < n → epsilonTest (wordOf epsilonKind (aboveState p q)) ≡ true
     epsilon-passes p q lp lq =
-        let w = wordOf epsilonKind (packed p q) in
-        let lw : packed p q < fieldRange epsilonKind = omega arith in
+        let w = wordOf epsilonKind (aboveState p q) in
+        let lw : aboveState p q < fieldRange epsilonKind = omega arith in
         let s : stateAbove w < n = omega arith in
         let t : stateBelow w < n = omega arith in
-        rw (isOf-wordOf epsilonKind (packed p q) lw, lt-ltb (stateAbove w) n s, lt-ltb (stateBelow w) n t)
+        rw (isOf-wordOf epsilonKind (aboveState p q) lw, lt-ltb (stateAbove w) n s, lt-ltb (stateBelow w) n t)
 
     pub transitions-pass : (ts : List Transition) → TransitionsOver a n ts → areTransitions a n 0 (transitionsWords ts) ≡ true
     unfolding areTransitions isTableWord
     transitions-pass [] o = refl
     transitions-pass (onSymbol f ps q ∷ ts) o =
-        let w = wordOf transitionKind (packed f q) in
+        let w = wordOf transitionKind (aboveState f q) in
         let s = symbol-passes f q (o .0 .0) (o .0 .3) in
         let lf : f < 256 = omega (arith, o .0 .0) in
         let lq : q < 1024 = omega (arith, o .0 .3) in
@@ -177,7 +177,7 @@ module _ (a : List ℕ) (n : ℕ) where
         true-and (symbolTest w || epsilonTest w) (areTransitions a n (sourcesLeft a 0 w) (sourceWords ps ++ transitionsWords ts)) (rw s)
         (rw k (sources-pass ps (transitionsWords ts) (o .0 .2) (transitions-pass ts (o .1))))
     transitions-pass (epsilon p q ∷ ts) o =
-        let w = wordOf epsilonKind (packed p q) in
+        let w = wordOf epsilonKind (aboveState p q) in
         let e = epsilon-passes p q (o .0 .0) (o .0 .1) in
         true-and (symbolTest w || epsilonTest w) (areTransitions a n (sourcesLeft a 0 w) (transitionsWords ts))
         (rw e (or-right (symbolTest w)))

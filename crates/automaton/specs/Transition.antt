@@ -4,7 +4,7 @@ use Prim.Native.Nat.{ℕ, _+_, _*_}
 use mathlib.Core.List.{List, [], _∷_, _++_, map}
 use mathlib.Core.Bool.{cond}
 use lib.ListN.{getD, drop}
-use Rattle.words.specs.Word.{headKind, transitionKind, epsilonKind, sourceKind, hasKind, packed}
+use Rattle.words.specs.Word.{headKind, transitionKind, epsilonKind, sourceKind, hasKind, aboveState}
 use Rattle.words.specs.Word.{wordOf, symbolAbove, countAbove, stateAbove, stateBelow}
 
 -- a symbol move: on this symbol, from these states of the children, to a state; an empty move: from a state to a state
@@ -24,8 +24,8 @@ abbrev pub sourceWords : List ℕ → List ℕ
 sourceWords ps = map (λ p. wordOf sourceKind p) ps
 
 abbrev pub transitionWords : Transition → List ℕ
-transitionWords (onSymbol f ps q) = wordOf transitionKind (packed f q) ∷ sourceWords ps
-transitionWords (epsilon p q) = wordOf epsilonKind (packed p q) ∷ []
+transitionWords (onSymbol f ps q) = wordOf transitionKind (aboveState f q) ∷ sourceWords ps
+transitionWords (epsilon p q) = wordOf epsilonKind (aboveState p q) ∷ []
 
 abbrev pub transitionsWords : List Transition → List ℕ
 transitionsWords [] = []
@@ -33,7 +33,7 @@ transitionsWords (t ∷ ts) = transitionWords t ++ transitionsWords ts
 
 -- "table head": bits 20..10 state count, bits 9..0 final state
 abbrev pub headWord : Automaton → ℕ
-headWord A = wordOf headKind (packed (A .states) (A .final))
+headWord A = wordOf headKind (aboveState (A .states) (A .final))
 
 -- the table of an automaton: its head, and its transitions in order
 abbrev pub tableWords : Automaton → List ℕ

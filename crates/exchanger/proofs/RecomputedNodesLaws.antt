@@ -10,7 +10,7 @@ use Rattle.nodes.specs.Nodes.{rootsOf, Held, Stackable, markedFrom}
 use Rattle.nodes.specs.Marking.{Maintained, NodesMarkable}
 use Rattle.nodes.proofs.WorkableLaws.{table-few, workable-long}
 use Rattle.nodes.proofs.NodesLaws.{nothing-prepared}
-use Rattle.propagation.specs.Propagation.{propagateFrom, initial, Startable}
+use Rattle.propagation.specs.Propagation.{propagateFrom, initial, PropagationStartable}
 use Rattle.exchanger.specs.Exchanging.{exchangedFrom, Exchangeable}
 
 module _ {a table ch : List ℕ} {start root : ℕ} {marks : List ℕ} (g : Exchangeable a table ch start root marks) where
@@ -42,7 +42,7 @@ module _ {a table ch : List ℕ} {start root : ℕ} {marks : List ℕ} (g : Exch
   pub nodes-propagate : {index : List ℕ} → index ≡ indexOf table
       → {marks′ array : List ℕ} {height : ℕ} {keys known places owners rows pending : List ℕ}
       → length marks′ ≡ length marks → Maintained a table ch root marks′ array height keys known places owners rows pending
-      → Startable a table index ch root marks′ array height (root - start) keys known places owners rows pending
+      → PropagationStartable a table index ch root marks′ array height (root - start) keys known places owners rows pending
   nodes-propagate q m p =
       let inside = g .inside in
       let few = g .workable .tree .few in

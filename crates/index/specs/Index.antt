@@ -21,7 +21,7 @@ keys = stateKey 0x400
 unfoldable pub keyOf : ℕ → ℕ
 keyOf w = cond (hasKind transitionKind w) (symbolAbove w) (cond (hasKind epsilonKind w) (stateKey (stateAbove w)) keys)
 
--- First stands the first word of each key's chain. The word of the table with number i has behind them the next word of its
+-- First stand the first words of the keys' chains; behind them the word of the table with number i has the next word of its
 -- chain. A chain ends with 0: the head is in none.
 unfoldable pub indexedAt : List ℕ → ℕ → List ℕ → List ℕ
 indexedAt table i index =

@@ -11,7 +11,7 @@ use Rattle.automaton.specs.StateSet.{StateSet, stateSet}
 use Rattle.automaton.proofs.SetLength.{length-stateSet}
 use Rattle.automaton.proofs.TableLaws.{isTable-sizes}
 use Rattle.operations.specs.Marks.{sizeOf, storedSet}
-use Rattle.step.specs.Ready.{childSets}
+use Rattle.step.specs.NodeSteppable.{childSets}
 use Rattle.sets.specs.Copyable.{Copyable}
 use Rattle.sets.proofs.StoredLaws.{words-few, stored-written, stored-before}
 use Rattle.memo.specs.Memo.{setOver, Placeable, Represents, itself, earlier, NewMarkable, MarkedNew}

@@ -15,7 +15,7 @@ use Rattle.automaton.specs.Table.{AllBelow}
 use Rattle.automaton.specs.Transition.{automatonOf}
 use Rattle.automaton.specs.StateSet.{StateSet, stateSet}
 use Rattle.operations.specs.Marks.{sizeOf, nodeSet, storedSet}
-use Rattle.step.specs.Ready.{RowsInside, Prepared}
+use Rattle.step.specs.NodeSteppable.{RowsInside, NodeSteppable}
 use Rattle.closures.proofs.FollowLaws.{states-most}
 use Rattle.slices.proofs.RefitLaws.{take-drop}
 use Rattle.sets.proofs.StoredLaws.{row-inside, stored-written}
@@ -135,7 +135,7 @@ module _ {a table index ch : List ℕ} {i : ℕ} {marks array : List ℕ} {heigh
   row : i * sizeOf table + sizeOf table ≤ length marks
   row = row-inside i (length ch) (sizeOf table) (length marks) (g .inside) (g .workable .marks-fit)
 
-  prepared : Prepared table index (symbolOf (getD ch i 0)) marks (drop (4 - r) four)
+  prepared : NodeSteppable table index (symbolOf (getD ch i 0)) marks (drop (4 - r) four)
   prepared =
       record {
         indexed = record { alphabet = a; short = g .workable .alphabet; checked = g .workable .checked; indexed = g .indexed };

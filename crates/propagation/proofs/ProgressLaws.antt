@@ -10,7 +10,7 @@ use lib.ListN.{length}
 use Rattle.nodes.specs.Marking.{Maintained}
 use Rattle.nodes.proofs.WorkableLaws.{workable-long}
 use Rattle.propagation.specs.declared.Progress.{Progress}
-use Rattle.propagation.specs.Propagation.{propagateStep, propagateFrom, initial, Propagable, Startable}
+use Rattle.propagation.specs.Propagation.{propagateStep, propagateFrom, initial, Propagable, PropagationStartable}
 use Rattle.propagation.proofs.PropagationLaws.{step-small, propagate-continues, propagate-stops}
 
 pub record Propagating (a table ch : List ℕ) (root count : ℕ) (marks₀ marks array : List ℕ) (t : Progress) (top : ℕ)
@@ -25,7 +25,7 @@ pub record Propagating (a table ch : List ℕ) (root count : ℕ) (marks₀ mark
 
 module _ {a table index ch : List ℕ} {root count : ℕ} {marks₀ array₀ : List ℕ} {height : ℕ}
     {keys₀ known₀ places₀ owners₀ rows₀ pending₀ : List ℕ}
-    (pre : Startable a table index ch root marks₀ array₀ height count keys₀ known₀ places₀ owners₀ rows₀ pending₀) where
+    (pre : PropagationStartable a table index ch root marks₀ array₀ height count keys₀ known₀ places₀ owners₀ rows₀ pending₀) where
   pub propagating-none : Propagating a table ch root count marks₀ marks₀ array₀
       (initial count) height keys₀ known₀ places₀ owners₀ rows₀ pending₀ root
   propagating-none = record {

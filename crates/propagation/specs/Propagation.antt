@@ -47,7 +47,7 @@ pub record Propagable (a table index ch : List ℕ) (i : ℕ) (marks array : Lis
   pub few-recomputed : t .recomputed ≤ 8192
 
 -- what the whole loop asks, with `count` nodes recomputed before
-pub record Startable (a table index ch : List ℕ) (root : ℕ) (marks array : List ℕ) (height count : ℕ)
+pub record PropagationStartable (a table index ch : List ℕ) (root : ℕ) (marks array : List ℕ) (height count : ℕ)
     (keys known places owners rows pending : List ℕ) : Type 0 where
   pub nodes : NodesMarkable a table index ch root (length ch) marks array height keys known places owners rows pending
   pub few : count ≤ 4096

@@ -3,7 +3,7 @@ ghost use mathlib.Core.Path.{_≡_};
 ghost use Prim.Native.Nat.{_+_, _-_};
 ghost use lib.ListN.{length};
 ghost use Rattle.nodes.specs.Marking.{Maintained, NodeMarkable};
-ghost use Rattle.propagation.specs.Propagation.{recomputeAt, propagateStep, propagateFrom, initial, Propagable, Startable};
+ghost use Rattle.propagation.specs.Propagation.{recomputeAt, propagateStep, propagateFrom, initial, Propagable, PropagationStartable};
 use nodes::marking::mark_node;
 use nodes::stack::push_node;
 use sets::whole::same_words;
@@ -184,7 +184,8 @@ pub fn propagate(
     pending: &mut [u32],
 ) -> usize
     requires { ⌜
-        Startable (now alphabet) (now table) (now index) (now nodes) root (now marks) (now stack) height count (now keys) (now known)
+        PropagationStartable (now alphabet) (now table) (now index) (now nodes) root (now marks)
+        (now stack) height count (now keys) (now known)
         (now places) (now owners) (now rows) (now pending)
         ⌝ }
     ensures { λ r. ⌜

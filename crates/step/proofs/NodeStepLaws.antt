@@ -17,7 +17,7 @@ use Rattle.automaton.proofs.SetLength.{length-stateSet}
 use Rattle.automaton.proofs.TableLaws.{isTable-automaton, isTable-sizes}
 use Rattle.operations.specs.Marks.{sizeOf}
 use Rattle.index.specs.Index.{IndexedTable}
-use Rattle.step.specs.Ready.{Prepared, childSets}
+use Rattle.step.specs.NodeSteppable.{NodeSteppable, childSets}
 use Rattle.step.specs.Node.{Growing, Steppable, SymbolFollowable, SymbolFollowed}
 use Rattle.closures.proofs.TransitionStartLaws.{member-starts, table-transitions}
 use Rattle.closures.proofs.KeyedWordLaws.{starts-symbol, starts-target}
@@ -97,7 +97,7 @@ module _ {table index : List ℕ} {f : ℕ} (indexed : IndexedTable table index)
       (λ e. contains-zeros x (32 - sizeFor (A .states)) q ∙ stateSet-reached A f rs below q .1 (g .growing .reached q e))
       (λ e. has-reached (stateSet-reached A f rs below q .0 (sym (contains-zeros x (32 - sizeFor (A .states)) q) ∙ e))))
 
-pub node-end : {table index : List ℕ} {f size : ℕ} {marks children owners rows : List ℕ} → Prepared table index f marks children
+pub node-end : {table index : List ℕ} {f size : ℕ} {marks children owners rows : List ℕ} → NodeSteppable table index f marks children
     → size ≡ sizeOf table
     → {r : StateSet} → SymbolFollowed table f (childSets size marks children) r owners rows
     → r ≡ stateSet (automatonOf table) f (childSets (sizeOf table) marks children) ++ replicate (32 - sizeOf table) 0

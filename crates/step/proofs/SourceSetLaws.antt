@@ -12,7 +12,7 @@ use Rattle.words.proofs.ScanLaws.{drop-step}
 use Rattle.automaton.specs.Transition.{sourcesAt}
 use Rattle.automaton.specs.StateSet.{contains, allContained}
 use Rattle.operations.specs.Marks.{storedSet}
-use Rattle.step.specs.Ready.{childSets}
+use Rattle.step.specs.NodeSteppable.{childSets}
 use Rattle.step.specs.Node.{SourcesReadable}
 
 -- ---- the first of some part states

@@ -16,7 +16,7 @@ use Rattle.automaton.proofs.ClosureLaws.{targets-below, reached-below}
 use Rattle.automaton.proofs.TableLaws.{isTable-automaton}
 use Rattle.index.specs.Index.{keyOf}
 use Rattle.index.specs.Index.{IndexedTable}
-use Rattle.step.specs.Ready.{Prepared, RowsInside, childSets}
+use Rattle.step.specs.NodeSteppable.{NodeSteppable, RowsInside, childSets}
 use Rattle.closures.specs.Closure.{ReachedFrom, itself, onward, Closures, Joinable, JoinedClosure}
 use Rattle.step.specs.Node.{SourcesReadable, Growing, Satisfied, Steppable}
 use Rattle.step.specs.Node.{SymbolFollowable, SymbolFollowed, TransitionFollowable, TransitionFollowed}

@@ -11,7 +11,7 @@ use Rattle.automaton.specs.StateSet.{StateSet, contains, allContained}
 use Rattle.automaton.specs.Reached.{Reached}
 use Rattle.operations.specs.Marks.{sizeOf}
 use Rattle.index.specs.Index.{keyOf}
-use Rattle.step.specs.Ready.{RowsInside, Prepared, childSets}
+use Rattle.step.specs.NodeSteppable.{RowsInside, NodeSteppable, childSets}
 use Rattle.closures.specs.Closure.{Closed, Closures}
 
 -- the part states at an index are as many as the children
@@ -33,7 +33,7 @@ Satisfied table rs r i = allContained (sourcesAt (drop (i + 1) table)) rs ≡ tr
 
 -- what working out a node's set asks: beside the node the closures that are kept, and a stack with room for every state
 pub record Steppable (table index : List ℕ) (f : ℕ) (marks children owners rows pending : List ℕ) : Type 0 where
-  pub prepared : Prepared table index f marks children
+  pub prepared : NodeSteppable table index f marks children
   pub closures : Closures table owners rows
   pub fits : automatonOf table .states ≤ length pending
 

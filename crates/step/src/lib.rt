@@ -7,7 +7,7 @@ ghost use Rattle.automaton.specs.Transition.{automatonOf, sourcesAt};
 ghost use Rattle.automaton.specs.StateSet.{allContained, stateSet};
 ghost use Rattle.operations.specs.Marks.{sizeOf};
 ghost use Rattle.index.specs.Index.{keyOf};
-ghost use Rattle.step.specs.Ready.{childSets};
+ghost use Rattle.step.specs.NodeSteppable.{childSets};
 ghost use Rattle.closures.specs.Closure.{Closures};
 ghost use Rattle.step.specs.Node.{SourcesReadable, Steppable, SymbolFollowable, SymbolFollowed};
 ghost use Rattle.step.specs.Node.{TransitionFollowable, TransitionFollowed};

@@ -104,5 +104,5 @@ abbrev pub stateBelow : ℕ → ℕ
 stateBelow w = w % 0x400
 
 -- the named bits of a word of a table: x stands above state s
-abbrev pub packed : ℕ → ℕ → ℕ
-packed x s = x * 0x400 + s
+abbrev pub aboveState : ℕ → ℕ → ℕ
+aboveState x s = x * 0x400 + s

@@ -13,7 +13,8 @@ use Rattle.index.specs.Index.{IndexedTable}
 abbrev pub RowsInside : ℕ → List ℕ → List ℕ → Type 0
 RowsInside size marks children = (k : ℕ) → k < length children → getD children k 0 * size + size ≤ length marks
 
-pub record Prepared (table index : List ℕ) (symbol : ℕ) (marks children : List ℕ) : Type 0 where
+-- what the node step asks of the table, its index and the node
+pub record NodeSteppable (table index : List ℕ) (symbol : ℕ) (marks children : List ℕ) : Type 0 where
   pub indexed : IndexedTable table index
   pub symbol-below : symbol < 256
   pub rank : rankOf (indexed .alphabet) symbol ≡ length children
