@@ -10,7 +10,7 @@ use lib.ListN.{drop, length-map}
 use Rattle.words.specs.Word.{lowByte}
 use Rattle.words.specs.Alphabet.{constantsOf, isConstant}
 use Rattle.words.specs.Postfix.{arity}
-use Rattle.words.specs.Expression.{expressionFault}
+use Rattle.words.specs.ExpressionWords.{expressionFault}
 use Rattle.words.proofs.AllLaws.{All, each-append, each-map, each-both, each-self}
 use Rattle.words.proofs.AlphabetLaws.{constantsOf-isConstant, isConstant-zero}
 use Rattle.words.proofs.Ascending.{Ascending, end, next, ascending-le, ascending-append, ascending-one}

@@ -13,7 +13,7 @@ use borrow.Author.Tests.{leb-true, leb-false, eqb-true, eqb-false, not-false}
 use Rattle.words.specs.Alphabet.{constantsOf, alphabetFault}
 use Rattle.words.specs.Shape.{treesBy}
 use Rattle.words.specs.Postfix.{arity, trees, oneTree, notOneTree}
-use Rattle.words.specs.Expression.{expressionRefusals, expressionFault}
+use Rattle.words.specs.ExpressionWords.{expressionRefusals, expressionFault}
 use Rattle.words.proofs.TestLaws.{picked}
 use Rattle.words.proofs.RefusalLaws.{none-applies}
 use Rattle.words.proofs.AcceptedAlphabet.{AcceptedAlphabet, alphabet-accepted, arity-most}

@@ -6,7 +6,7 @@ use mathlib.Core.List.{List, [], _∷_, List·Memᴰ, List·Memᴰ·head, List·
 use native.Mathlib.Omega.{arith}
 use lib.ListN.{length, drop}
 use Rattle.words.specs.Postfix.{arity}
-use Rattle.words.specs.Expression.{expressionFault}
+use Rattle.words.specs.ExpressionWords.{expressionFault}
 use Rattle.words.proofs.AllLaws.{All, each-append, each-map}
 use Rattle.words.proofs.Ascending.{Ascending, next}
 use Rattle.words.proofs.DistinctLaws.{Distinct, distinct-append}

@@ -5,7 +5,7 @@ use mathlib.Core.List.{List, [], _∷_}
 use native.Mathlib.Omega.{arith}
 use native.Mathlib.Nat.{le-refl, le-trans}
 use lib.ListN.{length}
-use Rattle.words.specs.Expression.{expressionFault}
+use Rattle.words.specs.ExpressionWords.{expressionFault}
 use Rattle.words.proofs.Ascending.{Ascending}
 use Rattle.automaton.specs.Numbering.{Port, statesOf, portOf, childPort, portsFrom, statesAfter, lastPort}
 use Rattle.automaton.proofs.PortStates.{constantsIn, PortIn, portIn-from}

@@ -8,7 +8,7 @@ use Rattle.words.specs.Word.{spareBitsClear, isOf, kindAt}
 use Rattle.words.specs.Alphabet.{isEntry, rankOf, isConstant, constantsFrom, constantsOf, noAlphabet, wrongConstants, alphabetFault}
 use Rattle.words.specs.Shape.{treesBy}
 use Rattle.words.specs.Postfix.{arity, notOneTree}
-use Rattle.words.specs.Expression.{isExpressionWord, wrongLength, notExpressionWords, expressionFault}
+use Rattle.words.specs.ExpressionWords.{isExpressionWord, wrongLength, notExpressionWords, expressionFault}
 use Rattle.automaton.specs.Transition.{tableWords}
 use Rattle.automaton.specs.Numbering.{hasEntries, statesOf, portOf, ownTransitions, portsFrom, statesAfter, transitionsFrom, compiled}
 

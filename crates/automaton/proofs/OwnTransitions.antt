@@ -11,7 +11,7 @@ use borrow.Author.Tests.{ne-eqb}
 use Rattle.words.specs.Word.{Kind, symbolKind, unionKind, productKind, closureKind, kindNumber, kindOf, hasKind, lowByte}
 use Rattle.words.specs.Alphabet.{constantsOf, rankOf}
 use Rattle.words.specs.Postfix.{arity}
-use Rattle.words.specs.Expression.{isExpressionWord}
+use Rattle.words.specs.ExpressionWords.{isExpressionWord}
 use Rattle.words.proofs.KindLaws.{kindOf-hasKind, kindOf-hasNot}
 use Rattle.words.proofs.Ascending.{Ascending}
 use Rattle.words.proofs.ExpressionWordLaws.{ExpressionWord, symbolWord, emptyWord, unionWord, productWord, closureWord, expressionWord}

@@ -13,7 +13,7 @@ use borrow.Author.Tests.{leb-true, ltb-false, eqb-false, not-false}
 use Rattle.words.specs.Lists.{all}
 use Rattle.words.specs.Shape.{treesBy}
 use Rattle.words.specs.Postfix.{arity, trees, oneTree, notOneTree}
-use Rattle.words.specs.Expression.{isExpressionWord, wrongLength, notExpressionWords, expressionRefusals, expressionFault}
+use Rattle.words.specs.ExpressionWords.{isExpressionWord, wrongLength, notExpressionWords, expressionRefusals, expressionFault}
 use Rattle.words.proofs.TestLaws.{and-true, or-false, picked}
 use Rattle.words.proofs.RefusalLaws.{none-applies}
 use Rattle.words.proofs.AcceptedExpression.{expression-passed}

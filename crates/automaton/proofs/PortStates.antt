@@ -12,7 +12,7 @@ use borrow.Author.Tests.{eqb-true, ltb-true, not-false}
 use Rattle.words.specs.Word.{symbolKind, hasKind, lowByte}
 use Rattle.words.specs.Alphabet.{constantsOf, isConstant}
 use Rattle.words.specs.Postfix.{arity}
-use Rattle.words.specs.Expression.{isExpressionWord}
+use Rattle.words.specs.ExpressionWords.{isExpressionWord}
 use Rattle.words.proofs.Ascending.{Ascending, end, next, ascending-one, ascending-from}
 use Rattle.words.proofs.AlphabetLaws.{isConstant-zero, zero-isConstant}
 use Rattle.words.proofs.ConstantLaws.{constants-ascending}

@@ -11,7 +11,7 @@ use borrow.Author.Tests.{ne-eqb, le-leb}
 use Rattle.words.specs.Word.{sourceKind, wordOf, lowByte}
 use Rattle.words.specs.Lists.{count}
 use Rattle.words.specs.Postfix.{arity}
-use Rattle.words.specs.Expression.{expressionFault}
+use Rattle.words.specs.ExpressionWords.{expressionFault}
 use Rattle.automaton.specs.Transition.{Transition, onSymbol, transitionWords, transitionsWords, tableWords}
 use Rattle.automaton.specs.Numbering.{Port, hasEntries, statesOf, portOf, entryFor, epsilons, entryEpsilons}
 use Rattle.automaton.specs.Numbering.{statesAfter, ownTransitions, transitionsFrom, constantTransitions, lastPort}

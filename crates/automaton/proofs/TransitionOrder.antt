@@ -9,7 +9,7 @@ use native.Mathlib.Decide.{decLe}
 use lib.ListN.{drop}
 use Rattle.words.specs.Word.{lowByte}
 use Rattle.words.specs.Postfix.{arity}
-use Rattle.words.specs.Expression.{expressionFault}
+use Rattle.words.specs.ExpressionWords.{expressionFault}
 use Rattle.words.proofs.Ascending.{Ascending, end, next, ascending-append, ascending-one}
 use Rattle.automaton.specs.Transition.{Transition, onSymbol, epsilon}
 use Rattle.automaton.specs.Numbering.{Port, statesOf, portOf, epsilons, entryEpsilons, ownTransitions}

@@ -5,6 +5,7 @@ use mathlib.Core.List.{List, [], _∷_}
 use mathlib.Core.Bool.{Bool, false, not, cond, _&&_, _||_}
 use lib.ListN.{length}
 use lib.Dec.{ltb, leb, eqb}
+use Rattle.words.specs.Limits.{statesMost, tableMost}
 use Rattle.words.specs.Word.{headKind, transitionKind, epsilonKind, sourceKind, hasKind}
 use Rattle.words.specs.Word.{isOf, symbolAbove, countAbove, stateAbove, stateBelow}
 use Rattle.words.specs.Alphabet.{isSymbol, rankOf}
@@ -12,7 +13,7 @@ use Rattle.automaton.specs.Transition.{Transition, Automaton, onSymbol, 
 
 -- "head wrong, state count 0 or over 1,024, a state not below it"
 unfoldable pub isHead : ℕ → Bool
-isHead w = isOf headKind w && ltb 0 (countAbove w) && leb (countAbove w) 1024 && ltb (stateBelow w) (countAbove w)
+isHead w = isOf headKind w && ltb 0 (countAbove w) && leb (countAbove w) statesMost && ltb (stateBelow w) (countAbove w)
 
 -- a symbol move or an empty move over n states: a known symbol, and states below n
 abbrev pub isTransition : List ℕ → ℕ → ℕ → Bool
@@ -36,7 +37,7 @@ areTransitions a n k (w ∷ ws) = isTableWord a n k w && areTransitions a n (sou
 
 unfoldable pub isTable : List ℕ → List ℕ → Bool
 isTable a [] = false
-isTable a (h ∷ ws) = leb (length (h ∷ ws)) 2048 && isHead h && areTransitions a (countAbove h) 0 ws
+isTable a (h ∷ ws) = leb (length (h ∷ ws)) tableMost && isHead h && areTransitions a (countAbove h) 0 ws
 
 -- 8: "table empty or over 2,048 words, head wrong, state count 0 or over 1,024, a state not below it, unknown symbol,
 -- wrong following words, spare bits set or any other kind"
@@ -60,6 +61,6 @@ TransitionsOver a n (t ∷ ts) = TransitionOver a n t × TransitionsOver a n ts
 
 pub record AutomatonOver (a : List ℕ) (A : Automaton) : Type 0 where
   pub some : 0 < A .states
-  pub most : A .states ≤ 1024
+  pub most : A .states ≤ statesMost
   pub final : A .final < A .states
   pub transitions : TransitionsOver a (A .states) (A .transitions)

@@ -109,7 +109,7 @@ module _ {table index : List ℕ} {s : ℕ} {owners rows pending : List ℕ} (g 
   closure-fits = omega (arith, g .closures .rows-are)
 
   pub keep-known : getD owners (s % 64) 0 ≡ s + 1 → Kept table s true owners rows
-  keep-known e = record { closures = g .closures; closure = λ _. g .closures .kept (s % 64) s row-small e }
+  keep-known e = record { closures = g .closures; closure = λ _. g .closures .filled (s % 64) s row-small e }
 
   -- the row is another state's
   pub keep-other : Kept table s false owners rows
@@ -124,7 +124,7 @@ module _ {table index : List ℕ} {s : ℕ} {owners rows pending : List ℕ} (g 
           rows-are =
               ap length written ∙ length-paste rows (s % 64 * 32) closure 32 (omega (arith, closure-fits)) (omega (arith, c .size))
               ∙ g .closures .rows-are;
-          kept = λ k t h o. kept k t h o (ℕ-discrete k (s % 64));
+          filled = λ k t h o. filled k t h o (ℕ-discrete k (s % 64));
         };
         closure = λ _. here;
       }
@@ -137,9 +137,9 @@ module _ {table index : List ℕ} {s : ℕ} {owners rows pending : List ℕ} (g 
           subst (ClosureOf table s)
           (sym (ap (λ (l : List ℕ). storedSet 32 l (s % 64)) written ∙ stored-written 32 rows (s % 64) closure (c .size) closure-fits)) c
 
-      kept : (k t : ℕ) → k < 64 → getD (set owners (s % 64) (s + 1)) k 0 ≡ t + 1 → Dec (k ≡ s % 64)
+      filled : (k t : ℕ) → k < 64 → getD (set owners (s % 64) (s + 1)) k 0 ≡ t + 1 → Dec (k ≡ s % 64)
           → ClosureOf table t (storedSet 32 rows′ k)
-      kept k t h o (yes i) =
+      filled k t h o (yes i) =
           let same : s ≡ t =
           omega (
             arith,
@@ -147,9 +147,9 @@ module _ {table index : List ℕ} {s : ℕ} {owners rows pending : List ℕ} (g 
                 ∙ ap (λ (x : ℕ). getD (set owners (s % 64) (s + 1)) x 0) (sym i) ∙ o,
           ) in
           rw (i, ← same) here
-      kept k t h o (no i) =
+      filled k t h o (no i) =
           let other = ap (λ (l : List ℕ). storedSet 32 l k) written ∙ stored-other 32 rows (s % 64) closure (c .size) closure-fits k i in
-          subst (ClosureOf table t) (sym other) (g .closures .kept k t h (sym (getD-set-other owners (s % 64) k (s + 1) 0 i) ∙ o))
+          subst (ClosureOf table t) (sym other) (g .closures .filled k t h (sym (getD-set-other owners (s % 64) k (s + 1) 0 i) ∙ o))
 
 -- ---- the closure in the set
 

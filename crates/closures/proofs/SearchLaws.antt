@@ -23,8 +23,8 @@ use Rattle.closures.proofs.PendingStackLaws.{put-cases, stack-puttable}
 
 -- the epsilon transitions from the new state wait, and every other word stays settled
 module _ (table : List ℕ) (r : StateSet) (pending : List ℕ) (top s : ℕ) (fits : top < length pending) (i : ℕ) where
-  kept : (keyOf (getD table i 0) ≡ 256 + s → ⊥) → ClosedAt table r i → ClosedAt table (insert r s) i
-  kept n h p q m e =
+  stays-closed : (keyOf (getD table i 0) ≡ 256 + s → ⊥) → ClosedAt table r i → ClosedAt table (insert r s) i
+  stays-closed n h p q m e =
       insert-keeps r s q (h p q m (sym (insert-other r s p (λ x. n (starts-epsilon table i m ∙ ap (λ (y : ℕ). 256 + y) x))) ∙ e))
 
   settled-insert : SettledAt table r pending top i → SettledAt table (insert r s) (set pending top s) (top + 1) i
@@ -34,7 +34,7 @@ module _ (table : List ℕ) (r : StateSet) (pending : List ℕ) (top s : ℕ) (f
     where
       go : Dec (keyOf (getD table i 0) ≡ 256 + s) → SettledAt table (insert r s) (set pending top s) (top + 1) i
       go (yes e) = waiting top (omega arith) (e ∙ sym (ap (λ (y : ℕ). 256 + y) (getD-set-same pending top s 0 fits)))
-      go (no n) = satisfied (kept n h)
+      go (no n) = satisfied (stays-closed n h)
 
 module _ {table : List ℕ} {base : StateSet} {o : ℕ} where
   module _ {key from : ℕ} {r : StateSet} {pending : List ℕ} {top : ℕ} (g : Search table base o key from r pending top) where

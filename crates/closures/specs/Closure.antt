@@ -1,16 +1,18 @@
 -- The epsilon closure of one state, as code works it out: states are reached one after another, and a stack holds those whose
 -- epsilon transitions are still to be followed. Closures that were worked out are kept for other nodes. These definitions
 -- serve inner functions.
-use Prim.Native.Nat.{ℕ, _+_, _-_, _^_, _%_, _<_, _≤_}
+use Prim.Native.Nat.{ℕ, _+_, _-_, _*_, _^_, _%_, _<_, _≤_}
 use mathlib.Core.Path.{_≡_}
 use mathlib.Core.Bool.{Bool, true, false, cond}
 use mathlib.Core.Logic.{_⊎_}
 use mathlib.Core.List.{List, List·Memᴰ}
 use lib.ListN.{length, getD, drop, set}
 use Rattle.words.specs.Lists.{count, listFrom}
+use Rattle.words.specs.Limits.{statesMost}
 use Rattle.automaton.specs.Transition.{Transition, epsilon, transitionAt, automatonOf}
 use Rattle.automaton.specs.StateSet.{StateSet, contains, insert, isClosed}
 use Rattle.operations.specs.Marks.{storedSet}
+use Rattle.sets.specs.Size.{setMost}
 use Rattle.index.specs.Index.{stateKey, keyOf, IndexedTable}
 
 -- ---- the closure of a state
@@ -24,9 +26,9 @@ pub data ReachedFrom (ts : List Transition) (s : ℕ) : ℕ → Type 0 where
 abbrev pub Closed : List ℕ → StateSet → Type 0
 Closed table r = isClosed (automatonOf table .transitions) r ≡ true
 
--- a set of 32 words with the states that are reached from state s, and no other
+-- a set with the states that are reached from state s, and no other
 pub record ClosureOf (table : List ℕ) (s : ℕ) (r : StateSet) : Type 0 where
-  pub size : length r ≡ 32
+  pub size : length r ≡ setMost
   pub words : (i : ℕ) → getD r i 0 < 2 ^ 32
   pub holds : contains r s ≡ true
   pub closed : Closed table r
@@ -34,11 +36,15 @@ pub record ClosureOf (table : List ℕ) (s : ℕ) (r : StateSet) : Type 0 where
 
 -- ---- the closures that are kept
 
--- Row k has 32 words; it holds the closure of state s where its owner is s + 1, and nothing known where its owner is 0.
+-- how many there are at most
+abbrev pub rowsMost : ℕ
+rowsMost = 64
+
+-- Row k holds the closure of state s where its owner is s + 1, and nothing known where its owner is 0.
 pub record Closures (table owners rows : List ℕ) : Type 0 where
-  pub owners-are : length owners ≡ 64
-  pub rows-are : length rows ≡ 2048
-  pub kept : (k s : ℕ) → k < 64 → getD owners k 0 ≡ s + 1 → ClosureOf table s (storedSet 32 rows k)
+  pub owners-are : length owners ≡ rowsMost
+  pub rows-are : length rows ≡ rowsMost * setMost
+  pub filled : (k s : ℕ) → k < rowsMost → getD owners k 0 ≡ s + 1 → ClosureOf table s (storedSet setMost rows k)
 
 -- ---- one word of the table
 
@@ -63,7 +69,7 @@ missing n r = n - count (contains r) (listFrom (λ q. q) 0 n)
 
 -- The first `top` words of the stack are states of the set. No state is pushed twice, so the stack has room.
 pub record PendingStack (table : List ℕ) (r : StateSet) (pending : List ℕ) (top : ℕ) : Type 0 where
-  pub size : length r ≡ 32
+  pub size : length r ≡ setMost
   pub below : (q : ℕ) → contains r q ≡ true → q < automatonOf table .states
   pub fits : automatonOf table .states ≤ length pending
   pub few : missing (automatonOf table .states) r + top ≤ automatonOf table .states
@@ -86,7 +92,7 @@ Settled table base s r pending top = Search table base s 0 (length table) r pend
 
 -- a state number, and room for a state that is not in the set
 pub record Puttable (r : StateSet) (pending : List ℕ) (top s : ℕ) : Type 0 where
-  pub few : s < 1024
+  pub few : s < statesMost
   pub fits : contains r s ≡ false → top < length pending
 
 -- state s was put into the set and on the stack, if it was not in the set
@@ -123,9 +129,9 @@ pub record Closable (table index : List ℕ) (s : ℕ) (pending : List ℕ) : Ty
   pub state : s < automatonOf table .states
   pub fits : automatonOf table .states ≤ length pending
 
--- a set of 32 words with states of the table, closed under the epsilon transitions
+-- a set with states of the table, closed under the epsilon transitions
 pub record ClosedSet (table : List ℕ) (r : StateSet) : Type 0 where
-  pub size : length r ≡ 32
+  pub size : length r ≡ setMost
   pub words : (i : ℕ) → getD r i 0 < 2 ^ 32
   pub below : (q : ℕ) → contains r q ≡ true → q < automatonOf table .states
   pub closed : Closed table r
@@ -137,7 +143,7 @@ pub record Addable (table index : List ℕ) (s : ℕ) (pending : List ℕ) (r : 
 
 -- t has the states of r and of the closure of state s, and no other
 pub record Added (table : List ℕ) (s : ℕ) (r t : StateSet) : Type 0 where
-  pub size : length t ≡ 32
+  pub size : length t ≡ setMost
   pub words : (i : ℕ) → getD t i 0 < 2 ^ 32
   pub grown : (q : ℕ) → contains r q ≡ true → contains t q ≡ true
   pub holds : contains t s ≡ true
@@ -149,10 +155,10 @@ pub record Keepable (table index : List ℕ) (s : ℕ) (owners rows pending : Li
   pub closable : Closable table index s pending
   pub closures : Closures table owners rows
 
--- if the answer is true, the closure of state s is in the row with its number modulo 64
+-- if the answer is true, the closure of state s is in the row with its number modulo `rowsMost`
 pub record Kept (table : List ℕ) (s : ℕ) (b : Bool) (owners rows : List ℕ) : Type 0 where
   pub closures : Closures table owners rows
-  pub closure : b ≡ true → ClosureOf table s (storedSet 32 rows (s % 64))
+  pub closure : b ≡ true → ClosureOf table s (storedSet setMost rows (s % rowsMost))
 
 -- the same, and a closed set for the closure to be put into
 pub record Joinable (table index : List ℕ) (s : ℕ) (owners rows pending : List ℕ) (r : StateSet) : Type 0 where

@@ -6,17 +6,18 @@ ghost use Rattle.closures.specs.Closure.{Puttable, Put, Followable, Foll
 ghost use Rattle.closures.specs.Closure.{Addable, Added, Keepable, Kept, Joinable, JoinedClosure};
 use index::KEYS;
 use index::STATE_KEYS;
+use sets::state::SET_MOST;
 use sets::state::contains;
 use sets::state::insert;
 use sets::whole::join;
 use sets::whole::write_set_at;
 use words::word::STATE_RANGE;
 
-// How many closures are kept, one in a row of SET_WORDS words.
-const ROWS: usize = 64;
+// How many closures are kept at most, one in a row of SET_MOST words.
+pub const ROWS_MOST: usize = 64;
 
-// The most words of a state set.
-const SET_WORDS: usize = 32;
+// The words of all rows.
+pub const ROWS_LENGTH: usize = ROWS_MOST * SET_MOST;
 
 // Puts state s into the set and on the stack, if it is not in the set. Answers the stack's height.
 fn reach(set: &mut [u32], pending: &mut [u32], top: usize, s: usize) -> usize
@@ -82,11 +83,11 @@ fn add_closure(table: &[u32], index: &[u32], state: usize, set: &mut [u32], pend
 }
 
 // The closure of a state as a set of its own.
-fn close_state(table: &[u32], index: &[u32], state: usize, pending: &mut [u32]) -> [u32; 32]
+fn close_state(table: &[u32], index: &[u32], state: usize, pending: &mut [u32]) -> [u32; SET_MOST]
     requires { ⌜ Closable (now table) (now index) state (now pending) ⌝ }
     ensures { λ r. ⌜ ClosureOf (now (table .entry)) state r ⌝ }
 {
-    let mut set = [0u32; 32];
+    let mut set = [0u32; SET_MOST];
     add_closure(table, index, state, &mut set, pending);
     set
 }
@@ -104,7 +105,7 @@ fn keep_closure(
     requires { ⌜ Keepable (now table) (now index) state (now owners) (now rows) (now pending) ⌝ }
     ensures { λ r. ⌜ Kept (now (table .entry)) state r (now (owners .exit)) (now (rows .exit)) ⌝ }
 {
-    let row = state % ROWS;
+    let row = state % ROWS_MOST;
     let owner = state as u32 + 1;
     let found = owners[row];
     if found == owner {
@@ -114,7 +115,7 @@ fn keep_closure(
         return false;
     }
     let closure = close_state(table, index, state, pending);
-    write_set_at(rows, row * SET_WORDS, &closure);
+    write_set_at(rows, row * SET_MOST, &closure);
     owners[row] = owner;
     true
 }
@@ -138,6 +139,6 @@ pub fn join_closure(
         add_closure(table, index, state, set, pending);
         return;
     }
-    let at = state % ROWS * SET_WORDS;
-    join(set, &rows[at..at + SET_WORDS]);
+    let at = state % ROWS_MOST * SET_MOST;
+    join(set, &rows[at..at + SET_MOST]);
 }

@@ -14,7 +14,7 @@ use Rattle.words.specs.Lists.{all}
 use Rattle.words.specs.Alphabet.{constantsOf}
 use Rattle.words.specs.Shape.{treesBy}
 use Rattle.words.specs.Postfix.{arity, trees}
-use Rattle.words.specs.Expression.{isExpressionWord, expressionFault}
+use Rattle.words.specs.ExpressionWords.{isExpressionWord, expressionFault}
 use Rattle.words.proofs.TestLaws.{and-true, picked}
 use Rattle.words.proofs.ListLaws.{map-append}
 use Rattle.words.proofs.ReadingLaws.{take-pushed, drop-pushed}

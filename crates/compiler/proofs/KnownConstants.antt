@@ -11,7 +11,7 @@ use borrow.Author.Tests.{eq-eqb, ne-eqb}
 use Rattle.words.specs.Word.{Kind, unionKind, productKind, closureKind, kindAt, kindNumber, kindOf, numberOf, lowByte}
 use Rattle.words.specs.Alphabet.{isConstant, constantsOf}
 use Rattle.words.specs.Postfix.{arity}
-use Rattle.words.specs.Expression.{isExpressionWord}
+use Rattle.words.specs.ExpressionWords.{isExpressionWord}
 use Rattle.words.proofs.KindLaws.{kindAt-number}
 use Rattle.words.proofs.Ascending.{Ascending, end, next}
 use Rattle.words.proofs.AlphabetLaws.{constantsOf-isConstant}

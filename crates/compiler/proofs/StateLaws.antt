@@ -11,7 +11,7 @@ use borrow.Author.Tests.{eq-eqb, ne-eqb, ltb-true}
 use Rattle.words.specs.Word.{symbolKind, kindAt, numberOf, lowByte, kindNumber}
 use Rattle.words.specs.Alphabet.{constantsOf}
 use Rattle.words.specs.Postfix.{arity}
-use Rattle.words.specs.Expression.{isExpressionWord}
+use Rattle.words.specs.ExpressionWords.{isExpressionWord}
 use Rattle.words.proofs.KindLaws.{kindAt-number}
 use Rattle.words.proofs.ScanLaws.{drop-step, drop-end}
 use Rattle.words.proofs.WordLaws.{isExpressionWord-facts}

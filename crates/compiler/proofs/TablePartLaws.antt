@@ -9,7 +9,7 @@ use lib.Seq.{take-suc, take-all, length-take-le}
 use Rattle.words.specs.Lists.{all}
 use Rattle.words.specs.Word.{headKind, wordOf}
 use Rattle.words.specs.Alphabet.{constantsOf}
-use Rattle.words.specs.Expression.{isExpressionWord}
+use Rattle.words.specs.ExpressionWords.{isExpressionWord}
 use Rattle.words.proofs.TestLaws.{and-true, all-right}
 use Rattle.automaton.specs.Transition.{transitionsWords}
 use Rattle.automaton.specs.Numbering.{Port, statesOf, portOf, childPort, portsFrom, statesAfter, transitionsFrom, lastPort, compiled}

@@ -5,7 +5,7 @@ use mathlib.Core.Bool.{true}
 use mathlib.Core.List.{List}
 use lib.ListN.{length}
 use Rattle.words.specs.Alphabet.{constantsOf, alphabetFault}
-use Rattle.words.specs.Expression.{isExpressionWord, expressionFault}
+use Rattle.words.specs.ExpressionWords.{isExpressionWord, expressionFault}
 
 -- the number of an alphabet's constants
 pub record ConstantsCounted (a : List ℕ) (count : ℕ) : Type 0 where

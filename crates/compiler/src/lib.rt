@@ -1,13 +1,13 @@
 // Compile: turns an alphabet and a rule into the table of the numbered Thompson tree automaton, or refuses.
 ghost use mathlib.Core.Path.{_≡_};
 ghost use Rattle.operations.specs.Compile.{compileFault, compileAnswer, compileExit};
-ghost use Rattle.compiler.specs.Answers.{answerInCompiled};
+ghost use Rattle.compiler.specs.CompileAnswer.{answerInCompiled};
 use states::states_after;
 use table::write_table;
 use words::alphabet::alphabet_fault;
 use words::alphabet::count_constants;
 use words::expression::expression_fault;
-use words::word::STATES_MOST;
+use words::limits::STATES_MOST;
 
 mod states;
 mod table;
@@ -33,7 +33,7 @@ fn compile_fault(alphabet: &[u32], expression: &[u32], table_length: usize) -> u
     }
     let count = count_constants(alphabet);
     let states = states_after(alphabet, count, expression);
-    if states > STATES_MOST {
+    if states > STATES_MOST as u32 {
         return 6;
     }
     let mut small = [0u32; 1];

@@ -11,7 +11,7 @@ use ports::port::NONE;
 use ports::port::port_of;
 use words::postfix::arity;
 use words::word::Kind;
-use words::word::LOW_BYTE;
+use words::word::SYMBOL_RANGE;
 use words::word::kind_of;
 
 // How many states a word has, where `count` is the number of constants.
@@ -50,7 +50,7 @@ pub(crate) fn word_port(alphabet: &[u32], exit: u32, w: u32) -> u32
     }
     let kind = kind_of(w);
     match kind {
-        Kind::Symbol => port_of(exit, w % LOW_BYTE),
+        Kind::Symbol => port_of(exit, w % SYMBOL_RANGE),
         _ => port_of(exit, NONE),
     }
 }

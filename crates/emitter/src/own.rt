@@ -19,8 +19,8 @@ use ports::port::entry_at;
 use ports::port::exit_of;
 use words::word::KIND_UNIT;
 use words::word::Kind;
-use words::word::LOW_BYTE;
 use words::word::SOURCE;
+use words::word::SYMBOL_RANGE;
 use words::word::kind_of;
 
 // The index of a constant.
@@ -178,10 +178,10 @@ pub fn push_own(
     }
     let kind = kind_of(w);
     match kind {
-        Kind::Symbol => push_symbol(constants, ports, out, at, exit, w % LOW_BYTE),
+        Kind::Symbol => push_symbol(constants, ports, out, at, exit, w % SYMBOL_RANGE),
         Kind::Union => push_union(constants, ports, out, at, exit),
-        Kind::Product => push_product(constants, ports, out, at, exit, w % LOW_BYTE),
-        Kind::Closure => push_closure(constants, ports, out, at, exit, w % LOW_BYTE),
+        Kind::Product => push_product(constants, ports, out, at, exit, w % SYMBOL_RANGE),
+        Kind::Closure => push_closure(constants, ports, out, at, exit, w % SYMBOL_RANGE),
         _ => at,
     }
 }

@@ -30,7 +30,7 @@ use Rattle.nodes.specs.Nodes.{setFrom, markedFrom}
 use Rattle.nodes.proofs.MarkLaws.{MarksHolding, holding-set, setFrom-rows, markedAt-rows}
 use Rattle.propagation.specs.declared.Progress.{Progress}
 use Rattle.propagation.specs.Propagation.{propagateStep, propagateFrom, initial}
-use Rattle.exchanger.specs.Exchanging.{exchangedFrom}
+use Rattle.updates.specs.Updating.{updatedFrom}
 use Rattle.propagation.proofs.PropagationLaws.{recomputed-is, step-ancestor, propagate-continues, propagate-stops}
 use Rattle.exchanger.proofs.PropagateSetsLaws.{Propagating, Same, propagate-propagateSets}
 use Rattle.exchanger.proofs.TailLaws.{tail-filled}
@@ -203,8 +203,8 @@ module _ (a table chapter marks : List ℕ) (n element : ℕ) (xs : List ℕ) (o
     abbrev propagated : List ℕ × ℕ
     propagated = propagateFrom a table tree (s + m) (suc left) before (initial m)
 
-    propagateed-is : exchangedFrom a table tree s (s + length xs - 1) moved ≡ propagated
-    unfolding exchangedFrom
+    propagateed-is : updatedFrom a table tree s (s + length xs - 1) moved ≡ propagated
+    unfolding updatedFrom
     propagateed-is =
         let at : s + length xs - 1 ≡ s + m = omega (arith, some) in
         let count : s + length xs - 1 - s ≡ m = omega (arith, some) in
@@ -232,7 +232,7 @@ module _ (a table chapter marks : List ℕ) (n element : ℕ) (xs : List ℕ) (o
         some
         ∙ ap (λ (b : Bool). cond b (rows, length xs) up) tests
 
-    exchanged : Same a table tree used element rest above (exchangedFrom a table tree s (s + length xs - 1) moved)
+    exchanged : Same a table tree used element rest above (updatedFrom a table tree s (s + length xs - 1) moved)
         (exchangedSets a table stored used element xs gap)
     exchanged = rw (propagateed-is, sets-is) (go (tested (sameWords new old)))
       where
@@ -249,7 +249,7 @@ module _ (a table chapter marks : List ℕ) (n element : ℕ) (xs : List ℕ) (o
 
     pub left-outcomes : (marks′ : List ℕ) (count : ℕ)
         → (marks′, count)
-        ≡ exchangedFrom a table (splice a (take n chapter) element xs) (startOf a (take n chapter) element)
+        ≡ updatedFrom a table (splice a (take n chapter) element xs) (startOf a (take n chapter) element)
         (startOf a (take n chapter) element + length xs - 1) moved
         → ExchangeLeft a table chapter marks n element xs marks′ count
     unfolding outcomes refit

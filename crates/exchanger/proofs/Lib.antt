@@ -5,6 +5,5 @@ pub mod PropagateSetsLaws
 pub mod CallNumberLaws
 pub mod MovedLaws
 pub mod ExchangeLaws
-pub mod RecomputedNodesLaws
 pub mod ReplaceLaws
 pub mod ExchangeAnswerLaws

@@ -9,7 +9,7 @@ use lib.Seq.{paste, slice}
 use Rattle.words.specs.Postfix.{startOf, splice}
 use Rattle.operations.specs.Marks.{sizeOf, refit}
 use Rattle.operations.specs.Exchange.{fault, newTree}
-use Rattle.exchanger.specs.Exchanging.{exchangedFrom, Exchangeable}
+use Rattle.updates.specs.Updating.{updatedFrom, Updatable}
 use Rattle.exchanger.proofs.CallNumberLaws.{CallNumbers, call-numbers, result-workable}
 use Rattle.exchanger.proofs.MovedLaws.{moved-holds}
 use Rattle.exchanger.proofs.ExchangeLaws.{ExchangeLeft, left-outcomes, chapter-left, nodes-left}
@@ -45,15 +45,15 @@ module _ (a table chapter marks : List ℕ) (n element : ℕ) (xs : List ℕ) (o
     module _ (work : List ℕ)
         (m : work ≡ refit (n * size) (take ((s + length xs - 1) * size) marks ++ slice (element * size) (n * size) marks) marks)
         (long : length work ≡ length marks) where
-      pub call-exchangeable : Exchangeable a table (take (s + length xs + (n - element - 1)) filled) s (s + length xs - 1) work
-      call-exchangeable =
+      pub call-updatable : Updatable a table (take (s + length xs + (n - element - 1)) filled) s (s + length xs - 1) work
+      call-updatable =
           let some = facts .some in
           let t = facts .total in
           rw chapter-nodes
           (record { workable = result-workable a table chapter marks n element xs ok work long; order = omega arith; inside = omega arith })
 
       pub marks-exit : (marks′ : List ℕ) (count : ℕ)
-          → (marks′, count) ≡ exchangedFrom a table (take (s + length xs + (n - element - 1)) filled) s (s + length xs - 1) work
+          → (marks′, count) ≡ updatedFrom a table (take (s + length xs + (n - element - 1)) filled) s (s + length xs - 1) work
           → ExchangeLeft a table chapter marks n element xs marks′ count
       marks-exit marks′ count r =
           let held =
@@ -61,4 +61,4 @@ module _ (a table chapter marks : List ℕ) (n element : ℕ) (xs : List ℕ) (o
           (m
           ∙ ap₂ (λ (i z : ℕ). refit (n * z) (take ((i + length xs - 1) * z) marks ++ slice (element * z) (n * z) marks) marks) qs qz) in
           left-outcomes a table chapter marks n element xs ok work held marks′ count
-          (r ∙ ap₂ (λ (l : List ℕ) (i : ℕ). exchangedFrom a table l i (i + length xs - 1) work) chapter-nodes qs)
+          (r ∙ ap₂ (λ (l : List ℕ) (i : ℕ). updatedFrom a table l i (i + length xs - 1) work) chapter-nodes qs)

@@ -1,3 +1,2 @@
 pub mod Tail
-pub mod Exchanging
-pub mod Answers
+pub mod ExchangeAnswer

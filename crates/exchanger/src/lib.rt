@@ -1,7 +1,7 @@
 // Exchange: one subtree of a marked chapter gives way to a replacement.
 ghost use mathlib.Core.Path.{_≡_};
 ghost use Rattle.operations.specs.Exchange.{exchangeAnswer, exchangeChapter, exchangeMarks};
-ghost use Rattle.exchanger.specs.Answers.{answerInExchanged};
+ghost use Rattle.exchanger.specs.ExchangeAnswer.{answerInExchanged};
 use refusals::exchange::exchange_fault;
 use subtree::replace_subtree;
 

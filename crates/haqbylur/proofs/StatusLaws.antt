@@ -6,15 +6,15 @@ use Prim.Native.Nat.{ℕ}
 use Rattle.words.specs.Answer.{Answer, refused, accepted}
 use Rattle.compiler.specs.declared.Compiled.{Compiled}
 use Rattle.compiler.specs.declared.Compiled.the-variants.{Table, Refused as Compiled·Refused}
-use Rattle.compiler.specs.Answers.{answerInCompiled}
+use Rattle.compiler.specs.CompileAnswer.{answerInCompiled}
 use Rattle.matcher.specs.declared.Ran.{Ran}
 use Rattle.matcher.specs.declared.Ran.the-variants.{Marked, Refused as Ran·Refused}
 use Rattle.matcher.specs.declared.Listed.{Listed}
 use Rattle.matcher.specs.declared.Listed.the-variants.{Matches, Refused as Listed·Refused}
-use Rattle.matcher.specs.Answers.{answerInRan, answerInListed}
+use Rattle.matcher.specs.MatcherAnswers.{answerInRan, answerInListed}
 use Rattle.exchanger.specs.declared.Exchanged.{Exchanged}
 use Rattle.exchanger.specs.declared.Exchanged.the-variants.{Replaced, Refused as Exchanged·Refused}
-use Rattle.exchanger.specs.Answers.{answerInExchanged}
+use Rattle.exchanger.specs.ExchangeAnswer.{answerInExchanged}
 use Rattle.haqbylur.specs.Status.{statusOf, valueOr}
 
 module _ {X : Answer} {s s′ : List ℕ} where

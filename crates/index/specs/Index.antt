@@ -7,15 +7,16 @@ use mathlib.Core.Bool.{true, cond}
 use lib.ListN.{length, getD, set, replicate}
 use lib.Dec.{ltb}
 use Rattle.automaton.specs.Table.{isTable}
-use Rattle.words.specs.Word.{transitionKind, epsilonKind, hasKind, symbolAbove, stateAbove}
+use Rattle.words.specs.Limits.{alphabetMost, tableMost}
+use Rattle.words.specs.Word.{transitionKind, epsilonKind, hasKind, symbolRange, stateRange, symbolAbove, stateAbove}
 
 -- the key of a state, behind the numbers that a symbol may have
 abbrev pub stateKey : ℕ → ℕ
-stateKey s = 0x100 + s
+stateKey s = symbolRange + s
 
 -- how many keys there are
 abbrev pub keys : ℕ
-keys = stateKey 0x400
+keys = stateKey stateRange
 
 -- the key of a word: the symbol of a symbol transition, that of the from state of an epsilon transition; any other word has none
 unfoldable pub keyOf : ℕ → ℕ
@@ -30,7 +31,7 @@ indexedAt table i index =
 
 -- the words of an index: for each key, and for each word of the longest table
 abbrev pub indexLength : ℕ
-indexLength = keys + 2048
+indexLength = keys + tableMost
 
 -- the index of the last n words, from the last one backwards
 unfoldable pub indexBack : List ℕ → ℕ → List ℕ
@@ -43,17 +44,17 @@ indexOf table = indexBack table (length table)
 -- what putting word i in front of its key's chain asks
 pub record Insertable (table : List ℕ) (i : ℕ) (index : List ℕ) : Type 0 where
   pub inside : i < length table
-  pub few : length table ≤ 2048
+  pub few : length table ≤ tableMost
   pub size : length index ≡ indexLength
 
 -- what writing a table's index asks: an array of zeros
 pub record Indexable (table index : List ℕ) : Type 0 where
-  pub few : length table ≤ 2048
+  pub few : length table ≤ tableMost
   pub zeros : index ≡ replicate indexLength 0
 
 -- a checked table with its index
 pub record IndexedTable (table index : List ℕ) : Type 0 where
   pub alphabet : List ℕ
-  pub short : length alphabet ≤ 64
+  pub short : length alphabet ≤ alphabetMost
   pub checked : isTable alphabet table ≡ true
   pub indexed : index ≡ indexOf table

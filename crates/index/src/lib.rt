@@ -1,6 +1,7 @@
 // An index of a table, made once for all nodes: for each symbol and each state a chain of the words at which transitions begin.
 ghost use mathlib.Core.Path.{_≡_};
 ghost use Rattle.index.specs.Index.{keyOf, indexedAt, indexOf, Insertable, Indexable};
+use words::limits::TABLE_MOST;
 use words::word::Kind;
 use words::word::STATE_RANGE;
 use words::word::SYMBOL_RANGE;
@@ -10,6 +11,9 @@ use words::word::kind_of;
 pub const STATE_KEYS: usize = SYMBOL_RANGE as usize;
 
 pub const KEYS: usize = STATE_KEYS + STATE_RANGE as usize;
+
+// The words of an index.
+pub const INDEX_LENGTH: usize = KEYS + TABLE_MOST;
 
 // The key of a word.
 fn key(w: u32) -> usize

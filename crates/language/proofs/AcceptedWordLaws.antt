@@ -11,7 +11,7 @@ use Rattle.words.specs.Lists.{all}
 use Rattle.words.specs.Alphabet.{noAlphabet}
 use Rattle.words.specs.Postfix.{oneTree, notOneTree}
 use Rattle.words.specs.Chapter.{isNode, notNodes, treeRefusals, treeFault}
-use Rattle.words.specs.Expression.{isExpressionWord, notExpressionWords}
+use Rattle.words.specs.ExpressionWords.{isExpressionWord, notExpressionWords}
 use Rattle.words.proofs.RefusalLaws.{none-refusal, none-applies}
 use Rattle.words.proofs.AlphabetLaws.{alphabet-most}
 use Rattle.words.specs.ExactlyOne.{ExactlyOne}

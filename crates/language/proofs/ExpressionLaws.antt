@@ -12,7 +12,7 @@ use Rattle.words.specs.Word.{Kind, symbolKind, emptyKind, unionKind, productKin
 use Rattle.words.specs.Alphabet.{isConstant}
 use Rattle.words.specs.Tree.{Tree, none, more, postfix, postfixAll}
 use Rattle.words.specs.Postfix.{arity, oneTree, stackAfter}
-use Rattle.words.specs.Expression.{namesAt, isExpressionWord}
+use Rattle.words.specs.ExpressionWords.{namesAt, isExpressionWord}
 use Rattle.language.specs.Expression.{Expression, Expressions, symbol, empty, union, product, closure, noneᵉ, moreᵉ}
 use Rattle.language.specs.Expression.{syntaxTree, syntaxTrees, expressionWords, ExpressionOver, ExpressionsOver, ExpressionOf}
 use Rattle.language.specs.Reading.{expressionOn, expressionOf}

@@ -1,4 +1,4 @@
-pub mod Examples
+pub mod MembershipExamples
 pub mod SubstitutionLaws
 pub mod SubjectLaws
 pub mod SubjectSubtreeLaws

@@ -11,7 +11,7 @@ use Rattle.words.specs.Word.{Kind, symbolKind, emptyKind, unionKind, productKin
 use Rattle.words.specs.Alphabet.{rankOf, isConstant}
 use Rattle.words.specs.Tree.{Tree, Trees, node, none, more, number, postfix, postfixAll}
 use Rattle.words.specs.Postfix.{arity}
-use Rattle.words.specs.Expression.{isExpressionWord}
+use Rattle.words.specs.ExpressionWords.{isExpressionWord}
 use Rattle.language.specs.Expression.{Expression, Expressions, symbol, empty, union, product, closure, noneᵉ}
 use Rattle.language.specs.Expression.{moreᵉ, numberᵉ, syntaxTree, syntaxTrees, ExpressionOver, ExpressionsOver}
 use Rattle.language.specs.Reading.{childrenᵉ, ofKind, expressionOn}

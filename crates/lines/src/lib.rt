@@ -8,7 +8,7 @@ ghost use Rattle.words.specs.Chapter.{symbolOf};
 use encoding::byte_writer::write_field;
 use encoding::byte_writer::write_text;
 use words::postfix::subtree_start;
-use words::word::LOW_BYTE;
+use words::word::SYMBOL_RANGE;
 
 // The line `refused N`.
 pub fn write_refused(out: &mut [u8], number: u32) -> usize
@@ -35,7 +35,7 @@ fn symbol_of(chapter: &[u32], node: usize) -> usize
     ensures { λ r. ⌜ r ≡ symbolOf (getD (now (chapter .entry)) node 0) ⌝ }
 {
     if node < chapter.len() {
-        return (chapter[node] % LOW_BYTE) as usize;
+        return (chapter[node] % SYMBOL_RANGE) as usize;
     }
     0
 }

@@ -7,7 +7,7 @@ use encoding::word_bytes::WORD_BYTES;
 use encoding::word_bytes::keep_words;
 use libc::STDIN_FILENO;
 use libc::STDOUT_FILENO;
-use report::input::kept;
+use report::input::kept_words;
 use report::input::part_bytes;
 use report::report;
 
@@ -52,9 +52,9 @@ fn answer_input(out: &mut [u8]) -> usize
     complete = read_words(complete, nodes, &mut chapter);
     report(
         complete,
-        &alphabet[..kept(symbols, 65)],
-        &rule[..kept(words, 65)],
-        &chapter[..kept(nodes, 257)],
+        &alphabet[..kept_words(symbols, 65)],
+        &rule[..kept_words(words, 65)],
+        &chapter[..kept_words(nodes, 257)],
         out,
     )
 }

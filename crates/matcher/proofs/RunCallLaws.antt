@@ -4,7 +4,7 @@ use mathlib.Core.List.{List, [], _∷_, _++_, flatten, append-nil}
 use Prim.Native.Nat.{ℕ, _+_, _-_, _*_, _≤_}
 use native.Mathlib.Omega.{arith}
 use native.Mathlib.Nat.{zero-add}
-use lib.ListN.{length, take, drop, replicate, drop-of-length-le, length-replicate}
+use lib.ListN.{length, take, drop, drop-of-length-le}
 use lib.Seq.{length-take-le, take-length}
 use Rattle.words.specs.Lists.{listFrom}
 use Rattle.words.specs.Shape.{stackGivenBy}
@@ -16,38 +16,30 @@ use Rattle.operations.specs.Marks.{sizeOf, nodeSet, nodeSets, storedSet}
 use Rattle.operations.specs.Run.{runFault, runMarks, cellsIn, runAnswer, runExit}
 use Rattle.nodes.proofs.LoopLaws.{Recomputing}
 use Rattle.operations.proofs.RunLaws.{run-writes, run-length}
+use Rattle.sets.specs.Size.{marksMost}
 use Rattle.sets.proofs.StoredLaws.{words-few}
-use Rattle.index.specs.Index.{indexOf, Indexable}
 use Rattle.nodes.specs.Nodes.{markedFrom, Workable}
-use Rattle.nodes.specs.Marking.{NodesMarkable}
 use Rattle.nodes.proofs.WorkedLaws.{workedFrom, worked-is}
 use Rattle.nodes.proofs.MarkLaws.{holding-stored, markedFrom-rows}
-use Rattle.nodes.proofs.WorkableLaws.{workable-size, table-few}
-use Rattle.nodes.proofs.NodesLaws.{nothing-prepared, held-none}
+use Rattle.nodes.proofs.WorkableLaws.{workable-size}
+use Rattle.propagation.specs.Propagation.{propagateFrom}
+use Rattle.updates.specs.Updating.{updatedFrom, Updatable}
 use Rattle.refusals.proofs.AnswerLaws.{answer-refused, answer-accepted, exit-refused, exit-accepted}
 use Rattle.matcher.proofs.AcceptedCallLaws.{run-workable}
 
--- ---- all nodes, with nothing remembered at first
+-- ---- all nodes
 
-pub tree-index : {a table ch : List ℕ} {marksLength : ℕ} → Workable a table ch marksLength → Indexable table (replicate 3328 0)
-tree-index g = record { few = table-few g; zeros = refl }
+pub tree-updatable : {a table ch marks : List ℕ} → Workable a table ch (length marks) → Updatable a table ch 0 (length ch) marks
+tree-updatable g = record { workable = g; order = omega arith; inside = omega arith }
 
-pub tree-nodes : {a table ch marks : List ℕ} → Workable a table ch (length marks) → {index : List ℕ} → index ≡ indexOf table
-    → NodesMarkable a table index ch 0 (length ch) marks (replicate 4100 0) 4 (replicate 1024 0) (replicate 1024 0) (replicate 1021 0)
-    (replicate 64 0) (replicate 2048 0) (replicate 1024 0)
-tree-nodes {a} {ch = ch} g e =
-    record {
-      workable = g;
-      indexed = e;
-      order = omega arith;
-      inside = omega arith;
-      prepared = nothing-prepared (length-replicate {A = ℕ} 4100 0) (omega arith) (held-none a ch);
-    }
-
-pub tree-marked : (a table ch marks marks′ : List ℕ) → marks′ ≡ markedFrom a table ch 0 (length ch - 0) marks
+-- no node is left behind the last one
+tree-marked : (a table ch marks marks′ : List ℕ) (count : ℕ) → (marks′, count) ≡ updatedFrom a table ch 0 (length ch) marks
     → marks′ ≡ markedFrom a table ch 0 (length ch) marks
-tree-marked a table ch marks marks′ e =
-    let z : length ch - 0 ≡ length ch = omega arith in e ∙ ap (λ (n : ℕ). markedFrom a table ch 0 n marks) z
+unfolding updatedFrom propagateFrom
+tree-marked a table ch marks marks′ count e =
+    let none : length ch - length ch ≡ 0 = omega arith in
+    let all : length ch - 0 ≡ length ch = omega arith in
+    ap (λ (p : List ℕ × ℕ). p .0) (rw (none, all) at e)
 
 -- the nodes one after the other leave what the definition says
 marked-run : (a table ch marks : List ℕ) → length ch * sizeOf table ≤ length marks
@@ -74,15 +66,15 @@ module _ (a table ch marks : List ℕ) (h : runFault a table ch (length marks) �
   pub workable : Workable a table ch (length marks)
   workable = run-workable a table ch (length marks) h
 
-  module _ (marks′ : List ℕ) (e : marks′ ≡ markedFrom a table ch 0 (length ch) marks) where
+  module _ (marks′ : List ℕ) (count : ℕ) (e : (marks′, count) ≡ updatedFrom a table ch 0 (length ch) marks) where
     pub run-left : marks′ ≡ runMarks a table ch marks
-    run-left = e ∙ marked-run a table ch marks (workable .marks-fit)
+    run-left = tree-marked a table ch marks marks′ count e ∙ marked-run a table ch marks (workable .marks-fit)
 
     module _ (size : ℕ) (s : size ≡ sizeOf table) where
       pub run-fits : length ch * size ≤ length marks′
       run-fits = rw (run-left, run-length a table ch marks (workable .marks-fit), s) (workable .marks-fit)
 
-      pub run-few : length ch * size ≤ 131072
+      pub run-few : length ch * size ≤ marksMost
       run-few = words-few (length ch) size (workable .tree .few) (rw s (workable-size workable))
 
       pub run-part : length (take (length ch * size) marks′) ≡ length ch * size

@@ -2,7 +2,7 @@
 ghost use mathlib.Core.Path.{_≡_};
 ghost use Rattle.operations.specs.Run.{runAnswer, runExit};
 ghost use Rattle.operations.specs.Listing.{listAnswer, listExit};
-ghost use Rattle.matcher.specs.Answers.{answerInRan, answerInListed};
+ghost use Rattle.matcher.specs.MatcherAnswers.{answerInRan, answerInListed};
 use matches::list_accepted;
 use refusals::list::list_fault;
 use refusals::run::run_fault;

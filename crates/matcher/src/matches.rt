@@ -4,6 +4,7 @@ ghost use mathlib.Core.List.{[], _∷_, _++_};
 ghost use Prim.Native.Nat.{_+_, _<_};
 ghost use lib.ListN.{length, drop};
 ghost use lib.Seq.{sets};
+ghost use Rattle.words.specs.Limits.{nodesMost};
 ghost use Rattle.operations.specs.Listing.{listFault, matchesIn, matchesOf};
 use sets::state::contains;
 use tables::head::final_state;
@@ -12,7 +13,7 @@ use tables::head::set_size;
 // Writes the number of a node behind the matches found so far if its state set holds the final state; answers how many
 // matches there are then.
 fn list_node(set: &[u32], last: usize, node: usize, list: &mut [u32], found: usize) -> usize
-    requires { ⌜ (found < length (now list)) × (node < 4096) ⌝ }
+    requires { ⌜ (found < length (now list)) × (node < nodesMost) ⌝ }
     ensures answer { λ r. ⌜ r ≡ found + length (matchesIn last node (now (set .entry) ∷ [])) ⌝ }
     ensures list { λ _. ⌜ now (list .exit) ≡ sets (now (list .entry)) found (matchesIn last node (now (set .entry) ∷ [])) ⌝ }
 {

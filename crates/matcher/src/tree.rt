@@ -4,48 +4,9 @@ ghost use mathlib.Core.List.{flatten};
 ghost use lib.ListN.{length};
 ghost use Rattle.operations.specs.Marks.{nodeSets};
 ghost use Rattle.operations.specs.Run.{runFault, runMarks, cellsIn};
-ghost use Rattle.nodes.specs.Nodes.{markedFrom, Workable};
-use index::write_index;
-use nodes::marking::mark_nodes;
-use nodes::stack::STACK_BASE;
 use sets::whole::count_cells;
 use tables::head::set_size;
-
-// Marks all nodes of a tree. The arrays that this takes are made here, all zero: a memo of zeros is empty.
-fn mark_tree(alphabet: &[u32], table: &[u32], nodes: &[u32], marks: &mut [u32])
-    requires { ⌜ Workable (now alphabet) (now table) (now nodes) (length (now marks)) ⌝ }
-    ensures { λ _. ⌜
-        now (marks .exit)
-        ≡ markedFrom (now (alphabet .entry)) (now (table .entry)) (now (nodes .entry)) 0 (length (now (nodes .entry))) (now (marks .entry))
-        ⌝ }
-{
-    let mut index = [0u32; 3328];
-    write_index(table, &mut index);
-    let mut stack = [0u32; 4100];
-    let mut keys = [0u64; 1024];
-    let mut known = [0u32; 1024];
-    let mut places = [0u32; 1021];
-    let mut owners = [0u32; 64];
-    let mut rows = [0u32; 2048];
-    let mut pending = [0u32; 1024];
-    mark_nodes(
-        alphabet,
-        table,
-        &index,
-        nodes,
-        0,
-        nodes.len(),
-        marks,
-        &mut stack,
-        STACK_BASE,
-        &mut keys,
-        &mut known,
-        &mut places,
-        &mut owners,
-        &mut rows,
-        &mut pending,
-    );
-}
+use updates::update_marks;
 
 // Marks the chapter of a call that is not refused, and answers the number of ones.
 pub(crate) fn run_accepted(
@@ -60,6 +21,6 @@ pub(crate) fn run_accepted(
         now (marks .exit) ≡ runMarks (now (alphabet .entry)) (now (table .entry)) (now (chapter .entry)) (now (marks .entry))
         ⌝ }
 {
-    mark_tree(alphabet, table, chapter, marks);
+    update_marks(alphabet, table, chapter, 0, chapter.len(), marks);
     count_cells(&marks[..chapter.len() * set_size(table)])
 }

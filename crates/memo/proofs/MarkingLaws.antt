@@ -24,7 +24,7 @@ pub size-few : {table index : List ℕ} {f : ℕ} {marks cs : List ℕ} {i : ℕ
     → NewMarkable table index f marks cs i places owners rows pending
     → sizeOf table ≤ 32
 unfolding sizeOf
-size-few {table} g = let r = g .steppable .prepared .indexed in isTable-sizes (r .alphabet) table (r .checked) .size-most
+size-few {table} g = let r = g .steppable .node .indexed in isTable-sizes (r .alphabet) table (r .checked) .size-most
 
 module _ {table index : List ℕ} {f : ℕ} {marks cs : List ℕ} {i : ℕ} {places owners rows pending : List ℕ}
     (g : NewMarkable table index f marks cs i places owners rows pending)

@@ -34,7 +34,7 @@ nothing-remembered table marks i = record {
   closures = record {
     owners-are = length-replicate {A = ℕ} 64 0;
     rows-are = length-replicate {A = ℕ} 2048 0;
-    kept = λ k s l e. absurd (omega (arith, sym e ∙ getD-replicate {A = ℕ} 64 k 0 0 l));
+    filled = λ k s l e. absurd (omega (arith, sym e ∙ getD-replicate {A = ℕ} 64 k 0 0 l));
   };
   pending-are = length-replicate {A = ℕ} 1024 0;
 }

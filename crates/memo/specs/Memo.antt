@@ -4,10 +4,13 @@ use mathlib.Core.Path.{_≡_}
 use mathlib.Core.List.{List}
 use lib.ListN.{length, getD, drop}
 use lib.Seq.{paste}
+use Rattle.words.specs.Limits.{rankMost, statesMost, nodesMost}
+use Rattle.words.specs.Word.{symbolRange}
 use Rattle.automaton.specs.Table.{AllBelow}
 use Rattle.automaton.specs.Transition.{automatonOf}
 use Rattle.automaton.specs.StateSet.{StateSet, stateSet}
 use Rattle.operations.specs.Marks.{sizeOf, storedSet}
+use Rattle.sets.specs.Size.{setMost}
 use Rattle.step.specs.NodeSteppable.{childSets}
 use Rattle.closures.specs.Closure.{Closures}
 use Rattle.step.specs.Node.{Steppable}
@@ -19,12 +22,16 @@ setOver table f marks cs = stateSet (automatonOf table) f (childSets (sizeOf tab
 
 -- ---- the representative of a node
 
+-- how many places there are for nodes that represent others
+abbrev pub placesMost : ℕ
+placesMost = 1021
+
 -- what finding the representative of node i asks, where the set is the one that it is to get
 pub record Placeable (marks set : List ℕ) (i : ℕ) (places : List ℕ) : Type 0 where
-  pub few : i < 4096
-  pub small : length set ≤ 32
+  pub few : i < nodesMost
+  pub small : length set ≤ setMost
   pub rows : i * length set ≤ length marks
-  pub places-are : length places ≡ 1021
+  pub places-are : length places ≡ placesMost
 
 -- node r stands for node i: it is node i, or an earlier one with the same words
 pub data Represents (marks : List ℕ) (set : StateSet) (i r : ℕ) : Type 0 where
@@ -33,34 +40,38 @@ pub data Represents (marks : List ℕ) (set : StateSet) (i r : ℕ) : Type 0 whe
 
 -- ---- the memo
 
+-- how many steps are remembered at most
+abbrev pub slotsMost : ℕ
+slotsMost = 1024
+
 -- A slot is empty, or it holds the key of a symbol and nodes before i, and such a node that has the state set over these.
 pub data Slot (table marks : List ℕ) (i key node : ℕ) : Type 0 where
   empty : key ≡ 0 → Slot table marks i key node
-  known : (f : ℕ) (cs : List ℕ) → f < 256 → AllBelow i cs → key ≡ stepKey f cs → node < i
+  known : (f : ℕ) (cs : List ℕ) → f < symbolRange → AllBelow i cs → key ≡ stepKey f cs → node < i
       → storedSet (sizeOf table) marks node ≡ setOver table f marks cs → Slot table marks i key node
 
 -- the memo before node i is marked
 pub record Memo (table marks : List ℕ) (i : ℕ) (keys nodes : List ℕ) : Type 0 where
-  pub keys-are : length keys ≡ 1024
-  pub nodes-are : length nodes ≡ 1024
-  pub slots : (s : ℕ) → s < 1024 → Slot table marks i (getD keys s 0) (getD nodes s 0)
+  pub keys-are : length keys ≡ slotsMost
+  pub nodes-are : length nodes ≡ slotsMost
+  pub slots : (s : ℕ) → s < slotsMost → Slot table marks i (getD keys s 0) (getD nodes s 0)
 
 -- what is kept from node to node, before node i is marked: the memo, the places of the nodes that represent others, closures of
 -- states, and a stack of states, which may hold anything
 pub record Remembered (table marks : List ℕ) (i : ℕ) (keys nodes places owners rows pending : List ℕ) : Type 0 where
   pub memo : Memo table marks i keys nodes
-  pub places-are : length places ≡ 1021
+  pub places-are : length places ≡ placesMost
   pub closures : Closures table owners rows
-  pub pending-are : length pending ≡ 1024
+  pub pending-are : length pending ≡ statesMost
 
 -- ---- marking node i
 
 -- what working it out asks
 pub record NewMarkable (table index : List ℕ) (f : ℕ) (marks cs : List ℕ) (i : ℕ) (places owners rows pending : List ℕ) : Type 0 where
   pub steppable : Steppable table index f marks cs owners rows pending
-  pub few : i < 4096
+  pub few : i < nodesMost
   pub row : i * sizeOf table + sizeOf table ≤ length marks
-  pub places-are : length places ≡ 1021
+  pub places-are : length places ≡ placesMost
 
 -- the marks with node i's words, and a node up to i that has the same
 pub record MarkedNew (table : List ℕ) (f : ℕ) (marks cs : List ℕ) (i : ℕ) (marks′ : List ℕ) (r : ℕ) : Type 0 where
@@ -71,9 +82,9 @@ pub record MarkedNew (table : List ℕ) (f : ℕ) (marks cs : List ℕ) (i : ℕ
 -- what marking it by the memo asks; its children are represented by the last `rank` of four nodes
 pub record NextMarkable (table index : List ℕ) (f : ℕ) (marks four : List ℕ) (rank i : ℕ)
     (keys nodes places owners rows pending : List ℕ) : Type 0 where
-  pub new : NewMarkable table index f marks (drop (4 - rank) four) i places owners rows pending
+  pub new : NewMarkable table index f marks (drop (rankMost - rank) four) i places owners rows pending
   pub keyable : Keyable f four rank
-  pub below : AllBelow i (drop (4 - rank) four)
+  pub below : AllBelow i (drop (rankMost - rank) four)
   pub remembered : Remembered table marks i keys nodes places owners rows pending
 
 -- what it leaves

@@ -4,3 +4,9 @@
 mod key;
 pub mod lookup;
 mod representative;
+
+// How many steps are remembered at most.
+pub const SLOTS_MOST: usize = 1024;
+
+// How many places there are for the nodes that represent others.
+pub const PLACES_MOST: usize = 1021;

@@ -3,6 +3,7 @@ ghost use mathlib.Core.Path.{_≡_};
 ghost use Prim.Native.Nat.{_-_, _*_};
 ghost use lib.ListN.{take, drop};
 ghost use lib.Seq.{paste};
+ghost use Rattle.words.specs.Limits.{rankMost};
 ghost use Rattle.closures.specs.Closure.{Closures};
 ghost use Rattle.sets.specs.Copyable.{Copyable};
 ghost use Rattle.memo.specs.Memo.{NewMarkable, MarkedNew, NextMarkable, MarkedNext};
@@ -13,6 +14,7 @@ use sets::whole::copy_set;
 use sets::whole::write_set_at;
 use step::node_set;
 use tables::head::set_size;
+use words::limits::RANK_MOST;
 
 // Works out node i's state set and writes it; answers the node's representative.
 fn mark_new(
@@ -77,7 +79,7 @@ pub fn mark_next(
         (now rows) (now pending)
         ⌝ }
     ensures { λ r. ⌜
-        MarkedNext (now (table .entry)) symbol (now (marks .entry)) (drop (4 - rank) (now (four .entry))) i (now (marks .exit)) r
+        MarkedNext (now (table .entry)) symbol (now (marks .entry)) (drop (rankMost - rank) (now (four .entry))) i (now (marks .exit)) r
         (now (keys .exit)) (now (nodes .exit)) (now (places .exit)) (now (owners .exit)) (now (rows .exit)) (now (pending .exit))
         ⌝ }
 {
@@ -94,7 +96,7 @@ pub fn mark_next(
         index,
         symbol,
         marks,
-        &four[4 - rank..4],
+        &four[RANK_MOST - rank..RANK_MOST],
         i,
         places,
         owners,

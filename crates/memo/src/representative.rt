@@ -1,19 +1,21 @@
 // A node's representative: an earlier node with the same state set, where one is at hand.
 ghost use Prim.Native.Nat.{_<_, _≤_};
 ghost use lib.ListN.{length};
-ghost use Rattle.memo.specs.Memo.{Placeable, Represents};
+ghost use Rattle.sets.specs.Size.{setMost};
+ghost use Rattle.memo.specs.Memo.{placesMost, Placeable, Represents};
+use super::PLACES_MOST;
 use sets::whole::same_words;
 
 // The places of the nodes that represent others, by their words.
-const PLACES: u64 = 1021;
+const PLACES: u64 = PLACES_MOST as u64;
 
 // Each word has a factor of its own.
 const FACTOR: u64 = 40503;
 
 // The place of a state set. Any place is right; one that depends on all words keeps different sets apart.
 fn place_of(set: &[u32]) -> usize
-    requires { ⌜ length (now set) ≤ 32 ⌝ }
-    ensures { λ r. ⌜ r < 1021 ⌝ }
+    requires { ⌜ length (now set) ≤ setMost ⌝ }
+    ensures { λ r. ⌜ r < placesMost ⌝ }
 {
     let mut mixed: u64 = 0;
     let mut k = 0;

@@ -45,13 +45,13 @@ module _ {a table index ch : List ℕ} {i : ℕ} {marks array : List ℕ} {heigh
   roots = rootsOf a ch i
 
   stacked : Represented a table ch i marks array height
-  stacked = g .prepared .represented
+  stacked = g .maintained .represented
 
   tree : BoundedTree a ch
   tree = g .workable .tree
 
   abbrev nodes : List ℕ
-  nodes = g .prepared .represented .nodes
+  nodes = g .maintained .represented .nodes
 
   abbrev stored : ℕ → StateSet
   stored = storedSet (sizeOf table) marks
@@ -60,16 +60,16 @@ module _ {a table index ch : List ℕ} {i : ℕ} {marks array : List ℕ} {heigh
   few = let h = g .inside in omega (arith, g .workable .tree .few)
 
   pub node-low : 4 ≤ height
-  node-low = omega (arith, g .prepared .represented .held .height-is)
+  node-low = omega (arith, g .maintained .represented .held .height-is)
 
   pub node-fits : r ≤ height
-  node-fits = stack-fits (g .prepared .represented) (g .workable .tree) (g .inside) r e
+  node-fits = stack-fits (g .maintained .represented) (g .workable .tree) (g .inside) r e
 
   pub node-height : height < length array
-  node-height = stack-height (g .prepared .represented) (g .workable .tree) (g .inside) r e
+  node-height = stack-height (g .maintained .represented) (g .workable .tree) (g .inside) r e
 
   pub node-few : height ≤ 4100
-  node-few = let m = node-height in omega (arith, g .prepared .represented .long)
+  node-few = let m = node-height in omega (arith, g .maintained .represented .long)
 
   -- the four words on top of the stack
   abbrev four : List ℕ
@@ -88,28 +88,28 @@ module _ {a table index ch : List ℕ} {i : ℕ} {marks array : List ℕ} {heigh
   four-below : AllBelow 4096 four
   four-below =
       let h = few in
-      rw (four-is, g .prepared .represented .held .words)
+      rw (four-is, g .maintained .represented .held .words)
       (below-drop 4096 (height - 4) (replicate 4 0 ++ nodes)
-      (omega arith, (omega arith, (omega arith, (omega arith, below-up i 4096 (omega arith) nodes (g .prepared .represented .below))))))
+      (omega arith, (omega arith, (omega arith, (omega arith, below-up i 4096 (omega arith) nodes (g .maintained .represented .below))))))
 
-  fits : r ≤ length (g .prepared .represented .nodes)
-  fits = nodes-fit (g .prepared .represented) (g .workable .tree) (g .inside) r e
+  fits : r ≤ length (g .maintained .represented .nodes)
+  fits = nodes-fit (g .maintained .represented) (g .workable .tree) (g .inside) r e
 
   -- the last r of them represent the node's children
-  part-place : height - 4 + (4 - r) ≡ 4 + (length (g .prepared .represented .nodes) - r)
+  part-place : height - 4 + (4 - r) ≡ 4 + (length (g .maintained .represented .nodes) - r)
   part-place =
       let f = fits in
       let most = g .workable .ranks (symbolOf w) in
-      omega (arith, g .prepared .represented .held .height-is, e)
+      omega (arith, g .maintained .represented .held .height-is, e)
 
-  part-is : drop (4 - r) four ≡ drop (length (g .prepared .represented .nodes) - r) (g .prepared .represented .nodes)
+  part-is : drop (4 - r) four ≡ drop (length (g .maintained .represented .nodes) - r) (g .maintained .represented .nodes)
   part-is =
-      ap (drop (4 - r)) (four-is ∙ ap (drop (height - 4)) (g .prepared .represented .held .words))
+      ap (drop (4 - r)) (four-is ∙ ap (drop (height - 4)) (g .maintained .represented .held .words))
       ∙ drop-drop (4 - r) (height - 4) (replicate 4 0 ++ nodes)
       ∙ ap (λ (k : ℕ). drop k (replicate 4 0 ++ nodes)) part-place ∙ drop-append-add (replicate 4 0) nodes (length nodes - r)
 
   part-below : AllBelow i (drop (4 - r) four)
-  part-below = rw part-is (below-drop i (length nodes - r) nodes (g .prepared .represented .below))
+  part-below = rw part-is (below-drop i (length nodes - r) nodes (g .maintained .represented .below))
 
   part-length : length (drop (4 - r) four) ≡ r
   part-length =
@@ -119,10 +119,10 @@ module _ {a table index ch : List ℕ} {i : ℕ} {marks array : List ℕ} {heigh
   part-same : map (storedSet (sizeOf table) marks) (drop (4 - r) four) ≡ map (storedSet (sizeOf table) marks) (childrenOf a ch i)
   unfolding childrenOfBy
   part-same =
-      ap (map stored) part-is ∙ map-drop stored (length nodes - r) nodes ∙ ap (drop (length nodes - r)) (g .prepared .represented .same)
+      ap (map stored) part-is ∙ map-drop stored (length nodes - r) nodes ∙ ap (drop (length nodes - r)) (g .maintained .represented .same)
       ∙ sym (map-drop stored (length nodes - r) (reverse roots))
       ∙ ap (map stored)
-      (ap₂ (λ (n k : ℕ). drop (n - k) (reverse roots)) (g .prepared .represented .count)
+      (ap₂ (λ (n k : ℕ). drop (n - k) (reverse roots)) (g .maintained .represented .count)
       (e ∙ sym (node-arity (g .workable .tree) i (g .inside)))
       ∙ drop-reverse (arity a w) roots)
 
@@ -135,8 +135,8 @@ module _ {a table index ch : List ℕ} {i : ℕ} {marks array : List ℕ} {heigh
   row : i * sizeOf table + sizeOf table ≤ length marks
   row = row-inside i (length ch) (sizeOf table) (length marks) (g .inside) (g .workable .marks-fit)
 
-  prepared : NodeSteppable table index (symbolOf (getD ch i 0)) marks (drop (4 - r) four)
-  prepared =
+  steppable : NodeSteppable table index (symbolOf (getD ch i 0)) marks (drop (4 - r) four)
+  steppable =
       record {
         indexed = record { alphabet = a; short = g .workable .alphabet; checked = g .workable .checked; indexed = g .indexed };
         symbol-below = omega arith;
@@ -146,13 +146,13 @@ module _ {a table index ch : List ℕ} {i : ℕ} {marks array : List ℕ} {heigh
 
   pub node-next : NextMarkable table index (symbolOf (getD ch i 0)) marks four r i keys known places owners rows pending
   node-next =
-      let k = g .prepared .remembered in
+      let k = g .maintained .remembered in
       record {
         new = record {
           steppable = record {
-            prepared = prepared;
+            node = steppable;
             closures = k .closures;
-            fits = omega (arith, states-most (prepared .indexed), k .pending-are);
+            fits = omega (arith, states-most (steppable .indexed), k .pending-are);
           };
           few = few;
           row = row;
@@ -186,7 +186,7 @@ module _ {a table index ch : List ℕ} {i : ℕ} {marks array : List ℕ} {heigh
     node-kept =
         let long = length-setOver table (symbolOf w) marks (drop (4 - r) four) in
         record {
-          represented = represented-more (g .prepared .represented) (g .workable .tree) (g .inside) r e node (n .new .low) marks′
+          represented = represented-more (g .maintained .represented) (g .workable .tree) (g .inside) r e node (n .new .low) marks′
               (stored-kept table marks i v long row marks′ (n .new .words))
               (ap (λ (m : List ℕ). storedSet size m i) (n .new .words) ∙ stored-written size marks i v long row ∙ sym (n .new .same));
           remembered = n .remembered;

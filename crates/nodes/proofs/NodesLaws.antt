@@ -1,12 +1,15 @@
 -- Nodes marked one after the other: before node i those from `from` up to i are marked.
 use mathlib.Core.Path.{_≡_, refl, ap, ap₂, _∙_, sym}
 use mathlib.Core.List.{List, reverse}
-use Prim.Native.Nat.{ℕ, suc, _+_, _-_, _<_, _≤_}
+use Prim.Native.Nat.{ℕ, suc, _+_, _-_, _*_, _<_, _≤_}
 use native.Mathlib.Omega.{arith}
 use lib.ListN.{length, replicate}
-use Rattle.words.specs.Shape.{stackGivenBy}
+use Rattle.words.specs.Limits.{statesMost}
+use Rattle.sets.specs.Size.{setMost}
+use Rattle.closures.specs.Closure.{rowsMost}
+use Rattle.memo.specs.Memo.{placesMost, slotsMost}
 use Rattle.memo.proofs.MemoLaws.{nothing-remembered}
-use Rattle.nodes.specs.Nodes.{rootsOf, Held, markedAt, markedFrom}
+use Rattle.nodes.specs.Nodes.{rootsOf, stackLength, Held, markedAt, markedFrom}
 use Rattle.nodes.specs.Marking.{Maintained, NodeMarkable, NodesMarkable}
 use Rattle.nodes.proofs.WorkableLaws.{workable-long}
 use Rattle.nodes.proofs.RootStackLaws.{represent-roots}
@@ -17,7 +20,7 @@ pub record Marking (a table ch : List ℕ) (from to : ℕ) (marks₀ marks array
   pub high : i ≤ to
   pub long : length marks ≡ length marks₀
   pub marks-are : marks ≡ markedFrom a table ch from (i - from) marks₀
-  pub prepared : Maintained a table ch i marks array height keys known places owners rows pending
+  pub maintained : Maintained a table ch i marks array height keys known places owners rows pending
 
 module _ {a table index ch : List ℕ} {from to : ℕ} {marks₀ array₀ : List ℕ} {height₀ : ℕ}
     {keys₀ known₀ places₀ owners₀ rows₀ pending₀ : List ℕ}
@@ -26,7 +29,7 @@ module _ {a table index ch : List ℕ} {from to : ℕ} {marks₀ array₀ : List
   unfolding markedFrom
   marking-none =
       let z : from - from ≡ 0 = omega arith in
-      record { low = omega arith; high = pre .order; long = refl; marks-are = rw z refl; prepared = pre .prepared }
+      record { low = omega arith; high = pre .order; long = refl; marks-are = rw z refl; maintained = pre .maintained }
 
   module _ {marks array : List ℕ} {height : ℕ} {keys known places owners rows pending : List ℕ} {i : ℕ}
       (g : Marking a table ch from to marks₀ marks array height keys known places owners rows pending i) where
@@ -37,7 +40,7 @@ module _ {a table index ch : List ℕ} {from to : ℕ} {marks₀ array₀ : List
           indexed = pre .indexed;
           inside = omega
               (arith, pre .inside);
-          prepared = g .prepared;
+          maintained = g .maintained;
         }
 
     pub marking-more : i < to → {marks′ array′ : List ℕ} {height′ : ℕ} {keys′ known′ places′ owners′ rows′ pending′ : List ℕ}
@@ -57,7 +60,7 @@ module _ {a table index ch : List ℕ} {from to : ℕ} {marks₀ array₀ : List
           marks-are =
               w ∙ ap₂ (λ (j : ℕ) (t : List ℕ). markedAt a table ch j t) (sym place) (g .marks-are)
               ∙ ap (λ (n : ℕ). markedFrom a table ch from n marks₀) (sym one);
-          prepared = p;
+          maintained = p;
         }
 
     pub marking-end : to ≤ i
@@ -66,20 +69,15 @@ module _ {a table index ch : List ℕ} {from to : ℕ} {marks₀ array₀ : List
     marking-end l =
         let high = g .high in
         let q : i ≡ to = omega arith in
-        (rw (← q) (g .marks-are), rw (← q) (g .prepared))
+        (rw (← q) (g .marks-are), rw (← q) (g .maintained))
 
 -- ---- with nothing remembered
 
-pub nothing-prepared : {a table ch marks array : List ℕ} {i height : ℕ} → length array ≡ 4100 → i ≤ length ch
+pub nothing-maintained : {a table ch marks array : List ℕ} {i height : ℕ} → length array ≡ stackLength → i ≤ length ch
     → Held array height (reverse (rootsOf a ch i))
-    → Maintained a table ch i marks array height (replicate 1024 0) (replicate 1024 0) (replicate 1021 0) (replicate 64 0)
-    (replicate 2048 0) (replicate 1024 0)
-nothing-prepared {table = table} {marks = marks} {i = i} l h g = record {
+    → Maintained a table ch i marks array height (replicate slotsMost 0) (replicate slotsMost 0) (replicate placesMost 0)
+    (replicate rowsMost 0) (replicate (rowsMost * setMost) 0) (replicate statesMost 0)
+nothing-maintained {table = table} {marks = marks} {i = i} l h g = record {
   represented = represent-roots l h g;
   remembered = nothing-remembered table marks i;
 }
-
--- the stack before the first node
-pub held-none : (a ch : List ℕ) → Held (replicate 4100 0) 4 (reverse (rootsOf a ch 0))
-unfolding stackGivenBy
-held-none a ch = record { words = refl; height-is = refl }

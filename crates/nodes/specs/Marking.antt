@@ -7,13 +7,13 @@ use Rattle.automaton.specs.Table.{AllBelow}
 use Rattle.operations.specs.Marks.{sizeOf, storedSet}
 use Rattle.index.specs.Index.{indexOf}
 use Rattle.memo.specs.Memo.{Remembered}
-use Rattle.nodes.specs.Nodes.{rootsOf, Held, Workable}
+use Rattle.nodes.specs.Nodes.{rootsOf, stackLength, Held, Workable}
 
 -- the stack holds nodes before i, which have the state sets of the roots of the first i nodes, the last root on top
 pub record Represented (a table ch : List ℕ) (i : ℕ) (marks array : List ℕ) (height : ℕ) : Type 0 where
   pub nodes : List ℕ
   pub held : Held array height nodes
-  pub long : length array ≡ 4100
+  pub long : length array ≡ stackLength
   pub count : length nodes ≡ length (rootsOf a ch i)
   pub below : AllBelow i nodes
   pub same : map (storedSet (sizeOf table) marks) nodes ≡ map (storedSet (sizeOf table) marks) (reverse (rootsOf a ch i))
@@ -30,7 +30,7 @@ pub record NodeMarkable (a table index ch : List ℕ) (i : ℕ) (marks array : L
   pub workable : Workable a table ch (length marks)
   pub indexed : index ≡ indexOf table
   pub inside : i < length ch
-  pub prepared : Maintained a table ch i marks array height keys known places owners rows pending
+  pub maintained : Maintained a table ch i marks array height keys known places owners rows pending
 
 -- what marking the nodes from `from` up to `to` asks
 pub record NodesMarkable (a table index ch : List ℕ) (from to : ℕ) (marks array : List ℕ) (height : ℕ)
@@ -39,4 +39,4 @@ pub record NodesMarkable (a table index ch : List ℕ) (from to : ℕ) (marks ar
   pub indexed : index ≡ indexOf table
   pub order : from ≤ to
   pub inside : to ≤ length ch
-  pub prepared : Maintained a table ch from marks array height keys known places owners rows pending
+  pub maintained : Maintained a table ch from marks array height keys known places owners rows pending

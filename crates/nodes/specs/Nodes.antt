@@ -6,6 +6,7 @@ use mathlib.Core.Bool.{true}
 use mathlib.Core.List.{List, [], _++_, map}
 use lib.ListN.{length, getD, take, replicate}
 use lib.Seq.{paste}
+use Rattle.words.specs.Limits.{alphabetMost, rankMost, nodesMost}
 use Rattle.words.specs.Alphabet.{rankOf}
 use Rattle.words.specs.Lists.{all}
 use Rattle.words.specs.Chapter.{isNode, symbolOf}
@@ -35,38 +36,46 @@ markedFrom a table ch i (suc n) marks = markedAt a table ch (i + n) (markedFrom 
 abbrev pub rootsOf : List ℕ → List ℕ → ℕ → List ℕ
 rootsOf a ch j = stackGiven a (λ k. k) 0 (take j ch) []
 
--- the first `height` words of the array are four zeros and these nodes, the last one on top
+-- the zeros at the bottom of the stack: there are always as many words to read at its top as a node has children
+abbrev pub stackBase : ℕ
+stackBase = rankMost
+
+-- the words of the array
+abbrev pub stackLength : ℕ
+stackLength = stackBase + nodesMost
+
+-- the first `height` words of the array are these zeros and these nodes, the last one on top
 pub record Held (array : List ℕ) (height : ℕ) (nodes : List ℕ) : Type 0 where
-  pub words : take height array ≡ replicate 4 0 ++ nodes
-  pub height-is : height ≡ 4 + length nodes
+  pub words : take height array ≡ replicate stackBase 0 ++ nodes
+  pub height-is : height ≡ stackBase + length nodes
 
 -- what putting node i on the stack asks
 pub record Pushable (a ch : List ℕ) (i : ℕ) (array : List ℕ) (height : ℕ) : Type 0 where
   pub inside : i < length ch
-  pub few : i < 4096
+  pub few : i < nodesMost
   pub fits : rankOf a (symbolOf (getD ch i 0)) ≤ height
   pub height-inside : height < length array
-  pub small : length array ≤ 4100
+  pub small : length array ≤ stackLength
 
--- a tree over the alphabet, of no more than 4,096 nodes
+-- a tree over the alphabet, of no more nodes than a chapter may have
 pub record BoundedTree (a ch : List ℕ) : Type 0 where
   pub nodes : all (isNode a) ch ≡ true
   pub tree : oneTree a ch ≡ true
-  pub few : length ch ≤ 4096
+  pub few : length ch ≤ nodesMost
 
 -- what filling the stack with the roots of the first `count` nodes asks
 pub record Stackable (a ch : List ℕ) (count : ℕ) (array : List ℕ) : Type 0 where
   pub tree : BoundedTree a ch
   pub within : count ≤ length ch
-  pub long : length array ≡ 4100
-  pub zeros : take 4 array ≡ replicate 4 0
+  pub long : length array ≡ stackLength
+  pub zeros : take stackBase array ≡ replicate stackBase 0
 
 -- ---- what working out nodes asks
 
--- a tree over the alphabet and a table for it; the marks slice has room for its state sets; no symbol has a rank above 4
+-- a tree over the alphabet and a table for it; the marks slice has room for its state sets; no symbol has too high a rank
 pub record Workable (a table ch : List ℕ) (marksLength : ℕ) : Type 0 where
-  pub alphabet : length a ≤ 64
-  pub ranks : (f : ℕ) → rankOf a f ≤ 4
+  pub alphabet : length a ≤ alphabetMost
+  pub ranks : (f : ℕ) → rankOf a f ≤ rankMost
   pub checked : isTable a table ≡ true
   pub tree : BoundedTree a ch
   pub marks-fit : length ch * sizeOf table ≤ marksLength

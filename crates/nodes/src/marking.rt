@@ -7,7 +7,7 @@ ghost use Rattle.nodes.specs.Marking.{Maintained, NodeMarkable, NodesMar
 use super::stack::STACK_BASE;
 use memo::lookup::mark_next;
 use words::alphabet::rank;
-use words::word::LOW_BYTE;
+use words::word::SYMBOL_RANGE;
 
 // Marks node i, and puts its representative on the stack in the place of its children's; answers the stack's height.
 pub fn mark_node(
@@ -33,12 +33,12 @@ pub fn mark_node(
     ensures marks { λ _. ⌜
         now (marks .exit) ≡ markedAt (now (alphabet .entry)) (now (table .entry)) (now (nodes .entry)) i (now (marks .entry))
         ⌝ }
-    ensures kept { λ r. ⌜
+    ensures maintained { λ r. ⌜
         Maintained (now (alphabet .entry)) (now (table .entry)) (now (nodes .entry)) (i + 1) (now (marks .exit)) (now (stack .exit)) r
         (now (keys .exit)) (now (known .exit)) (now (places .exit)) (now (owners .exit)) (now (rows .exit)) (now (pending .exit))
         ⌝ }
 {
-    let symbol = nodes[i] % LOW_BYTE;
+    let symbol = nodes[i] % SYMBOL_RANGE;
     let children = rank(alphabet, symbol as usize);
     let node = mark_next(
         table,
@@ -86,7 +86,7 @@ pub fn mark_nodes(
         now (marks .exit)
         ≡ markedFrom (now (alphabet .entry)) (now (table .entry)) (now (nodes .entry)) from (to - from) (now (marks .entry))
         ⌝ }
-    ensures kept { λ r. ⌜
+    ensures maintained { λ r. ⌜
         Maintained (now (alphabet .entry)) (now (table .entry)) (now (nodes .entry)) to (now (marks .exit)) (now (stack .exit)) r
         (now (keys .exit)) (now (known .exit)) (now (places .exit)) (now (owners .exit)) (now (rows .exit)) (now (pending .exit))
         ⌝ }

@@ -1,5 +1,5 @@
-// The stack of roots in an array, the last root on top. It begins with four zeros, so that there are always four words to read at
-// its top. A node takes its children from the top and is put in their place, which is one store.
+// The stack of roots in an array, the last root on top. It begins with zeros, so that there are always as many words to read at
+// its top as a node can have children. A node takes its children from the top and is put in their place, which is one store.
 ghost use mathlib.Core.Path.{_≡_};
 ghost use mathlib.Core.List.{reverse};
 ghost use Prim.Native.Nat.{_+_, _-_};
@@ -8,10 +8,15 @@ ghost use Rattle.words.specs.Alphabet.{rankOf};
 ghost use Rattle.words.specs.Chapter.{symbolOf};
 ghost use Rattle.nodes.specs.Nodes.{rootsOf, Held, Pushable, Stackable};
 use words::alphabet::rank;
-use words::word::LOW_BYTE;
+use words::limits::NODES_MOST;
+use words::limits::RANK_MOST;
+use words::word::SYMBOL_RANGE;
 
 // The zeros at the bottom.
-pub const STACK_BASE: usize = 4;
+pub const STACK_BASE: usize = RANK_MOST;
+
+// The words of the array.
+pub const STACK_LENGTH: usize = STACK_BASE + NODES_MOST;
 
 // Puts node i on the stack in the place of its children, and answers the stack's height.
 pub fn push_node(
@@ -28,7 +33,7 @@ pub fn push_node(
         ≡ set (now (stack .entry)) (height - rankOf (now (alphabet .entry)) (symbolOf (getD (now (nodes .entry)) i 0))) i
         ⌝ }
 {
-    let below = height - rank(alphabet, (nodes[i] % LOW_BYTE) as usize);
+    let below = height - rank(alphabet, (nodes[i] % SYMBOL_RANGE) as usize);
     stack[below] = i as u32;
     below + 1
 }

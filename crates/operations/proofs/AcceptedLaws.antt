@@ -11,7 +11,7 @@ use borrow.Author.Tests.{eqb-true, eqb-false, ne-eqb, ltb-true, ltb-false, le-lt
 use Rattle.words.specs.Lists.{all}
 use Rattle.words.specs.Refusal.{refusal}
 use Rattle.words.specs.Alphabet.{noAlphabet, wrongConstants, alphabetRefusals, alphabetFault}
-use Rattle.words.specs.Expression.{wrongLength, notExpressionWords, expressionRefusals, expressionFault}
+use Rattle.words.specs.ExpressionWords.{wrongLength, notExpressionWords, expressionRefusals, expressionFault}
 use Rattle.words.specs.Chapter.{isNode, notNodes}
 use Rattle.words.specs.Postfix.{oneTree, notOneTree, splice}
 use Rattle.words.proofs.TestLaws.{Tested, holds, fails, tested, and-true, or-false, false-or}

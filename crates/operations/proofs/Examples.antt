@@ -11,13 +11,13 @@ use Rattle.words.specs.Word.{kindAt, spareBitsClear, isOf}
 use Rattle.words.specs.Alphabet.{isEntry, rankOf, isConstant, constantsFrom, constantsOf, noAlphabet, wrongConstants}
 use Rattle.words.specs.Shape.{treesBy, startFromBy, isAncestorBy, spliceBy, valueOnBy, valuesBy, stackAfterBy, stackGivenBy}
 use Rattle.words.specs.Postfix.{arity, notOneTree, startOf}
-use Rattle.words.specs.Expression.{isExpressionWord, wrongLength, notExpressionWords}
+use Rattle.words.specs.ExpressionWords.{isExpressionWord, wrongLength, notExpressionWords}
 use Rattle.words.specs.Chapter.{symbolOf, isNode, notNodes}
 use Rattle.words.specs.Tree.{Tree}
 use Rattle.language.specs.Expression.{Expression, empty, union, product, closure}
 use Rattle.language.specs.Membership.{constant, Member}
-use Rattle.language.proofs.Examples.{con, fᵉ, f as fᵗ, closure-empty, by-empty, by-empty-none}
-use Rattle.language.proofs.Examples.{separately, put-once, not-twice, closure-joined}
+use Rattle.language.proofs.MembershipExamples.{con, fᵉ, f as fᵗ, closure-empty, by-empty, by-empty-none}
+use Rattle.language.proofs.MembershipExamples.{separately, put-once, not-twice, closure-joined}
 use Rattle.automaton.proofs.CompiledExample.{alphabet, rule}
 use Rattle.automaton.specs.Transition.{transitionsAt, automatonOf, headWord}
 use Rattle.automaton.specs.Numbering.{hasEntries, statesOf, portOf, ownTransitions, portsFrom, statesAfter, transitionsFrom, compiled}

@@ -4,9 +4,10 @@ use mathlib.Core.List.{List, [], _∷_, _++_}
 use mathlib.Core.Bool.{Bool}
 use lib.ListN.{length, drop}
 use lib.Dec.{ltb}
+use Rattle.words.specs.Limits.{statesMost}
 use Rattle.words.specs.Refusal.{Refusals, refusal}
 use Rattle.words.specs.Alphabet.{alphabetRefusals}
-use Rattle.words.specs.Expression.{expressionRefusals}
+use Rattle.words.specs.ExpressionWords.{expressionRefusals}
 use Rattle.automaton.specs.Transition.{tableWords}
 use Rattle.automaton.specs.Numbering.{compiled}
 use Rattle.words.specs.Answer.{Answer, answerOf, exitOf}
@@ -17,7 +18,7 @@ compiledTable a e = tableWords (compiled a e)
 
 -- 6: "over 1,024 states"
 unfoldable pub tooManyStates : List ℕ → List ℕ → Bool
-tooManyStates a e = ltb 1024 (compiled a e .states)
+tooManyStates a e = ltb statesMost (compiled a e .states)
 
 -- 7: "table slice shorter than the table"; `tableLength` is the slice's length
 unfoldable pub tableTooLong : List ℕ → List ℕ → ℕ → Bool

@@ -6,6 +6,7 @@ use mathlib.Core.Bool.{Bool, not, cond, _&&_, _||_}
 use lib.ListN.{length, getD, take, drop}
 use lib.Dec.{ltb}
 use Rattle.words.specs.Lists.{all, listFrom}
+use Rattle.words.specs.Limits.{nodesMost}
 use Rattle.words.specs.Refusal.{Refusals, refusal}
 use Rattle.words.specs.Chapter.{isNode}
 use Rattle.words.specs.Postfix.{arity, oneTree, startOf, isAncestor, splice, valueOn, stackAfter, stackGiven}
@@ -28,7 +29,7 @@ noReplacement a xs = wrongCount (length xs) || not (all (isNode a) xs && oneTree
 
 -- 16: "result over 4,096 elements, the chapter slice or the marks slice", for a result of n elements
 unfoldable pub resultTooLong : List ℕ → ℕ → ℕ → ℕ → Bool
-resultTooLong table n chapterLength marksLength = ltb 4096 n || ltb chapterLength n || marksTooShort table n marksLength
+resultTooLong table n chapterLength marksLength = ltb nodesMost n || ltb chapterLength n || marksTooShort table n marksLength
 
 -- 14 15 16, of a change in n used elements
 abbrev pub changeRefusals : List ℕ → List ℕ → ℕ → List ℕ → ℕ → ℕ → ℕ → List ℕ → Refusals

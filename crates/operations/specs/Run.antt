@@ -5,6 +5,7 @@ use mathlib.Core.Bool.{Bool, _||_}
 use lib.ListN.{length, drop}
 use lib.Dec.{eqb, ltb}
 use lib.Count.{ones}
+use Rattle.words.specs.Limits.{nodesMost}
 use Rattle.words.specs.Refusal.{Refusals, refusal}
 use Rattle.words.specs.Alphabet.{alphabetRefusals}
 use Rattle.words.specs.Chapter.{treeRefusals}
@@ -14,7 +15,7 @@ use Rattle.operations.specs.Marks.{sizeOf, nodeSets}
 
 -- 9: "chapter of 0 or over 4,096 elements"
 unfoldable pub wrongCount : ℕ → Bool
-wrongCount n = eqb n 0 || ltb 4096 n
+wrongCount n = eqb n 0 || ltb nodesMost n
 
 -- 12: "fewer marks than elements × S"; `marksLength` is the length of the marks slice
 unfoldable pub marksTooShort : List ℕ → ℕ → ℕ → Bool

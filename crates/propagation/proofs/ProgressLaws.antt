@@ -18,7 +18,7 @@ pub record Propagating (a table ch : List ℕ) (root count : ℕ) (marks₀ mark
   pub low : root ≤ i
   pub high : i ≤ length ch
   pub marks-long : length marks ≡ length marks₀
-  pub prepared : Maintained a table ch i marks array top keys known places owners rows pending
+  pub maintained : Maintained a table ch i marks array top keys known places owners rows pending
   pub few-reached : t .reach ≤ i
   pub few-recomputed : t .recomputed ≤ count + i
   pub same : propagateFrom a table ch root (length ch - root) marks₀ (initial count) ≡ propagateFrom a table ch i (length ch - i) marks t
@@ -32,7 +32,7 @@ module _ {a table index ch : List ℕ} {root count : ℕ} {marks₀ array₀ : L
     low = omega arith;
     high = pre .nodes .order;
     marks-long = refl;
-    prepared = pre .nodes .prepared;
+    maintained = pre .nodes .maintained;
     few-reached = omega arith;
     few-recomputed = omega arith;
     same = refl;
@@ -52,7 +52,7 @@ module _ {a table index ch : List ℕ} {root count : ℕ} {marks₀ array₀ : L
               workable = workable-long (g .marks-long) (pre .nodes .workable);
               indexed = pre .nodes .indexed;
               inside = l;
-              prepared = g .prepared;
+              maintained = g .maintained;
             };
             few-reached = omega arith;
             few-recomputed = omega arith;
@@ -84,7 +84,7 @@ module _ {a table index ch : List ℕ} {root count : ℕ} {marks₀ array₀ : L
               low = omega arith;
               high = omega arith;
               marks-long = p ∙ g .marks-long;
-              prepared = d;
+              maintained = d;
               few-reached = omega arith;
               few-recomputed = omega arith;
               same =

@@ -114,7 +114,7 @@ module _ {a table index ch : List ℕ} {i : ℕ} {marks array : List ℕ} {heigh
   node-rank k e = e ∙ sym (node-arity (g .workable .tree) i (g .inside))
 
   pub node-pushable : Pushable a ch i array height
-  node-pushable = stack-pushable (g .prepared .represented) (g .workable .tree) (g .inside) (rankOf a (symbolOf (getD ch i 0))) refl
+  node-pushable = stack-pushable (g .maintained .represented) (g .workable .tree) (g .inside) (rankOf a (symbolOf (getD ch i 0))) refl
 
   -- the node is put on the stack, and its words stay
   pub node-passed : {array′ : List ℕ} {height′ : ℕ} → height′ ≡ height - rankOf a (symbolOf (getD ch i 0)) + 1
@@ -123,9 +123,9 @@ module _ {a table index ch : List ℕ} {i : ℕ} {marks array : List ℕ} {heigh
   node-passed p q =
       rw (p, q) (record {
         represented =
-            represented-more (g .prepared .represented) (g .workable .tree) (g .inside) (rankOf a (symbolOf (getD ch i 0))) refl i
+            represented-more (g .maintained .represented) (g .workable .tree) (g .inside) (rankOf a (symbolOf (getD ch i 0))) refl i
             (omega arith) marks (λ j l. refl) refl;
-        remembered = remembered-later (g .prepared .remembered);
+        remembered = remembered-later (g .maintained .remembered);
       })
 
 module _ (a table ch : List ℕ) (i : ℕ) (marks : List ℕ) (t : Progress) where

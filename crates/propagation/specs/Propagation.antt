@@ -1,10 +1,11 @@
 -- What the loop over the replacement's root and the nodes behind it does, node by node. These definitions serve inner
 -- functions.
-use Prim.Native.Nat.{ℕ, zero, suc, _+_, _-_, _≤_}
+use Prim.Native.Nat.{ℕ, zero, suc, _+_, _-_, _*_, _≤_}
 use mathlib.Core.Bool.{Bool, true, not, cond}
 use mathlib.Core.List.{List}
 use lib.ListN.{length, getD}
 use lib.Dec.{ltb}
+use Rattle.words.specs.Limits.{nodesMost}
 use Rattle.words.specs.Postfix.{arity}
 use Rattle.operations.specs.Marks.{sizeOf, storedSet, sameWords}
 use Rattle.nodes.specs.Nodes.{setFrom, markedAt}
@@ -43,11 +44,11 @@ initial count = record { reach = 0; recomputed = count; active = true }
 pub record Propagable (a table index ch : List ℕ) (i : ℕ) (marks array : List ℕ) (height : ℕ) (t : Progress)
     (keys known places owners rows pending : List ℕ) : Type 0 where
   pub at : NodeMarkable a table index ch i marks array height keys known places owners rows pending
-  pub few-reached : t .reach ≤ 4096
-  pub few-recomputed : t .recomputed ≤ 8192
+  pub few-reached : t .reach ≤ nodesMost
+  pub few-recomputed : t .recomputed ≤ 2 * nodesMost
 
 -- what the whole loop asks, with `count` nodes recomputed before
 pub record PropagationStartable (a table index ch : List ℕ) (root : ℕ) (marks array : List ℕ) (height count : ℕ)
     (keys known places owners rows pending : List ℕ) : Type 0 where
   pub nodes : NodesMarkable a table index ch root (length ch) marks array height keys known places owners rows pending
-  pub few : count ≤ 4096
+  pub few : count ≤ nodesMost

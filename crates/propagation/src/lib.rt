@@ -6,11 +6,12 @@ ghost use Rattle.nodes.specs.Marking.{Maintained, NodeMarkable};
 ghost use Rattle.propagation.specs.Propagation.{recomputeAt, propagateStep, propagateFrom, initial, Propagable, PropagationStartable};
 use nodes::marking::mark_node;
 use nodes::stack::push_node;
+use sets::state::SET_MOST;
 use sets::whole::same_words;
 use sets::whole::write_set;
 use tables::head::set_size;
 use words::alphabet::rank;
-use words::word::LOW_BYTE;
+use words::word::SYMBOL_RANGE;
 
 // How far the loop is: how many roots on the stack, counted from the top, reach down to the one whose tree holds the
 // replacement (0 before the replacement's root is put there), how many nodes were recomputed, and whether work continues.
@@ -58,7 +59,7 @@ fn recompute(
         (now (marks .exit), r .changed)
         ≡ recomputeAt (now (alphabet .entry)) (now (table .entry)) (now (nodes .entry)) i (now (marks .entry))
         ⌝ }
-    ensures kept { λ r. ⌜
+    ensures maintained { λ r. ⌜
         Maintained (now (alphabet .entry)) (now (table .entry)) (now (nodes .entry)) (i + 1) (now (marks .exit)) (now (stack .exit))
         (r .height) (now (keys .exit)) (now (known .exit)) (now (places .exit)) (now (owners .exit)) (now (rows .exit))
         (now (pending .exit))
@@ -66,7 +67,7 @@ fn recompute(
 {
     let size = set_size(table);
     let at = i * size;
-    let mut before = [0u32; 32];
+    let mut before = [0u32; SET_MOST];
     write_set(&mut before, &marks[at..at + size]);
     let top = mark_node(
         alphabet,
@@ -118,13 +119,13 @@ fn propagate_node(
         (now (marks .exit), r .progress)
         ≡ propagateStep (now (alphabet .entry)) (now (table .entry)) (now (nodes .entry)) i (now (marks .entry)) progress
         ⌝ }
-    ensures kept { λ r. ⌜
+    ensures maintained { λ r. ⌜
         Maintained (now (alphabet .entry)) (now (table .entry)) (now (nodes .entry)) (i + 1) (now (marks .exit)) (now (stack .exit))
         (r .height) (now (keys .exit)) (now (known .exit)) (now (places .exit)) (now (owners .exit)) (now (rows .exit))
         (now (pending .exit))
         ⌝ }
 {
-    let children = rank(alphabet, (nodes[i] % LOW_BYTE) as usize);
+    let children = rank(alphabet, (nodes[i] % SYMBOL_RANGE) as usize);
     let reach = progress.reach;
     let recomputed = progress.recomputed;
     if children < reach {

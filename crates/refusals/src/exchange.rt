@@ -2,14 +2,15 @@
 ghost use mathlib.Core.Path.{_≡_};
 ghost use Prim.Native.Nat.{_≤_};
 ghost use lib.ListN.{length, take};
+ghost use Rattle.words.specs.Limits.{nodesMost};
 ghost use Rattle.words.specs.Refusal.{refusal};
 ghost use Rattle.operations.specs.Exchange.{wrongUsedCount, noReplacement, resultTooLong, changeRefusals, exchangeFault};
-use super::shared::ELEMENTS_MOST;
 use super::shared::marked_fault;
 use super::shared::marks_too_short;
 use super::shared::table_fault;
 use super::shared::wrong_count;
 use words::chapter::tree_fault;
+use words::limits::NODES_MOST;
 use words::postfix::subtree_start;
 
 // Whether so many elements are too few or too many, or do not fit a chapter slice of this length.
@@ -36,7 +37,7 @@ fn no_replacement(alphabet: &[u32], replacement: &[u32]) -> bool
 fn result_too_long(table: &[u32], count: usize, chapter_length: usize, marks_length: usize) -> bool
     ensures { λ r. ⌜ r ≡ resultTooLong (now (table .entry)) count «chapter_length» «marks_length» ⌝ }
 {
-    if count > ELEMENTS_MOST {
+    if count > NODES_MOST {
         return true;
     }
     if count > chapter_length {
@@ -56,7 +57,7 @@ fn change_fault(
     element: usize,
     replacement: &[u32],
 ) -> u32
-    requires { ⌜ length (now used) ≤ 4096 ⌝ }
+    requires { ⌜ length (now used) ≤ nodesMost ⌝ }
     ensures { λ r. ⌜
         r
         ≡ refusal

@@ -2,15 +2,14 @@
 ghost use mathlib.Core.Path.{_≡_};
 ghost use Prim.Native.Nat.{_≤_};
 ghost use lib.ListN.{length};
+ghost use Rattle.words.specs.Limits.{nodesMost};
 ghost use Rattle.words.specs.Refusal.{refusal};
 ghost use Rattle.operations.specs.Run.{wrongCount, marksTooShort, tableRefusals, markedRefusals};
 use tables::check::is_table;
 use tables::head::set_size;
 use words::alphabet::alphabet_fault;
 use words::chapter::tree_fault;
-
-// The most elements of a chapter.
-pub(crate) const ELEMENTS_MOST: usize = 4096;
+use words::limits::NODES_MOST;
 
 // Document 01's number 1, 2 or 8, the first that applies, or 0.
 pub(crate) fn table_fault(alphabet: &[u32], table: &[u32]) -> u32
@@ -33,12 +32,12 @@ pub(crate) fn wrong_count(count: usize) -> bool
     if count == 0 {
         return true;
     }
-    ELEMENTS_MOST < count
+    NODES_MOST < count
 }
 
 // Whether a marks slice of this length is too short for the state sets of this many elements.
 pub(crate) fn marks_too_short(table: &[u32], count: usize, marks_length: usize) -> bool
-    requires { ⌜ count ≤ 4096 ⌝ }
+    requires { ⌜ count ≤ nodesMost ⌝ }
     ensures { λ r. ⌜ r ≡ marksTooShort (now (table .entry)) count «marks_length» ⌝ }
 {
     marks_length < count * set_size(table)
@@ -51,7 +50,7 @@ pub(crate) fn marked_fault(
     nodes: &[u32],
     marks_length: usize,
 ) -> u32
-    requires { ⌜ length (now nodes) ≤ 4096 ⌝ }
+    requires { ⌜ length (now nodes) ≤ nodesMost ⌝ }
     ensures { λ r. ⌜
         r
         ≡ refusal

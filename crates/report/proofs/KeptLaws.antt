@@ -12,9 +12,9 @@ use lib.Dec.{ltb}
 use borrow.Author.Tests.{ltb-true, lt-ltb, ne-eqb}
 use Rattle.words.specs.Refusal.{Refusals, refusal}
 use Rattle.words.specs.Alphabet.{noAlphabet, alphabetRefusals}
-use Rattle.words.specs.Expression.{wrongLength}
+use Rattle.words.specs.ExpressionWords.{wrongLength}
 use Rattle.words.proofs.TestLaws.{and-true}
-use Rattle.words.proofs.RefusalLaws.{positive, Found, here, next, number}
+use Rattle.words.proofs.RefusalLaws.{positive, Found, here, next, found-refusal}
 use Rattle.operations.specs.Compile.{ruleRefusals}
 use Rattle.lines.specs.Line.{refusedLine}
 use Rattle.report.specs.Output.{wrongChapter, marklistRefusals, marklistFault, reportLines, marklistOutput, outputOf}
@@ -59,14 +59,14 @@ cut-some ((m, false) ∷ rs) n h p = cut-some rs n h (and-true (ltb 0 m) (positi
 
 rule-long : (a e ch : List ℕ) → 64 < length e → marklistFault a e ch ≡ upTo (alphabetRefusals a) 3
 unfolding wrongLength
-rule-long a e ch h = sym (number (marklistRefusals a e ch) (cut (alphabetRefusals a) _ 3 long))
+rule-long a e ch h = sym (found-refusal (marklistRefusals a e ch) (cut (alphabetRefusals a) _ 3 long))
   where
     long : wrongLength e ≡ true
     long = rw (ne-eqb (length e) 0 (λ z. omega arith), lt-ltb 64 (length e) h)
 
 chapter-long : (a e ch : List ℕ) → 256 < length ch → marklistFault a e ch ≡ upTo (ruleRefusals a e) 9
 unfolding wrongChapter
-chapter-long a e ch h = sym (number (marklistRefusals a e ch) (cut (ruleRefusals a e) _ 9 long))
+chapter-long a e ch h = sym (found-refusal (marklistRefusals a e ch) (cut (ruleRefusals a e) _ 9 long))
   where
     long : wrongChapter ch ≡ true
     long = rw (ne-eqb (length ch) 0 (λ z. omega arith), lt-ltb 256 (length ch) h)

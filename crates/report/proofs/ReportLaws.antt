@@ -14,12 +14,12 @@ use Rattle.operations.proofs.AcceptedLaws.{accepted-values, list-accepted}
 use Rattle.operations.proofs.CompileLaws.{CompileResult, compile-result}
 use Rattle.compiler.specs.declared.Compiled.{Compiled}
 use Rattle.compiler.specs.declared.Compiled.the-variants.{Table, Refused as Compiled·Refused}
-use Rattle.compiler.specs.Answers.{answerInCompiled}
+use Rattle.compiler.specs.CompileAnswer.{answerInCompiled}
 use Rattle.matcher.specs.declared.Ran.{Ran}
 use Rattle.matcher.specs.declared.Ran.the-variants.{Marked, Refused as Ran·Refused}
 use Rattle.matcher.specs.declared.Listed.{Listed}
 use Rattle.matcher.specs.declared.Listed.the-variants.{Matches, Refused as Listed·Refused}
-use Rattle.matcher.specs.Answers.{answerInRan, answerInListed}
+use Rattle.matcher.specs.MatcherAnswers.{answerInRan, answerInListed}
 use Rattle.operations.proofs.MatchLaws.{matchesOf-few}
 use Rattle.lines.specs.Line.{refusedLine, headLine, hitLines}
 use Rattle.report.specs.Output.{marklistOutput, outputOf}

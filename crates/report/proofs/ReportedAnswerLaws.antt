@@ -10,7 +10,7 @@ use lib.ListN.{length, take, drop}
 use lib.Seq.{take-at}
 use borrow.Author.Tests.{lt-ltb, le-ltb, ne-eqb}
 use Rattle.words.specs.Refusal.{refusal}
-use Rattle.words.proofs.RefusalLaws.{none, next, number, found, refuses, passes}
+use Rattle.words.proofs.RefusalLaws.{none, next, found-refusal, refusal-found, refuses, passes}
 use Rattle.automaton.specs.Transition.{Automaton, automatonOf}
 use Rattle.automaton.specs.StateSet.{sizeFor}
 use Rattle.automaton.specs.Numbering.{compiled}
@@ -45,8 +45,8 @@ module _ (a e : List ℕ) where
     where
       go : (n : ℕ) → refusal (ruleRefusals a e) ≡ n → compileFault a e 2048 ≡ refusal (ruleRefusals a e)
       go (suc n) h =
-          sym (number (compileRefusals a e 2048) (refuses (ruleRefusals a e) _ refl (λ z. omega arith)))
-      go zero h = sym (number (compileRefusals a e 2048) (passes (ruleRefusals a e) refl refl h (next (table-enough h) none))) ∙ sym h
+          sym (found-refusal (compileRefusals a e 2048) (refuses (ruleRefusals a e) _ refl (λ z. omega arith)))
+      go zero h = sym (found-refusal (compileRefusals a e 2048) (passes (ruleRefusals a e) refl refl h (next (table-enough h) none))) ∙ sym h
 
   -- a refused Compile: its number is printed
   pub compile-refused : (ch slice : List ℕ) (n : ℕ) → length slice ≡ 2048 → refused n ≡ compileAnswer a e slice
@@ -56,7 +56,7 @@ module _ (a e : List ℕ) where
       let q = refused-by (length (compiledTable a e) ∷ []) (compileFault a e (length slice)) n (sym h) in
       let f : n ≡ refusal (ruleRefusals a e) = sym (q .1) ∙ ap (compileFault a e) l ∙ compile-rule in
       let some = q .0 in
-      refused-output a e ch n (sym (number (marklistRefusals a e ch) (refuses (ruleRefusals a e) _ f (λ z. omega arith)))) (q .0)
+      refused-output a e ch n (sym (found-refusal (marklistRefusals a e ch) (refuses (ruleRefusals a e) _ f (λ z. omega arith)))) (q .0)
 
   -- ---- an accepted Compile, and Run with marks of 8,192 words
 
@@ -75,7 +75,7 @@ module _ (a e : List ℕ) where
 
     -- the refusals that are left
     pub left-fault : marklistFault a e ch ≡ refusal (chapterRefusals a ch)
-    left-fault = sym (number (marklistRefusals a e ch) (passes (ruleRefusals a e) refl refl rule-none (found (chapterRefusals a ch) refl)))
+    left-fault = sym (found-refusal (marklistRefusals a e ch) (passes (ruleRefusals a e) refl refl rule-none (refusal-found (chapterRefusals a ch) refl)))
 
     -- "Over 256 elements it says 9"
     pub chapter-over : 256 < length ch → marklistOutput a e ch ≡ refusedLine 9

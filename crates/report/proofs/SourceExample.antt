@@ -6,7 +6,7 @@ use mathlib.Core.List.{List, [], _∷_, _++_, map, flatMap}
 use lib.ListN.{replicate}
 use Rattle.words.specs.Word.{kindAt, spareBitsClear, isOf}
 use Rattle.words.specs.Alphabet.{isEntry, rankOf, isConstant, constantsFrom, constantsOf, noAlphabet, wrongConstants}
-use Rattle.words.specs.Expression.{isExpressionWord, wrongLength, notExpressionWords}
+use Rattle.words.specs.ExpressionWords.{isExpressionWord, wrongLength, notExpressionWords}
 use Rattle.words.specs.Chapter.{isNode, notNodes}
 use Rattle.words.specs.Shape.{treesBy, startFromBy}
 use Rattle.words.specs.Postfix.{arity, notOneTree}

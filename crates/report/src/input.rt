@@ -12,7 +12,7 @@ pub fn part_bytes(left: usize) -> usize
 }
 
 // How many words are kept of `count` in a slice of this length.
-pub fn kept(count: u32, slice_length: usize) -> usize
+pub fn kept_words(count: u32, slice_length: usize) -> usize
     ensures { λ r. ⌜ r ≡ min count «slice_length» ⌝ }
 {
     least(count as usize, slice_length)

@@ -2,9 +2,10 @@
 use Prim.Native.Nat.{ℕ, _+_, _≤_}
 use mathlib.Core.List.{List}
 use lib.ListN.{length}
+use Rattle.sets.specs.Size.{setMost}
 
--- one set of at most 32 words from index `from` on, and its places from index `to` on, lie inside the slice
+-- one set from index `from` on, and its places from index `to` on, lie inside the slice
 pub record Copyable (words : List ℕ) (from to size : ℕ) : Type 0 where
-  pub small : size ≤ 32
+  pub small : size ≤ setMost
   pub source : from + size ≤ length words
   pub target : to + size ≤ length words

@@ -1,10 +1,15 @@
 // One state of a set: state s is bit s mod 32 of word s / 32.
 ghost use mathlib.Core.Path.{_≡_};
 ghost use Prim.Native.Nat.{_^_, _<_};
+ghost use Rattle.words.specs.Word.{countRange};
 ghost use Rattle.automaton.specs.StateSet.{sizeFor, contains as StateSet·contains, insert as StateSet·insert};
+use words::limits::STATES_MOST;
 
 // The states of one word of a set.
 const WORD_BITS: usize = 32;
+
+// The most words of a set.
+pub const SET_MOST: usize = (STATES_MOST + 31) / WORD_BITS;
 
 // The word with bit b alone, for each b.
 const MASKS: [u32; 32] = [
@@ -51,7 +56,7 @@ fn mask(b: usize) -> u32
 
 // Document 01's S: the words of a set of this many states.
 pub fn size_for(states: usize) -> usize
-    requires { ⌜ states < 2048 ⌝ }
+    requires { ⌜ states < countRange ⌝ }
     ensures { λ r. ⌜ r ≡ sizeFor states ⌝ }
 {
     (states + 31) / WORD_BITS

@@ -9,6 +9,8 @@ ghost use Rattle.operations.specs.Marks.{sameWords};
 ghost use Rattle.operations.specs.Run.{cellsIn};
 ghost use Rattle.sets.specs.Copyable.{Copyable};
 ghost use Rattle.sets.specs.Joined.{joined};
+ghost use Rattle.sets.specs.Size.{marksMost};
+use super::state::SET_MOST;
 
 // Puts the states of another set into a set.
 pub fn join(set: &mut [u32], other: &[u32])
@@ -48,7 +50,7 @@ pub fn copy_set(marks: &mut [u32], from: usize, to: usize, size: usize)
     requires { ⌜ Copyable (now marks) from to size ⌝ }
     ensures { λ _. ⌜ now (marks .exit) ≡ paste (now (marks .entry)) to (take size (drop from (now (marks .entry)))) size ⌝ }
 {
-    let mut set = [0u32; 32];
+    let mut set = [0u32; SET_MOST];
     write_set(&mut set, &marks[from..from + size]);
     write_set_at(marks, to, &set[..size]);
 }
@@ -80,10 +82,10 @@ fn count_pair(low: u32, high: u32) -> usize
     u64::count_ones(high as u64 * WORD_RANGE + low as u64) as usize
 }
 
-// The number of ones in the words, of which there are at most 4,096 times 32. Two words are counted at once, which takes half
+// The number of ones in the words of all sets. Two words are counted at once, which takes half
 // the time.
 pub fn count_cells(words: &[u32]) -> usize
-    requires { ⌜ length (now words) ≤ 131072 ⌝ }
+    requires { ⌜ length (now words) ≤ marksMost ⌝ }
     ensures { λ r. ⌜ r ≡ cellsIn (now (words .entry)) ⌝ }
 {
     let mut cells: usize = 0;

@@ -40,10 +40,10 @@ module _ {table index : List ℕ} {size : ℕ} {marks children owners rows pendi
   rs = childSets size marks children
 
   checked : IndexedTable table index
-  checked = g .followable .steppable .prepared .indexed
+  checked = g .followable .steppable .node .indexed
 
   symbol : SymbolWord (getD table i 0) (keyOf (getD table i 0))
-  symbol = keyed-symbol (getD table i 0) refl (g .followable .steppable .prepared .symbol-below)
+  symbol = keyed-symbol (getD table i 0) refl (g .followable .steppable .node .symbol-below)
 
   target-below : stateBelow (getD table i 0) < automatonOf table .states
   target-below = symbol-below checked i (g .inside) symbol
@@ -56,8 +56,8 @@ module _ {table index : List ℕ} {size : ℕ} {marks children owners rows pendi
   unfolding checked
   transition-sources =
       record {
-        count = sym (symbol-sources checked i (g .inside) symbol) ∙ g .followable .steppable .prepared .rank;
-        rows = subst (λ k. RowsInside k marks children) (sym (g .followable .size-is)) (g .followable .steppable .prepared .rows);
+        count = sym (symbol-sources checked i (g .inside) symbol) ∙ g .followable .steppable .node .rank;
+        rows = subst (λ k. RowsInside k marks children) (sym (g .followable .size-is)) (g .followable .steppable .node .rows);
       }
 
   pub transition-joinable : Joinable table index (stateBelow (getD table i 0)) owners rows pending r
@@ -119,8 +119,8 @@ module _ {table index : List ℕ} {f size : ℕ} {marks children owners rows pen
   pub symbol-first : SymbolFollowable table index f size marks children owners rows pending r
       → SymbolAt table index f size marks children owners rows pending r (length pending) (getD index f 0)
   symbol-first g =
-      let c = g .steppable .prepared .indexed in
-      let small = g .steppable .prepared .symbol-below in
+      let c = g .steppable .node .indexed in
+      let small = g .steppable .node .symbol-below in
       record {
         followable = g;
         from = 0;
@@ -131,10 +131,10 @@ module _ {table index : List ℕ} {f size : ℕ} {marks children owners rows pen
 
   module _ {pendingLength i : ℕ} (s : SymbolAt table index f size marks children owners rows pending r pendingLength i) where
     chain : IndexedTable table index
-    chain = s .followable .steppable .prepared .indexed
+    chain = s .followable .steppable .node .indexed
 
     key-below : f < 1280
-    key-below = let small = s .followable .steppable .prepared .symbol-below in omega arith
+    key-below = let small = s .followable .steppable .node .symbol-below in omega arith
 
     pub symbol-end : i ≤ 0 → SymbolFollowed table f (childSets size marks children) r owners rows
     symbol-end h =
@@ -175,7 +175,7 @@ module _ {table index : List ℕ} {f size : ℕ} {marks children owners rows pen
           record {
             followable = record {
               steppable = record {
-                prepared = s .followable .steppable .prepared;
+                node = s .followable .steppable .node;
                 closures = j .closures;
                 fits = rw e (s .followable .steppable .fits);
               };

@@ -10,6 +10,7 @@ use Rattle.automaton.specs.Transition.{sourcesAt, automatonOf}
 use Rattle.automaton.specs.StateSet.{StateSet, contains, allContained}
 use Rattle.automaton.specs.Reached.{Reached}
 use Rattle.operations.specs.Marks.{sizeOf}
+use Rattle.sets.specs.Size.{setMost}
 use Rattle.index.specs.Index.{keyOf}
 use Rattle.step.specs.NodeSteppable.{RowsInside, NodeSteppable, childSets}
 use Rattle.closures.specs.Closure.{Closed, Closures}
@@ -22,7 +23,7 @@ pub record SourcesReadable (table : List ℕ) (at size : ℕ) (marks children : 
 -- The set r of a node with symbol f over children with the sets rs, while it is worked out: it holds only reached states and is
 -- closed under the epsilon transitions.
 pub record Growing (table : List ℕ) (f : ℕ) (rs : List StateSet) (r : StateSet) : Type 0 where
-  pub size : length r ≡ 32
+  pub size : length r ≡ setMost
   pub words : (i : ℕ) → getD r i 0 < 2 ^ 32
   pub reached : (q : ℕ) → contains r q ≡ true → Reached (automatonOf table .transitions) f rs q
   pub closed : Closed table r
@@ -33,7 +34,7 @@ Satisfied table rs r i = allContained (sourcesAt (drop (i + 1) table)) rs ≡ tr
 
 -- what working out a node's set asks: beside the node the closures that are kept, and a stack with room for every state
 pub record Steppable (table index : List ℕ) (f : ℕ) (marks children owners rows pending : List ℕ) : Type 0 where
-  pub prepared : NodeSteppable table index f marks children
+  pub node : NodeSteppable table index f marks children
   pub closures : Closures table owners rows
   pub fits : automatonOf table .states ≤ length pending
 

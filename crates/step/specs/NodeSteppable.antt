@@ -1,9 +1,10 @@
--- What the node step asks of its caller: a checked table with its index, a symbol of eight bits, as many children as its rank, and each
+-- What the node step asks of its caller: a checked table with its index, a symbol, as many children as its rank, and each
 -- child's state set inside the marks.
 use Prim.Native.Nat.{ℕ, _+_, _*_, _<_, _≤_}
 use mathlib.Core.Path.{_≡_}
 use mathlib.Core.List.{List, map}
 use lib.ListN.{length, getD}
+use Rattle.words.specs.Word.{symbolRange}
 use Rattle.words.specs.Alphabet.{rankOf}
 use Rattle.automaton.specs.StateSet.{StateSet}
 use Rattle.operations.specs.Marks.{sizeOf, storedSet}
@@ -16,7 +17,7 @@ RowsInside size marks children = (k : ℕ) → k < length children → getD chil
 -- what the node step asks of the table, its index and the node
 pub record NodeSteppable (table index : List ℕ) (symbol : ℕ) (marks children : List ℕ) : Type 0 where
   pub indexed : IndexedTable table index
-  pub symbol-below : symbol < 256
+  pub symbol-below : symbol < symbolRange
   pub rank : rankOf (indexed .alphabet) symbol ≡ length children
   pub rows : RowsInside (sizeOf table) marks children
 

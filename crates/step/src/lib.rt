@@ -6,6 +6,7 @@ ghost use lib.ListN.{drop, getD, replicate};
 ghost use Rattle.automaton.specs.Transition.{automatonOf, sourcesAt};
 ghost use Rattle.automaton.specs.StateSet.{allContained, stateSet};
 ghost use Rattle.operations.specs.Marks.{sizeOf};
+ghost use Rattle.sets.specs.Size.{setMost};
 ghost use Rattle.index.specs.Index.{keyOf};
 ghost use Rattle.step.specs.NodeSteppable.{childSets};
 ghost use Rattle.closures.specs.Closure.{Closures};
@@ -13,6 +14,7 @@ ghost use Rattle.step.specs.Node.{SourcesReadable, Steppable, SymbolFoll
 ghost use Rattle.step.specs.Node.{TransitionFollowable, TransitionFollowed};
 use closures::join_closure;
 use index::KEYS;
+use sets::state::SET_MOST;
 use sets::state::contains;
 use tables::head::set_size;
 use words::word::STATE_RANGE;
@@ -120,7 +122,7 @@ pub fn node_set(
     owners: &mut [u32],
     rows: &mut [u32],
     pending: &mut [u32],
-) -> [u32; 32]
+) -> [u32; SET_MOST]
     requires { ⌜
         Steppable (now table) (now index) symbol (now marks) (now children) (now owners) (now rows) (now pending)
         ⌝ }
@@ -128,12 +130,12 @@ pub fn node_set(
         r
         ≡ stateSet (automatonOf (now (table .entry))) symbol
         (childSets (sizeOf (now (table .entry))) (now (marks .entry)) (now (children .entry)))
-        ++ replicate (32 - sizeOf (now (table .entry))) 0
+        ++ replicate (setMost - sizeOf (now (table .entry))) 0
         ⌝ }
     ensures closures { λ _. ⌜ Closures (now (table .entry)) (now (owners .exit)) (now (rows .exit)) ⌝ }
 {
     let size = set_size(table);
-    let mut set = [0u32; 32];
+    let mut set = [0u32; SET_MOST];
     follow_symbol(
         table,
         index,

@@ -5,16 +5,14 @@ ghost use Prim.Native.Nat.{_+_};
 ghost use lib.ListN.{drop};
 ghost use Rattle.automaton.specs.Table.{isHead, isTableWord, sourcesLeft, areTransitions, isTable};
 use words::alphabet::rank;
+use words::limits::STATES_MOST;
+use words::limits::TABLE_MOST;
 use words::word::COUNT_RANGE;
 use words::word::Kind;
 use words::word::STATE_RANGE;
-use words::word::STATES_MOST;
 use words::word::SYMBOL_RANGE;
 use words::word::kind_of;
 use words::word::spare_bits_clear;
-
-// The most words of a table.
-const TABLE_MOST: usize = 2048;
 
 // Whether the word is a head: 1 to 1,024 states, and the final state is one of them.
 fn is_head(w: u32) -> bool
@@ -25,7 +23,7 @@ fn is_head(w: u32) -> bool
     match kind {
         Kind::Head => spare_bits_clear(w)
             && 0 < states
-            && states <= STATES_MOST
+            && states <= STATES_MOST as u32
             && w % STATE_RANGE < states,
         _ => false,
     }

@@ -9,7 +9,7 @@ use lib.Dec.{ltb, eqb}
 use borrow.Author.Tests.{ltb-false, eqb-false, not-false}
 use Rattle.words.specs.Lists.{all}
 use Rattle.words.specs.Postfix.{oneTree, notOneTree}
-use Rattle.words.specs.Expression.{isExpressionWord, wrongLength, notExpressionWords, expressionRefusals, expressionFault}
+use Rattle.words.specs.ExpressionWords.{isExpressionWord, wrongLength, notExpressionWords, expressionRefusals, expressionFault}
 use Rattle.words.proofs.TestLaws.{or-false}
 use Rattle.words.proofs.RefusalLaws.{conditionOf, none-applies}
 

@@ -9,7 +9,7 @@ use Rattle.words.specs.Word.{Kind, entryKind, symbolKind, emptyKind, uni
 use Rattle.words.specs.Word.{headKind, transitionKind, epsilonKind, sourceKind, noKind, kindOf, spareBitsClear, lowByte}
 use Rattle.words.specs.Alphabet.{rankOf, isConstant}
 use Rattle.words.specs.Postfix.{arity}
-use Rattle.words.specs.Expression.{namesAt, isExpressionWord}
+use Rattle.words.specs.ExpressionWords.{namesAt, isExpressionWord}
 use Rattle.words.proofs.TestLaws.{and-true}
 use Rattle.words.proofs.WordLaws.{arity-kind}
 

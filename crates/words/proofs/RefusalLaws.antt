@@ -20,13 +20,13 @@ pub data Found : Refusals → ℕ → Type 0 where
   next : {n : ℕ} {b : Bool} {rs : Refusals} {f : ℕ} → b ≡ false → Found rs f → Found ((n, b) ∷ rs) f
 
 -- the law, and back
-pub number : (rs : Refusals) {f : ℕ} → Found rs f → f ≡ refusal rs
-number [] none = refl
-number ((n, b) ∷ rs) (here e) = sym (rw e)
-number ((n, b) ∷ rs) (next e r) = number rs r ∙ sym (rw e)
+pub found-refusal : (rs : Refusals) {f : ℕ} → Found rs f → f ≡ refusal rs
+found-refusal [] none = refl
+found-refusal ((n, b) ∷ rs) (here e) = sym (rw e)
+found-refusal ((n, b) ∷ rs) (next e r) = found-refusal rs r ∙ sym (rw e)
 
-pub found : (rs : Refusals) {f : ℕ} → f ≡ refusal rs → Found rs f
-found rs e = rw e (go rs)
+pub refusal-found : (rs : Refusals) {f : ℕ} → f ≡ refusal rs → Found rs f
+refusal-found rs e = rw e (go rs)
   where
     go : (rs : Refusals) → Found rs (refusal rs)
     go [] = none
@@ -69,7 +69,7 @@ none-applies rs p h = none-of rs (refusal-none rs p h)
 
 -- it refuses
 pub refuses : (rs ks : Refusals) {f : ℕ} → f ≡ refusal rs → (f ≡ 0 → ⊥) → Found (rs ++ ks) f
-refuses rs ks e h = go (found rs e) h
+refuses rs ks e h = go (refusal-found rs e) h
   where
     go : {rs : Refusals} {f : ℕ} → Found rs f → (f ≡ 0 → ⊥) → Found (rs ++ ks) f
     go none h = absurd (h refl)

@@ -12,7 +12,7 @@ use Rattle.words.specs.Word.{kindOf, bodyOf, fieldRange, spareBitsClear,
 use Rattle.words.specs.Alphabet.{rankOf, isSymbol}
 use Rattle.words.specs.Postfix.{arity, arityAt}
 use Rattle.words.specs.Chapter.{symbolOf, isNode}
-use Rattle.words.specs.Expression.{namesAt, isExpressionWord}
+use Rattle.words.specs.ExpressionWords.{namesAt, isExpressionWord}
 use Rattle.words.proofs.TestLaws.{and-true, true-and}
 use Rattle.words.proofs.KindLaws.{kindOf-wordOf, bodyOf-wordOf, lowByte-wordOf, kindOf-hasKind}
 use Rattle.words.proofs.KindLaws.{word-wordOf, fieldRange-fits, isOf-facts, isOf-wordOf}

@@ -5,6 +5,7 @@ use mathlib.Core.Bool.{Bool, not, cond, _&&_, _||_}
 use lib.ListN.{length, getD}
 use lib.Dec.{ltb, leb, eqb}
 use Rattle.words.specs.Lists.{all}
+use Rattle.words.specs.Limits.{alphabetMost, constantsMost, rankMost}
 use Rattle.words.specs.Refusal.{Refusals, refusal}
 use Rattle.words.specs.Word.{entryKind, isOf, lowByte}
 
@@ -14,7 +15,7 @@ entryRank w = lowByte w
 
 -- an alphabet entry has a rank of 0 to 4
 unfoldable pub isEntry : ℕ → Bool
-isEntry w = isOf entryKind w && leb (entryRank w) 4
+isEntry w = isOf entryKind w && leb (entryRank w) rankMost
 
 -- the rank of a symbol, whose number is its entry's index; 0 for an unknown one
 unfoldable pub rankOf : List ℕ → ℕ → ℕ
@@ -39,11 +40,11 @@ constantsOf a = constantsFrom 0 a
 
 -- 1: "alphabet of 0 or over 64 words, or a word that is no alphabet entry"
 unfoldable pub noAlphabet : List ℕ → Bool
-noAlphabet a = eqb (length a) 0 || ltb 64 (length a) || not (all isEntry a)
+noAlphabet a = eqb (length a) 0 || ltb alphabetMost (length a) || not (all isEntry a)
 
 -- 2: "no constant or over 16"
 unfoldable pub wrongConstants : List ℕ → Bool
-wrongConstants a = eqb (length (constantsOf a)) 0 || ltb 16 (length (constantsOf a))
+wrongConstants a = eqb (length (constantsOf a)) 0 || ltb constantsMost (length (constantsOf a))
 
 abbrev pub alphabetRefusals : List ℕ → Refusals
 alphabetRefusals a = (1, noAlphabet a) ∷ (2, wrongConstants a) ∷ []

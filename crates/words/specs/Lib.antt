@@ -1,4 +1,5 @@
 pub mod Lists
+pub mod Limits
 pub mod Refusal
 pub mod Answer
 pub mod ExactlyOne
@@ -8,5 +9,5 @@ pub mod Alphabet
 pub mod Tree
 pub mod Shape
 pub mod Postfix
-pub mod Expression
+pub mod ExpressionWords
 pub mod Chapter

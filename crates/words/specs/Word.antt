@@ -40,9 +40,12 @@ kinds =
 unfoldable pub kindAt : ℕ → Kind
 kindAt n = kindAmong kinds n
 
--- "bits 31..28 are the kind"
+-- "bits 31..28 are the kind": the other 28 bits stay below this number
+abbrev pub kindUnit : ℕ
+kindUnit = 0x1000_0000
+
 abbrev pub numberOf : ℕ → ℕ
-numberOf w = w / 0x1000_0000
+numberOf w = w / kindUnit
 
 -- whether a word is of k, one of document 01's kinds
 abbrev pub hasKind : Kind → ℕ → Bool
@@ -54,21 +57,32 @@ kindOf w = kindAt (numberOf w)
 
 -- the other 28 bits
 abbrev pub bodyOf : ℕ → ℕ
-bodyOf w = w % 0x1000_0000
+bodyOf w = w % kindUnit
+
+-- the range of each field: a rank, a symbol and a substitution symbol (document 01's c) have eight bits, a state has ten, and
+-- a state count eleven
+abbrev pub symbolRange : ℕ
+symbolRange = 0x100
+
+abbrev pub stateRange : ℕ
+stateRange = 0x400
+
+abbrev pub countRange : ℕ
+countRange = 0x800
 
 -- The named bits of each kind are its lowest ones: a word's other 28 bits stay below this number.
 abbrev pub fieldRange : Kind → ℕ
-fieldRange entryKind = 0x100
-fieldRange symbolKind = 0x100
+fieldRange entryKind = symbolRange
+fieldRange symbolKind = symbolRange
 fieldRange emptyKind = 0x1
 fieldRange unionKind = 0x1
-fieldRange productKind = 0x100
-fieldRange closureKind = 0x100
-fieldRange nodeKind = 0x100
-fieldRange headKind = 0x20_0000
-fieldRange transitionKind = 0x4_0000
-fieldRange epsilonKind = 0x10_0000
-fieldRange sourceKind = 0x400
+fieldRange productKind = symbolRange
+fieldRange closureKind = symbolRange
+fieldRange nodeKind = symbolRange
+fieldRange headKind = countRange * stateRange
+fieldRange transitionKind = symbolRange * stateRange
+fieldRange epsilonKind = stateRange * stateRange
+fieldRange sourceKind = stateRange
 fieldRange noKind = 0x0
 
 -- "Bits not named are zero."
@@ -81,28 +95,28 @@ isOf k w = hasKind k w && spareBitsClear w
 
 -- the word of a kind with these named bits
 abbrev pub wordOf : Kind → ℕ → ℕ
-wordOf k body = kindNumber k * 0x1000_0000 + body
+wordOf k body = kindNumber k * kindUnit + body
 
--- bits 7..0: a rank, a symbol or a substitution symbol (document 01's c)
+-- bits 7..0: a rank, a symbol or a substitution symbol
 abbrev pub lowByte : ℕ → ℕ
-lowByte w = w % 0x100
+lowByte w = w % symbolRange
 
 -- bits 17..10: the symbol of a transition (a symbol move)
 abbrev pub symbolAbove : ℕ → ℕ
-symbolAbove w = w / 0x400 % 0x100
+symbolAbove w = w / stateRange % symbolRange
 
 -- bits 20..10: the state count of a head
 abbrev pub countAbove : ℕ → ℕ
-countAbove w = w / 0x400 % 0x800
+countAbove w = w / stateRange % countRange
 
 -- bits 19..10: the from state of an epsilon transition (an empty move)
 abbrev pub stateAbove : ℕ → ℕ
-stateAbove w = w / 0x400 % 0x400
+stateAbove w = w / stateRange % stateRange
 
 -- bits 9..0: a state
 abbrev pub stateBelow : ℕ → ℕ
-stateBelow w = w % 0x400
+stateBelow w = w % stateRange
 
 -- the named bits of a word of a table: x stands above state s
 abbrev pub aboveState : ℕ → ℕ → ℕ
-aboveState x s = x * 0x400 + s
+aboveState x s = x * stateRange + s

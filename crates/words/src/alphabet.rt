@@ -3,27 +3,22 @@ ghost use mathlib.Core.Path.{_≡_};
 ghost use lib.ListN.{length, take};
 ghost use lib.Seq.{sets};
 ghost use Rattle.words.specs.Lists.{all};
+ghost use Rattle.words.specs.Limits.{alphabetMost};
 ghost use Rattle.words.specs.Alphabet.{isEntry, isConstant, rankOf, constantsOf, alphabetFault};
+use super::limits::ALPHABET_MOST;
+use super::limits::CONSTANTS_MOST;
+use super::limits::RANK_MOST;
 use super::word::Kind;
-use super::word::LOW_BYTE;
+use super::word::SYMBOL_RANGE;
 use super::word::kind_of;
 use super::word::spare_bits_clear;
-
-// The most entries of an alphabet.
-const ALPHABET_MOST: usize = 64;
-
-// The most constants of an alphabet.
-const CONSTANTS_MOST: usize = 16;
-
-// The highest rank.
-const RANK_MOST: u32 = 4;
 
 // The rank of a symbol; 0 for an unknown one.
 pub fn rank(alphabet: &[u32], symbol: usize) -> usize
     ensures { λ r. ⌜ r ≡ rankOf (now (alphabet .entry)) symbol ⌝ }
 {
     if symbol < alphabet.len() {
-        return (alphabet[symbol] % LOW_BYTE) as usize;
+        return (alphabet[symbol] % SYMBOL_RANGE) as usize;
     }
     0
 }
@@ -33,7 +28,7 @@ pub(crate) fn is_constant(alphabet: &[u32], symbol: usize) -> bool
     ensures { λ r. ⌜ r ≡ isConstant (now (alphabet .entry)) symbol ⌝ }
 {
     if symbol < alphabet.len() {
-        return alphabet[symbol] % LOW_BYTE == 0;
+        return alphabet[symbol] % SYMBOL_RANGE == 0;
     }
     false
 }
@@ -44,7 +39,7 @@ fn is_entry(w: u32) -> bool
 {
     let kind = kind_of(w);
     match kind {
-        Kind::Entry => spare_bits_clear(w) && w % LOW_BYTE <= RANK_MOST,
+        Kind::Entry => spare_bits_clear(w) && w % SYMBOL_RANGE <= RANK_MOST as u32,
         _ => false,
     }
 }
@@ -79,10 +74,10 @@ pub fn count_constants(alphabet: &[u32]) -> usize
 }
 
 // Writes the constants in symbol order into the first words of the list, as far as it reaches, and answers how many there are.
-// Only the 64 symbols that an alphabet can have are looked at.
+// Only the symbols that an alphabet can have are looked at.
 pub fn write_constants(alphabet: &[u32], list: &mut [u32]) -> usize
-    ensures answer { λ r. ⌜ r ≡ length (constantsOf (take 64 (now (alphabet .entry)))) ⌝ }
-    ensures list { λ _. ⌜ now (list .exit) ≡ sets (now (list .entry)) 0 (constantsOf (take 64 (now (alphabet .entry)))) ⌝ }
+    ensures answer { λ r. ⌜ r ≡ length (constantsOf (take alphabetMost (now (alphabet .entry)))) ⌝ }
+    ensures list { λ _. ⌜ now (list .exit) ≡ sets (now (list .entry)) 0 (constantsOf (take alphabetMost (now (alphabet .entry)))) ⌝ }
 {
     let mut n: usize = 0;
     let mut i = 0;

@@ -4,7 +4,7 @@ ghost use Rattle.words.specs.Lists.{all};
 ghost use Rattle.words.specs.Chapter.{isNode, treeFault};
 use super::alphabet::rank;
 use super::word::Kind;
-use super::word::LOW_BYTE;
+use super::word::SYMBOL_RANGE;
 use super::word::kind_of;
 use super::word::spare_bits_clear;
 
@@ -13,7 +13,7 @@ fn is_node(alphabet: &[u32], w: u32) -> bool
     ensures { λ r. ⌜ r ≡ isNode (now (alphabet .entry)) w ⌝ }
 {
     let kind = kind_of(w);
-    let symbol = (w % LOW_BYTE) as usize;
+    let symbol = (w % SYMBOL_RANGE) as usize;
     match kind {
         Kind::Node => spare_bits_clear(w) && symbol < alphabet.len(),
         _ => false,
@@ -46,7 +46,7 @@ pub fn tree_fault(alphabet: &[u32], words: &[u32]) -> u32
         if !is_node(alphabet, w) {
             return 10;
         }
-        let children = rank(alphabet, (w % LOW_BYTE) as usize);
+        let children = rank(alphabet, (w % SYMBOL_RANGE) as usize);
         if made < children {
             if !nodes_only(alphabet, &words[i..]) {
                 return 10;

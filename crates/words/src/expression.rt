@@ -1,16 +1,14 @@
 // The words of a rule, and refusals 3, 4 and 5.
 ghost use mathlib.Core.Path.{_≡_};
 ghost use Rattle.words.specs.Lists.{all};
-ghost use Rattle.words.specs.Expression.{isExpressionWord, expressionFault};
+ghost use Rattle.words.specs.ExpressionWords.{isExpressionWord, expressionFault};
 use super::alphabet::is_constant;
+use super::limits::EXPRESSION_MOST;
 use super::postfix::one_tree;
 use super::word::Kind;
-use super::word::LOW_BYTE;
+use super::word::SYMBOL_RANGE;
 use super::word::kind_of;
 use super::word::spare_bits_clear;
-
-// The most words of a rule.
-const EXPRESSION_MOST: usize = 64;
 
 // Whether a word is a rule word with a known symbol or a constant where it names one.
 fn is_expression_word(alphabet: &[u32], w: u32) -> bool
@@ -19,7 +17,7 @@ fn is_expression_word(alphabet: &[u32], w: u32) -> bool
     if !spare_bits_clear(w) {
         return false;
     }
-    let symbol = (w % LOW_BYTE) as usize;
+    let symbol = (w % SYMBOL_RANGE) as usize;
     let kind = kind_of(w);
     match kind {
         Kind::Symbol => symbol < alphabet.len(),

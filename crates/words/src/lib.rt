@@ -3,5 +3,6 @@
 pub mod alphabet;
 pub mod chapter;
 pub mod expression;
+pub mod limits;
 pub mod postfix;
 pub mod word;

@@ -3,7 +3,7 @@ ghost use mathlib.Core.Path.{_≡_};
 ghost use Rattle.words.specs.Postfix.{arity, oneTree, startOf};
 use super::alphabet::rank;
 use super::word::Kind;
-use super::word::LOW_BYTE;
+use super::word::SYMBOL_RANGE;
 use super::word::kind_of;
 
 // How many children a word takes.
@@ -12,11 +12,11 @@ pub fn arity(alphabet: &[u32], w: u32) -> usize
 {
     let kind = kind_of(w);
     match kind {
-        Kind::Symbol => rank(alphabet, (w % LOW_BYTE) as usize),
+        Kind::Symbol => rank(alphabet, (w % SYMBOL_RANGE) as usize),
         Kind::Union => 2,
         Kind::Product => 2,
         Kind::Closure => 1,
-        Kind::Node => rank(alphabet, (w % LOW_BYTE) as usize),
+        Kind::Node => rank(alphabet, (w % SYMBOL_RANGE) as usize),
         _ => 0,
     }
 }

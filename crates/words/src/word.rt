@@ -39,21 +39,15 @@ pub const EPSILON: u32 = 0xA;
 // A part state of a symbol move.
 pub const SOURCE: u32 = 0xB;
 
-// Bits 7..0 of an entry are its rank, those of other words a symbol.
-pub const LOW_BYTE: u32 = 0x100;
+// Bits 7..0 of an entry are its rank, those of rule words and elements a symbol or a constant.
+pub const SYMBOL_RANGE: u32 = 0x100;
 
 // Bits 9..0 of a word of a table are a state. Above them stand a head's state count, a symbol transition's symbol, or the
-// from state of an epsilon transition, which is in the same range.
+// from state of an epsilon transition.
 pub const STATE_RANGE: u32 = 0x400;
 
 // A head's state count is below this.
 pub const COUNT_RANGE: u32 = 0x800;
-
-// A symbol transition's symbol is below this.
-pub const SYMBOL_RANGE: u32 = 0x100;
-
-// The most states of a table.
-pub const STATES_MOST: u32 = 1024;
 
 // The kinds of document 01, in the order of their numbers, and no kind of it.
 pub enum Kind {
@@ -97,17 +91,17 @@ fn field_range(kind: Kind) -> u32
     ensures { λ r. ⌜ r ≡ fieldRange (kindIn kind) ⌝ }
 {
     match kind {
-        Kind::Entry => 0x100,
-        Kind::Symbol => 0x100,
+        Kind::Entry => SYMBOL_RANGE,
+        Kind::Symbol => SYMBOL_RANGE,
         Kind::Empty => 0x1,
         Kind::Union => 0x1,
-        Kind::Product => 0x100,
-        Kind::Closure => 0x100,
-        Kind::Node => 0x100,
-        Kind::Head => 0x20_0000,
-        Kind::Transition => 0x4_0000,
-        Kind::Epsilon => 0x10_0000,
-        Kind::Source => 0x400,
+        Kind::Product => SYMBOL_RANGE,
+        Kind::Closure => SYMBOL_RANGE,
+        Kind::Node => SYMBOL_RANGE,
+        Kind::Head => COUNT_RANGE * STATE_RANGE,
+        Kind::Transition => SYMBOL_RANGE * STATE_RANGE,
+        Kind::Epsilon => STATE_RANGE * STATE_RANGE,
+        Kind::Source => STATE_RANGE,
         Kind::Other => 0x0,
     }
 }

@@ -4,8 +4,8 @@ use borrow.Author.Needs.{needs}
 use native.Mathlib.Omega.{arith}
 use Rattle.words.specs.Refusal.{Refusals}
 use Rattle.words.specs.Alphabet.{alphabetRefusals}
-use Rattle.words.specs.Expression.{expressionRefusals}
-use Rattle.words.proofs.RefusalLaws.{none, here, next, number, refuses, passes}
+use Rattle.words.specs.ExpressionWords.{expressionRefusals}
+use Rattle.words.proofs.RefusalLaws.{none, here, next, found-refusal, refuses, passes}
 use Rattle.words.proofs.AcceptedAlphabet.{alphabet-accepted}
 use Rattle.words.proofs.AcceptedExpression.{expression-passed}
 use Rattle.operations.specs.Compile.{compileRefusals}
@@ -23,7 +23,7 @@ alphabet-fault-requires : tie.Need-alphabet-fault-requires
 alphabet-fault-requires c κs = search needs
 
 returns : tie.Need-returns
-returns c = number (asked (c .before)) (refuses (alphabetRefusals _) _ (c .before .alphabet-fault .ensures) (c .if1 .taken))
+returns c = found-refusal (asked (c .before)) (refuses (alphabetRefusals _) _ (c .before .alphabet-fault .ensures) (c .if1 .taken))
 
 expression-fault-requires : tie.Need-expression-fault-requires
 expression-fault-requires c κs = search needs
@@ -31,7 +31,7 @@ expression-fault-requires c κs = search needs
 returns-2 : tie.Need-returns-2
 returns-2 c =
     let first = c .before .before in
-    number (asked (first .before))
+    found-refusal (asked (first .before))
     (passes (alphabetRefusals _) refl (first .before .alphabet-fault .ensures) (first .if1 .left)
     (refuses (expressionRefusals _ _) _ (c .before .expression-fault .ensures) (c .if2 .taken)))
 
@@ -47,11 +47,14 @@ states-after-requires c κs =
     let short = expression-passed _ _ (sym (second .before .expression-fault .ensures) ∙ second .if2 .left) .few in
     (record { constants = count; few = omega arith }, short)
 
+cast-if3 : tie.Need-cast-if3
+cast-if3 c = search needs
+
 returns-3 : tie.Need-returns-3
 returns-3 c =
     let second = c .before .before .before in
     let first = second .before .before in
-    number (asked (first .before))
+    found-refusal (asked (first .before))
     (passes (alphabetRefusals _) refl (first .before .alphabet-fault .ensures) (first .if1 .left)
     (passes (expressionRefusals _ _) refl (second .before .expression-fault .ensures) (second .if2 .left)
     (here (states-above _ _ _ (c .before .states-after .ensures .0) (c .if3 .taken)))))
@@ -73,7 +76,7 @@ returns-4 c =
     let states = c .before .before .before .before in
     let second = states .before .before .before in
     let first = second .before .before in
-    number (asked (first .before))
+    found-refusal (asked (first .before))
     (passes (alphabetRefusals _) refl (first .before .alphabet-fault .ensures) (first .if1 .left)
     (passes (expressionRefusals _ _) refl (second .before .expression-fault .ensures) (second .if2 .left)
     (next (states-within _ _ _ (states .before .states-after .ensures .0) (states .if3 .left))
@@ -84,7 +87,7 @@ returns-5 c =
     let states = c .before .before .before .before in
     let second = states .before .before .before in
     let first = second .before .before in
-    number (asked (first .before))
+    found-refusal (asked (first .before))
     (passes (alphabetRefusals _) refl (first .before .alphabet-fault .ensures) (first .if1 .left)
     (passes (expressionRefusals _ _) refl (second .before .expression-fault .ensures) (second .if2 .left)
     (next (states-within _ _ _ (states .before .states-after .ensures .0) (states .if3 .left))
@@ -100,6 +103,7 @@ compile-fault-spec =
     returns-2
     count-constants-requires
     states-after-requires
+    cast-if3
     returns-3
     slice-aggregate-write-table
     write-table-requires

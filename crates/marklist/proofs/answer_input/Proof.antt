@@ -38,34 +38,34 @@ slice-aggregate-read-words-4 c = search needs
 read-words-requires-4 : tie.Need-read-words-requires-4
 read-words-requires-4 c κs = tt
 
-kept-requires : tie.Need-kept-requires
-kept-requires c κs = tt
+kept-words-requires : tie.Need-kept-words-requires
+kept-words-requires c κs = tt
 
 array-share-prefix-alphabet : tie.Need-array-share-prefix-alphabet
-array-share-prefix-alphabet c = kept-fit _ (c .kept .ensures) (c .before .before .before .before .before .before .before .alphabet2 .given)
+array-share-prefix-alphabet c = kept-fit _ (c .kept-words .ensures) (c .before .before .before .before .before .before .before .alphabet2 .given)
 
 slice-aggregate-report : tie.Need-slice-aggregate-report
 slice-aggregate-report c =
-    kept-long _ _ (c .before .kept .ensures) (c .before .before .before .before .before .before .before .before .alphabet2 .given)
+    kept-long _ _ (c .before .kept-words .ensures) (c .before .before .before .before .before .before .before .before .alphabet2 .given)
 
-kept-requires-2 : tie.Need-kept-requires-2
-kept-requires-2 c κs = tt
+kept-words-requires-2 : tie.Need-kept-words-requires-2
+kept-words-requires-2 c κs = tt
 
 array-share-prefix-rule : tie.Need-array-share-prefix-rule
-array-share-prefix-rule c = kept-fit _ (c .kept2 .ensures) (c .before .before .before .before .before .before .rule2 .given)
+array-share-prefix-rule c = kept-fit _ (c .kept-words2 .ensures) (c .before .before .before .before .before .before .rule2 .given)
 
 slice-aggregate-report-2 : tie.Need-slice-aggregate-report-2
 slice-aggregate-report-2 c =
-    kept-long _ _ (c .before .kept2 .ensures) (c .before .before .before .before .before .before .before .rule2 .given)
+    kept-long _ _ (c .before .kept-words2 .ensures) (c .before .before .before .before .before .before .before .rule2 .given)
 
-kept-requires-3 : tie.Need-kept-requires-3
-kept-requires-3 c κs = tt
+kept-words-requires-3 : tie.Need-kept-words-requires-3
+kept-words-requires-3 c κs = tt
 
 array-share-prefix-chapter : tie.Need-array-share-prefix-chapter
-array-share-prefix-chapter c = kept-fit _ (c .kept3 .ensures) (c .before .before .before .before .before .chapter2 .given)
+array-share-prefix-chapter c = kept-fit _ (c .kept-words3 .ensures) (c .before .before .before .before .before .chapter2 .given)
 
 slice-aggregate-report-3 : tie.Need-slice-aggregate-report-3
-slice-aggregate-report-3 c = kept-long _ _ (c .before .kept3 .ensures) (c .before .before .before .before .before .before .chapter2 .given)
+slice-aggregate-report-3 c = kept-long _ _ (c .before .kept-words3 .ensures) (c .before .before .before .before .before .before .chapter2 .given)
 
 report-requires : tie.Need-report-requires
 report-requires c κs = search needs
@@ -84,7 +84,7 @@ returns c =
     let first = second .before .before .before in
     let call = c .before .before in
     answered (first .read-words .ensures) (second .read-words2 .ensures) (third .read-words3 .ensures) (fourth .read-words4 .ensures)
-    (alphabet .kept .ensures) (rule .kept2 .ensures) (chapter .kept3 .ensures) (call .report .ensures .0) (call .report .ensures .1)
+    (alphabet .kept-words .ensures) (rule .kept-words2 .ensures) (chapter .kept-words3 .ensures) (call .report .ensures .0) (call .report .ensures .1)
 
 pub answer-input-spec : {M : Type 1} → statement M
 answer-input-spec =
@@ -101,13 +101,13 @@ answer-input-spec =
     read-words-requires-3
     slice-aggregate-read-words-4
     read-words-requires-4
-    kept-requires
+    kept-words-requires
     array-share-prefix-alphabet
     slice-aggregate-report
-    kept-requires-2
+    kept-words-requires-2
     array-share-prefix-rule
     slice-aggregate-report-2
-    kept-requires-3
+    kept-words-requires-3
     array-share-prefix-chapter
     slice-aggregate-report-3
     report-requires

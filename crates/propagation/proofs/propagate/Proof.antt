@@ -44,7 +44,7 @@ same-length-2 c =
     .before .before .before .propagate-node .ensures .1 .represented .long
     ∙ sym (c .before .before .before .before .before .before .before .before .before .before .before .before .before .before .before .before
     .before .before .before .before .before .before .before .before .before .before .before .before .before .before .before .before .before
-    .before .before .before .before .before .before .before .before .before .pre .nodes .prepared .represented .long)
+    .before .before .before .before .before .before .before .before .before .pre .nodes .maintained .represented .long)
 
 same-length-3 : tie.Need-same-length-3 Inv-loop μ-loop
 same-length-3 c =
@@ -52,7 +52,7 @@ same-length-3 c =
     .before .before .before .propagate-node .ensures .1 .remembered .memo .keys-are
     ∙ sym (c .before .before .before .before .before .before .before .before .before .before .before .before .before .before .before .before
     .before .before .before .before .before .before .before .before .before .before .before .before .before .before .before .before .before
-    .before .before .before .before .before .before .before .before .before .pre .nodes .prepared .remembered .memo .keys-are)
+    .before .before .before .before .before .before .before .before .before .pre .nodes .maintained .remembered .memo .keys-are)
 
 same-length-4 : tie.Need-same-length-4 Inv-loop μ-loop
 same-length-4 c =
@@ -60,7 +60,7 @@ same-length-4 c =
     .before .before .before .propagate-node .ensures .1 .remembered .memo .nodes-are
     ∙ sym (c .before .before .before .before .before .before .before .before .before .before .before .before .before .before .before .before
     .before .before .before .before .before .before .before .before .before .before .before .before .before .before .before .before .before
-    .before .before .before .before .before .before .before .before .before .pre .nodes .prepared .remembered .memo .nodes-are)
+    .before .before .before .before .before .before .before .before .before .pre .nodes .maintained .remembered .memo .nodes-are)
 
 same-length-5 : tie.Need-same-length-5 Inv-loop μ-loop
 same-length-5 c =
@@ -68,7 +68,7 @@ same-length-5 c =
     .before .before .before .propagate-node .ensures .1 .remembered .places-are
     ∙ sym (c .before .before .before .before .before .before .before .before .before .before .before .before .before .before .before .before
     .before .before .before .before .before .before .before .before .before .before .before .before .before .before .before .before .before
-    .before .before .before .before .before .before .before .before .before .pre .nodes .prepared .remembered .places-are)
+    .before .before .before .before .before .before .before .before .before .pre .nodes .maintained .remembered .places-are)
 
 same-length-6 : tie.Need-same-length-6 Inv-loop μ-loop
 same-length-6 c =
@@ -76,7 +76,7 @@ same-length-6 c =
     .before .before .before .propagate-node .ensures .1 .remembered .closures .owners-are
     ∙ sym (c .before .before .before .before .before .before .before .before .before .before .before .before .before .before .before .before
     .before .before .before .before .before .before .before .before .before .before .before .before .before .before .before .before .before
-    .before .before .before .before .before .before .before .before .before .pre .nodes .prepared .remembered .closures .owners-are)
+    .before .before .before .before .before .before .before .before .before .pre .nodes .maintained .remembered .closures .owners-are)
 
 same-length-7 : tie.Need-same-length-7 Inv-loop μ-loop
 same-length-7 c =
@@ -84,7 +84,7 @@ same-length-7 c =
     .before .before .before .propagate-node .ensures .1 .remembered .closures .rows-are
     ∙ sym (c .before .before .before .before .before .before .before .before .before .before .before .before .before .before .before .before
     .before .before .before .before .before .before .before .before .before .before .before .before .before .before .before .before .before
-    .before .before .before .before .before .before .before .before .before .pre .nodes .prepared .remembered .closures .rows-are)
+    .before .before .before .before .before .before .before .before .before .pre .nodes .maintained .remembered .closures .rows-are)
 
 same-length-8 : tie.Need-same-length-8 Inv-loop μ-loop
 same-length-8 c =
@@ -92,7 +92,7 @@ same-length-8 c =
     .before .before .before .propagate-node .ensures .1 .remembered .pending-are
     ∙ sym (c .before .before .before .before .before .before .before .before .before .before .before .before .before .before .before .before
     .before .before .before .before .before .before .before .before .before .before .before .before .before .before .before .before .before
-    .before .before .before .before .before .before .before .before .before .pre .nodes .prepared .remembered .pending-are)
+    .before .before .before .before .before .before .before .before .before .pre .nodes .maintained .remembered .pending-are)
 
 returns : tie.Need-returns Inv-loop μ-loop
 returns c =
@@ -146,45 +146,45 @@ same-length-9 c = c .before .loop .inv .marks-long
 
 same-length-10 : tie.Need-same-length-10 Inv-loop μ-loop
 same-length-10 c =
-    c .before .loop .inv .prepared .represented .long
+    c .before .loop .inv .maintained .represented .long
     ∙ sym (c .before .before .before .before .before .before .before .before .before .before .before .before .before .before .pre .nodes
-    .prepared .represented .long)
+    .maintained .represented .long)
 
 same-length-11 : tie.Need-same-length-11 Inv-loop μ-loop
 same-length-11 c =
-    c .before .loop .inv .prepared .remembered .memo .keys-are
+    c .before .loop .inv .maintained .remembered .memo .keys-are
     ∙ sym (c .before .before .before .before .before .before .before .before .before .before .before .before .before .before .pre .nodes
-    .prepared .remembered .memo .keys-are)
+    .maintained .remembered .memo .keys-are)
 
 same-length-12 : tie.Need-same-length-12 Inv-loop μ-loop
 same-length-12 c =
-    c .before .loop .inv .prepared .remembered .memo .nodes-are
+    c .before .loop .inv .maintained .remembered .memo .nodes-are
     ∙ sym (c .before .before .before .before .before .before .before .before .before .before .before .before .before .before .pre .nodes
-    .prepared .remembered .memo .nodes-are)
+    .maintained .remembered .memo .nodes-are)
 
 same-length-13 : tie.Need-same-length-13 Inv-loop μ-loop
 same-length-13 c =
-    c .before .loop .inv .prepared .remembered .places-are
+    c .before .loop .inv .maintained .remembered .places-are
     ∙ sym (c .before .before .before .before .before .before .before .before .before .before .before .before .before .before .pre .nodes
-    .prepared .remembered .places-are)
+    .maintained .remembered .places-are)
 
 same-length-14 : tie.Need-same-length-14 Inv-loop μ-loop
 same-length-14 c =
-    c .before .loop .inv .prepared .remembered .closures .owners-are
+    c .before .loop .inv .maintained .remembered .closures .owners-are
     ∙ sym (c .before .before .before .before .before .before .before .before .before .before .before .before .before .before .pre .nodes
-    .prepared .remembered .closures .owners-are)
+    .maintained .remembered .closures .owners-are)
 
 same-length-15 : tie.Need-same-length-15 Inv-loop μ-loop
 same-length-15 c =
-    c .before .loop .inv .prepared .remembered .closures .rows-are
+    c .before .loop .inv .maintained .remembered .closures .rows-are
     ∙ sym (c .before .before .before .before .before .before .before .before .before .before .before .before .before .before .pre .nodes
-    .prepared .remembered .closures .rows-are)
+    .maintained .remembered .closures .rows-are)
 
 same-length-16 : tie.Need-same-length-16 Inv-loop μ-loop
 same-length-16 c =
-    c .before .loop .inv .prepared .remembered .pending-are
+    c .before .loop .inv .maintained .remembered .pending-are
     ∙ sym (c .before .before .before .before .before .before .before .before .before .before .before .before .before .before .pre .nodes
-    .prepared .remembered .pending-are)
+    .maintained .remembered .pending-are)
 
 returns-2 : tie.Need-returns-2 Inv-loop μ-loop
 returns-2 c =

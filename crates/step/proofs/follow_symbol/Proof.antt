@@ -18,11 +18,11 @@ abbrev μ-loop : tie.MeasureT-loop
 μ-loop table index symbol size marks children owners₀ rows₀ pending₀ set₀ i₀ owners rows pending set i = left table i
 
 mul-i : tie.Need-mul-i Inv-loop μ-loop
-mul-i c = omega (arith, c .before .before .before .before .before .before .before .before .pre .steppable .prepared .symbol-below)
+mul-i c = omega (arith, c .before .before .before .before .before .before .before .before .pre .steppable .node .symbol-below)
 
 shared-slice-read-i : tie.Need-shared-slice-read-i Inv-loop μ-loop
 shared-slice-read-i c =
-    let g = c .before .before .before .before .before .before .before .before .before .pre .steppable .prepared in
+    let g = c .before .before .before .before .before .before .before .before .before .pre .steppable .node in
     omega (arith, g .symbol-below, index-long (g .indexed))
 
 cast-i : tie.Need-cast-i Inv-loop μ-loop

@@ -29,7 +29,7 @@ returns c =
     let s = c .before .before .before .before .before .before .before .follow-symbol .ensures in (
       node-end
           (c .before .before .before .before .before .before .before .before .before .before .before .before .before .before .before .before
-          .before .before .before .before .pre .prepared)
+          .before .before .before .before .pre .node)
           (c .before .before .before .before .before .before .before .before .before .before .before .before .set-size .ensures) s,
       s .closures,
     )

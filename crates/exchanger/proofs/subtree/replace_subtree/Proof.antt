@@ -7,7 +7,7 @@ use native.Mathlib.Omega.{arith}
 use Rattle.words.specs.Answer.{accepted}
 use Rattle.operations.specs.Exchange.{newTree}
 use Rattle.exchanger.proofs.CallNumberLaws.{CallNumbers, call-numbers, accepted-call, length-used, chapter-movable, marks-movable}
-use Rattle.exchanger.proofs.ReplaceLaws.{chapter-exit, chapter-count, call-exchangeable, marks-exit}
+use Rattle.exchanger.proofs.ReplaceLaws.{chapter-exit, chapter-count, call-updatable, marks-exit}
 use borrow.Author.Needs.{needs}
 use Rattle.exchanger.proofs.subtree.replace_subtree.Statement.{statement}
 use Rattle.exchanger.proofs.subtree.replace_subtree.Tie as tie
@@ -90,8 +90,8 @@ move-tail-requires-2 c κs =
     let p = placed (moved (c .before .before .before)) in
     marks-movable _ _ _ _ _ _ _ (start (sized p) .pre) _ (p .subtree-start .ensures) _ (sized p .set-size .ensures)
 
-slice-reshare-prefix-recompute-nodes : tie.Need-slice-reshare-prefix-recompute-nodes
-slice-reshare-prefix-recompute-nodes c =
+slice-reshare-prefix-update-marks : tie.Need-slice-reshare-prefix-update-marks
+slice-reshare-prefix-update-marks c =
     let f = filled (c .before .before) in
     let t = moved f in
     let n = facts (placed t) in
@@ -99,21 +99,21 @@ slice-reshare-prefix-recompute-nodes c =
     let k₂ = f .copy-words .kept .0 in
     omega arith
 
-slice-aggregate-recompute-nodes : tie.Need-slice-aggregate-recompute-nodes
-slice-aggregate-recompute-nodes c =
+slice-aggregate-update-marks : tie.Need-slice-aggregate-update-marks
+slice-aggregate-update-marks c =
     let f = filled (c .before .before .before) in
     let t = moved f in
     let p = placed t in
     chapter-count _ _ _ _ _ _ _ (start (sized p) .pre) _ (p .subtree-start .ensures) _ (sized p .set-size .ensures)
     _ _ (t .move-tail .ensures) (f .copy-words .ensures)
 
-recompute-nodes-requires : tie.Need-recompute-nodes-requires
-recompute-nodes-requires c κs =
+update-marks-requires : tie.Need-update-marks-requires
+update-marks-requires c κs =
     let w = c .before .before .before .before in
     let f = filled w in
     let t = moved f in
     let p = placed t in
-    call-exchangeable _ _ _ _ _ _ _ (start (sized p) .pre) _ (p .subtree-start .ensures) _ (sized p .set-size .ensures)
+    call-updatable _ _ _ _ _ _ _ (start (sized p) .pre) _ (p .subtree-start .ensures) _ (sized p .set-size .ensures)
     _ _ (t .move-tail .ensures) (f .copy-words .ensures) _ (w .move-tail2 .ensures) (w .move-tail2 .kept .0)
 
 same-length : tie.Need-same-length
@@ -138,7 +138,7 @@ returns c =
     marks-exit (q .alphabet .now) (q .table .now) (q .chapter .now) (q .marks .now) (q .count) (q .element)
     (q .replacement .now) pre _ qs _ qz
     _ _ (t .move-tail .ensures) (f .copy-words .ensures) _ (w .move-tail2 .ensures) (w .move-tail2 .kept .0) _ _
-    (k .recompute-nodes .ensures) in (
+    (k .update-marks .ensures) in (
       ap₂ (λ (i j : ℕ). accepted (i ∷ j ∷ [])) (facts p .total) (left .count-is),
       (
         chapter-exit _ _ _ _ _ _ _ pre _ qs _ qz _ _ (t .move-tail .ensures) (f .copy-words .ensures),
@@ -166,9 +166,9 @@ replace-subtree-spec =
     mul-move-tail-2
     mul-move-tail-3
     move-tail-requires-2
-    slice-reshare-prefix-recompute-nodes
-    slice-aggregate-recompute-nodes
-    recompute-nodes-requires
+    slice-reshare-prefix-update-marks
+    slice-aggregate-update-marks
+    update-marks-requires
     same-length
     same-length-2
     returns)

@@ -1,18 +1,18 @@
 -- `matcher::tree::run_accepted` meets its contract: the nodes marked one after the other leave the state sets of the tree.
 use mathlib.Core.Path.{sym}
 use native.Mathlib.Omega.{arith}
-use Rattle.matcher.proofs.RunCallLaws.{workable, run-left, run-fits, run-few, run-part, run-cells}
+use Rattle.matcher.proofs.RunCallLaws.{workable, tree-updatable, run-left, run-fits, run-few, run-part, run-cells}
 use borrow.Author.Needs.{needs}
 use Rattle.matcher.proofs.tree.run_accepted.Statement.{statement}
 use Rattle.matcher.proofs.tree.run_accepted.Tie as tie
 
-abbrev start : tie.After-mark-tree → tie.Start
+abbrev start : tie.After-update-marks → tie.Start
 start n = n .before .before .before .before .before .before
 
-mark-tree-requires : tie.Need-mark-tree-requires
-mark-tree-requires c κs =
+update-marks-requires : tie.Need-update-marks-requires
+update-marks-requires c κs =
     let s = c .before .before .before .before .before in
-    workable _ _ _ (s .args .marks .now) (s .pre)
+    tree-updatable (workable _ _ _ (s .args .marks .now) (s .pre))
 
 set-size-requires : tie.Need-set-size-requires
 set-size-requires c κs = search needs
@@ -20,24 +20,24 @@ set-size-requires c κs = search needs
 mul-count-cells : tie.Need-mul-count-cells
 mul-count-cells c =
     let n = c .before .before .before in
-    let few = run-few _ _ _ _ (start n .pre) _ (n .mark-tree .ensures) _ (c .set-size .ensures) in
+    let few = run-few _ _ _ _ (start n .pre) _ _ (n .update-marks .ensures) _ (c .set-size .ensures) in
     omega arith
 
 slice-reshare-prefix-count-cells : tie.Need-slice-reshare-prefix-count-cells
 slice-reshare-prefix-count-cells c =
     let n = c .before .before .before in
-    run-fits _ _ _ _ (start n .pre) _ (n .mark-tree .ensures) _ (c .set-size .ensures)
+    run-fits _ _ _ _ (start n .pre) _ _ (n .update-marks .ensures) _ (c .set-size .ensures)
 
 slice-aggregate-count-cells : tie.Need-slice-aggregate-count-cells
 slice-aggregate-count-cells c =
     let n = c .before .before .before .before in
-    sym (run-part _ _ _ _ (start n .pre) _ (n .mark-tree .ensures) _ (c .before .set-size .ensures))
+    sym (run-part _ _ _ _ (start n .pre) _ _ (n .update-marks .ensures) _ (c .before .set-size .ensures))
 
 count-cells-requires : tie.Need-count-cells-requires
 count-cells-requires c κs =
     let n = c .before .before .before .before in
-    rw (run-part _ _ _ _ (start n .pre) _ (n .mark-tree .ensures) _ (c .before .set-size .ensures))
-    (run-few _ _ _ _ (start n .pre) _ (n .mark-tree .ensures) _ (c .before .set-size .ensures))
+    rw (run-part _ _ _ _ (start n .pre) _ _ (n .update-marks .ensures) _ (c .before .set-size .ensures))
+    (run-few _ _ _ _ (start n .pre) _ _ (n .update-marks .ensures) _ (c .before .set-size .ensures))
 
 same-length : tie.Need-same-length
 same-length c = search needs
@@ -45,15 +45,15 @@ same-length c = search needs
 returns : tie.Need-returns
 returns c =
     let n = c .before .before .before .before .before in (
-      run-cells _ _ _ _ (start n .pre) _ (n .mark-tree .ensures) _ (c .before .before .set-size .ensures) _ (c .count-cells .ensures),
-      run-left _ _ _ _ (start n .pre) _ (n .mark-tree .ensures),
+      run-cells _ _ _ _ (start n .pre) _ _ (n .update-marks .ensures) _ (c .before .before .set-size .ensures) _ (c .count-cells .ensures),
+      run-left _ _ _ _ (start n .pre) _ _ (n .update-marks .ensures),
     )
 
 pub run-accepted-spec : {M : Type 1} → statement M
 run-accepted-spec =
     tie.close
     (tie.spec
-    mark-tree-requires
+    update-marks-requires
     set-size-requires
     mul-count-cells
     slice-reshare-prefix-count-cells

@@ -8,7 +8,7 @@ use borrow.Author.Needs.{needs}
 use borrow.Author.Tests.{lt-ltb, le-ltb}
 use Rattle.words.specs.Refusal.{Refusals}
 use Rattle.words.specs.Postfix.{arity}
-use Rattle.words.proofs.RefusalLaws.{none, here, next, number}
+use Rattle.words.proofs.RefusalLaws.{none, here, next, found-refusal}
 use Rattle.words.proofs.PostfixLaws.{start-le}
 use Rattle.operations.specs.Exchange.{noElement, changeRefusals}
 use Rattle.operations.proofs.AcceptedLaws.{replacement-right}
@@ -25,7 +25,7 @@ asked s =
 
 returns : tie.Need-returns
 unfolding noElement
-returns c = number (asked (c .before .before .before .before .before)) (here (ap not (le-ltb _ _ (c .if1 .taken))))
+returns c = found-refusal (asked (c .before .before .before .before .before)) (here (ap not (le-ltb _ _ (c .if1 .taken))))
 
 no-replacement-requires : tie.Need-no-replacement-requires
 no-replacement-requires c κs = search needs
@@ -33,7 +33,7 @@ no-replacement-requires c κs = search needs
 returns-2 : tie.Need-returns-2
 unfolding noElement
 returns-2 c =
-    number (asked (c .before .before .before .before .before .before .before))
+    found-refusal (asked (c .before .before .before .before .before .before .before))
     (next (ap not (lt-ltb _ _ (c .before .before .if1 .left)))
     (here (sym (c .before .no-replacement .ensures) ∙ c .if2 .taken)))
 
@@ -69,7 +69,7 @@ returns-3 c =
     let c₂ = c .before .before .before in
     let c₁ = c₂ .before .before in
     let length-is = result-length _ _ _ _ _ (c₁ .if1 .left) (c .before .before .subtree-start .ensures) in
-    number (asked (c₁ .before .before .before .before .before))
+    found-refusal (asked (c₁ .before .before .before .before .before))
     (next (ap not (lt-ltb _ _ (c₁ .if1 .left)))
     (next (sym (c₂ .before .no-replacement .ensures) ∙ c₂ .if2 .left)
     (here (judged-length _ _ _ length-is (c .before .result-too-long .ensures) ∙ c .if3 .taken))))
@@ -80,7 +80,7 @@ returns-4 c =
     let c₂ = c .before .before .before in
     let c₁ = c₂ .before .before in
     let length-is = result-length _ _ _ _ _ (c₁ .if1 .left) (c .before .before .subtree-start .ensures) in
-    number (asked (c₁ .before .before .before .before .before))
+    found-refusal (asked (c₁ .before .before .before .before .before))
     (next (ap not (lt-ltb _ _ (c₁ .if1 .left)))
     (next (sym (c₂ .before .no-replacement .ensures) ∙ c₂ .if2 .left)
     (next (judged-length _ _ _ length-is (c .before .result-too-long .ensures) ∙ c .if3 .left) none)))

@@ -6,7 +6,7 @@ use lib.ListN.{length, take}
 use lib.Seq.{length-take-le}
 use borrow.Author.Needs.{needs}
 use Rattle.words.specs.Refusal.{Refusals}
-use Rattle.words.proofs.RefusalLaws.{here, next, number, found, refuses, passes}
+use Rattle.words.proofs.RefusalLaws.{here, next, found-refusal, refusal-found, refuses, passes}
 use Rattle.operations.specs.Run.{tableRefusals, markedRefusals}
 use Rattle.operations.specs.Exchange.{changeRefusals, exchangeRefusals}
 use Rattle.operations.proofs.AcceptedLaws.{used-count-right}
@@ -40,7 +40,7 @@ table-fault-requires : tie.Need-table-fault-requires
 table-fault-requires c κs = search needs
 
 returns : tie.Need-returns
-returns c = number (asked (c .before)) (refuses (tableRefusals _ _) _ (c .before .table-fault .ensures) (c .if1 .taken))
+returns c = found-refusal (asked (c .before)) (refuses (tableRefusals _ _) _ (c .before .table-fault .ensures) (c .if1 .taken))
 
 wrong-used-count-requires : tie.Need-wrong-used-count-requires
 wrong-used-count-requires c κs = search needs
@@ -48,7 +48,7 @@ wrong-used-count-requires c κs = search needs
 returns-2 : tie.Need-returns-2
 returns-2 c =
     let first = c .before .before in
-    number (asked (first .before))
+    found-refusal (asked (first .before))
     (passes (tableRefusals _ _) refl (first .before .table-fault .ensures) (first .if1 .left)
     (here (sym (c .before .wrong-used-count .ensures) ∙ c .if2 .taken)))
 
@@ -68,7 +68,7 @@ returns-3 c =
     let count = c .before .before .before in
     let first = count .before .before in
     let right = sym (count .before .wrong-used-count .ensures) ∙ count .if2 .left in
-    number (asked (first .before))
+    found-refusal (asked (first .before))
     (passes (tableRefusals _ _) refl (first .before .table-fault .ensures) (first .if1 .left)
     (next right
     (refuses (markedRefusals _ _ _ _ _) _
@@ -93,13 +93,13 @@ returns-4 c =
     let first = count .before .before in
     let right = sym (count .before .wrong-used-count .ensures) ∙ count .if2 .left in
     let within = used-count-right _ _ right .within in
-    number (asked (first .before))
+    found-refusal (asked (first .before))
     (passes (tableRefusals _ _) refl (first .before .table-fault .ensures) (first .if1 .left)
     (next right
     (passes (markedRefusals _ _ _ _ _) refl
     (used-count _ _ within (marked (first .before)) (shape .before .marked-fault .ensures))
     (shape .if3 .left)
-    (found (changeRefusals _ _ _ _ _ _ _ _)
+    (refusal-found (changeRefusals _ _ _ _ _ _ _ _)
     (used-count _ _ within (change (first .before)) (c .change-fault .ensures))))))
 
 pub exchange-fault-spec : {M : Type 1} → statement M

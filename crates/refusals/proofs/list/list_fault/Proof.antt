@@ -3,7 +3,7 @@ use mathlib.Core.Path.{refl, sym, _∙_}
 use borrow.Author.Needs.{needs}
 use borrow.Author.Tests.{lt-ltb, le-ltb}
 use Rattle.words.specs.Refusal.{Refusals}
-use Rattle.words.proofs.RefusalLaws.{none, here, next, number, refuses, passes}
+use Rattle.words.proofs.RefusalLaws.{none, here, next, found-refusal, refuses, passes}
 use Rattle.operations.specs.Run.{tableRefusals}
 use Rattle.operations.specs.Listing.{listTooShort, listRefusals}
 use Rattle.operations.proofs.AcceptedLaws.{count-right}
@@ -20,7 +20,7 @@ table-fault-requires : tie.Need-table-fault-requires
 table-fault-requires c κs = search needs
 
 returns : tie.Need-returns
-returns c = number (asked (c .before)) (refuses (tableRefusals _ _) _ (c .before .table-fault .ensures) (c .if1 .taken))
+returns c = found-refusal (asked (c .before)) (refuses (tableRefusals _ _) _ (c .before .table-fault .ensures) (c .if1 .taken))
 
 wrong-count-requires : tie.Need-wrong-count-requires
 wrong-count-requires c κs = search needs
@@ -28,7 +28,7 @@ wrong-count-requires c κs = search needs
 returns-2 : tie.Need-returns-2
 returns-2 c =
     let first = c .before .before in
-    number (asked (first .before))
+    found-refusal (asked (first .before))
     (passes (tableRefusals _ _) refl (first .before .table-fault .ensures) (first .if1 .left)
     (here (sym (c .before .wrong-count .ensures) ∙ c .if2 .taken)))
 
@@ -39,7 +39,7 @@ returns-3 : tie.Need-returns-3
 returns-3 c =
     let count = c .before .before in
     let first = count .before .before in
-    number (asked (first .before))
+    found-refusal (asked (first .before))
     (passes (tableRefusals _ _) refl (first .before .table-fault .ensures) (first .if1 .left)
     (next (sym (count .before .wrong-count .ensures) ∙ count .if2 .left)
     (here (sym (c .before .marks-too-short .ensures) ∙ c .if3 .taken))))
@@ -50,7 +50,7 @@ returns-4 c =
     let marks = c .before in
     let count = marks .before .before in
     let first = count .before .before in
-    number (asked (first .before))
+    found-refusal (asked (first .before))
     (passes (tableRefusals _ _) refl (first .before .table-fault .ensures) (first .if1 .left)
     (next (sym (count .before .wrong-count .ensures) ∙ count .if2 .left)
     (next (sym (marks .before .marks-too-short .ensures) ∙ marks .if3 .left)
@@ -62,7 +62,7 @@ returns-5 c =
     let marks = c .before in
     let count = marks .before .before in
     let first = count .before .before in
-    number (asked (first .before))
+    found-refusal (asked (first .before))
     (passes (tableRefusals _ _) refl (first .before .table-fault .ensures) (first .if1 .left)
     (next (sym (count .before .wrong-count .ensures) ∙ count .if2 .left)
     (next (sym (marks .before .marks-too-short .ensures) ∙ marks .if3 .left)

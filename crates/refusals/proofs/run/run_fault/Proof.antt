@@ -2,7 +2,7 @@
 use mathlib.Core.Path.{refl, sym, _∙_}
 use borrow.Author.Needs.{needs}
 use Rattle.words.specs.Refusal.{Refusals}
-use Rattle.words.proofs.RefusalLaws.{here, next, number, found, refuses, passes}
+use Rattle.words.proofs.RefusalLaws.{here, next, found-refusal, refusal-found, refuses, passes}
 use Rattle.operations.specs.Run.{tableRefusals, markedRefusals, runRefusals}
 use Rattle.operations.proofs.AcceptedLaws.{count-right}
 use Rattle.refusals.proofs.run.run_fault.Statement.{statement}
@@ -18,7 +18,7 @@ table-fault-requires : tie.Need-table-fault-requires
 table-fault-requires c κs = search needs
 
 returns : tie.Need-returns
-returns c = number (asked (c .before)) (refuses (tableRefusals _ _) _ (c .before .table-fault .ensures) (c .if1 .taken))
+returns c = found-refusal (asked (c .before)) (refuses (tableRefusals _ _) _ (c .before .table-fault .ensures) (c .if1 .taken))
 
 wrong-count-requires : tie.Need-wrong-count-requires
 wrong-count-requires c κs = search needs
@@ -26,7 +26,7 @@ wrong-count-requires c κs = search needs
 returns-2 : tie.Need-returns-2
 returns-2 c =
     let first = c .before .before in
-    number (asked (first .before))
+    found-refusal (asked (first .before))
     (passes (tableRefusals _ _) refl (first .before .table-fault .ensures) (first .if1 .left)
     (here (sym (c .before .wrong-count .ensures) ∙ c .if2 .taken)))
 
@@ -37,10 +37,10 @@ returns-3 : tie.Need-returns-3
 returns-3 c =
     let count = c .before in
     let first = count .before .before in
-    number (asked (first .before))
+    found-refusal (asked (first .before))
     (passes (tableRefusals _ _) refl (first .before .table-fault .ensures) (first .if1 .left)
     (next (sym (count .before .wrong-count .ensures) ∙ count .if2 .left)
-    (found (markedRefusals _ _ _ _ _) (c .marked-fault .ensures))))
+    (refusal-found (markedRefusals _ _ _ _ _) (c .marked-fault .ensures))))
 
 pub run-fault-spec : {M : Type 1} → statement M
 run-fault-spec =

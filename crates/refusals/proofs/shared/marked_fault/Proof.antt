@@ -4,7 +4,7 @@ use lib.ListN.{length}
 use borrow.Author.Needs.{needs}
 use Rattle.words.specs.Refusal.{Refusals}
 use Rattle.words.specs.Chapter.{treeRefusals}
-use Rattle.words.proofs.RefusalLaws.{none, here, next, number, refuses, passes}
+use Rattle.words.proofs.RefusalLaws.{none, here, next, found-refusal, refuses, passes}
 use Rattle.operations.specs.Run.{markedRefusals}
 use Rattle.refusals.proofs.shared.marked_fault.Statement.{statement}
 use Rattle.refusals.proofs.shared.marked_fault.Tie as tie
@@ -19,7 +19,7 @@ tree-fault-requires : tie.Need-tree-fault-requires
 tree-fault-requires c κs = search needs
 
 returns : tie.Need-returns
-returns c = number (asked (c .before)) (refuses (treeRefusals _ _) _ (c .before .tree-fault .ensures) (c .if1 .taken))
+returns c = found-refusal (asked (c .before)) (refuses (treeRefusals _ _) _ (c .before .tree-fault .ensures) (c .if1 .taken))
 
 marks-too-short-requires : tie.Need-marks-too-short-requires
 marks-too-short-requires c κs = search needs
@@ -27,14 +27,14 @@ marks-too-short-requires c κs = search needs
 returns-2 : tie.Need-returns-2
 returns-2 c =
     let shape = c .before .before in
-    number (asked (shape .before))
+    found-refusal (asked (shape .before))
     (passes (treeRefusals _ _) refl (shape .before .tree-fault .ensures) (shape .if1 .left)
     (here (sym (c .before .marks-too-short .ensures) ∙ c .if2 .taken)))
 
 returns-3 : tie.Need-returns-3
 returns-3 c =
     let shape = c .before .before in
-    number (asked (shape .before))
+    found-refusal (asked (shape .before))
     (passes (treeRefusals _ _) refl (shape .before .tree-fault .ensures) (shape .if1 .left)
     (next (sym (c .before .marks-too-short .ensures) ∙ c .if2 .left) none))
 

@@ -4,7 +4,7 @@ use mathlib.Core.Bool.{not}
 use borrow.Author.Needs.{needs}
 use Rattle.words.specs.Refusal.{Refusals}
 use Rattle.words.specs.Alphabet.{alphabetRefusals}
-use Rattle.words.proofs.RefusalLaws.{none, here, next, number, refuses, passes}
+use Rattle.words.proofs.RefusalLaws.{none, here, next, found-refusal, refuses, passes}
 use Rattle.automaton.specs.Table.{noTable}
 use Rattle.operations.specs.Run.{tableRefusals}
 use Rattle.refusals.proofs.shared.table_fault.Statement.{statement}
@@ -18,7 +18,7 @@ alphabet-fault-requires : tie.Need-alphabet-fault-requires
 alphabet-fault-requires c κs = search needs
 
 returns : tie.Need-returns
-returns c = number (asked (c .before)) (refuses (alphabetRefusals _) _ (c .before .alphabet-fault .ensures) (c .if1 .taken))
+returns c = found-refusal (asked (c .before)) (refuses (alphabetRefusals _) _ (c .before .alphabet-fault .ensures) (c .if1 .taken))
 
 is-table-requires : tie.Need-is-table-requires
 is-table-requires c κs = search needs
@@ -27,7 +27,7 @@ returns-2 : tie.Need-returns-2
 unfolding noTable
 returns-2 c =
     let first = c .before .before in
-    number (asked (first .before))
+    found-refusal (asked (first .before))
     (passes (alphabetRefusals _) refl (first .before .alphabet-fault .ensures) (first .if1 .left)
     (here (ap not (sym (c .before .is-table .ensures)) ∙ c .if2 .taken)))
 
@@ -35,7 +35,7 @@ returns-3 : tie.Need-returns-3
 unfolding noTable
 returns-3 c =
     let first = c .before .before in
-    number (asked (first .before))
+    found-refusal (asked (first .before))
     (passes (alphabetRefusals _) refl (first .before .alphabet-fault .ensures) (first .if1 .left)
     (next (ap not (sym (c .before .is-table .ensures)) ∙ c .if2 .left) none))
 

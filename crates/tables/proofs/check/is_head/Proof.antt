@@ -29,6 +29,9 @@ enum-told c = search needs
 spare-bits-clear-requires : tie.Need-spare-bits-clear-requires
 spare-bits-clear-requires c κs = search needs
 
+cast-if3 : tie.Need-cast-if3
+cast-if3 c = search needs
+
 abbrev Before : Type 0
 Before =
     lts.Joined2 (kind-of-reads.Asked, kind-of-reads.Learnt, spare-bits-clear-reads.Asked, spare-bits-clear-reads.Learnt) reads.Pre
@@ -62,4 +65,4 @@ returns-3 c = rw (left-isOf _ (c .before .kind-of .result) (c .before .kind-of .
 pub is-head-spec : {M : Type 1} → statement M
 is-head-spec =
     tie.close
-    (tie.spec kind-of-requires enum-told spare-bits-clear-requires returns returns-2 returns-3)
+    (tie.spec kind-of-requires enum-told spare-bits-clear-requires cast-if3 returns returns-2 returns-3)

@@ -19,6 +19,9 @@ enum-told c = search needs
 spare-bits-clear-requires : tie.Need-spare-bits-clear-requires
 spare-bits-clear-requires c κs = search needs
 
+cast-result : tie.Need-cast-result
+cast-result c = search needs
+
 returns : tie.Need-returns
 unfolding isEntry
 returns c =
@@ -40,4 +43,4 @@ returns-3 c = rw (left-isOf _ (c .before .kind-of .result) (c .before .kind-of .
 pub is-entry-spec : {M : Type 1} → statement M
 is-entry-spec =
     tie.close
-    (tie.spec kind-of-requires enum-told spare-bits-clear-requires returns returns-2 returns-3)
+    (tie.spec kind-of-requires enum-told spare-bits-clear-requires cast-result returns returns-2 returns-3)

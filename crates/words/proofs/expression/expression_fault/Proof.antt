@@ -3,7 +3,7 @@ use mathlib.Core.Path.{sym}
 use borrow.Author.Needs.{needs}
 use borrow.Author.Tests.{eq-eqb, ne-eqb, lt-ltb, le-ltb}
 use Rattle.words.specs.Postfix.{notOneTree}
-use Rattle.words.specs.Expression.{wrongLength, notExpressionWords}
+use Rattle.words.specs.ExpressionWords.{wrongLength, notExpressionWords}
 use Rattle.words.proofs.expression.expression_fault.Statement.{statement}
 use Rattle.words.proofs.expression.expression_fault.Tie as tie
 

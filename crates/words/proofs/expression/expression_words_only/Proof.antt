@@ -6,7 +6,7 @@ use lib.ListN.{length, drop}
 use borrow.Author.Needs.{needs}
 use borrow.Author.Tests.{not-true, not-false}
 use Rattle.words.specs.Lists.{all}
-use Rattle.words.specs.Expression.{isExpressionWord}
+use Rattle.words.specs.ExpressionWords.{isExpressionWord}
 use Rattle.words.proofs.ScanLaws.{all-fails, all-continues, all-end}
 use Rattle.words.proofs.expression.expression_words_only.Statement.{statement}
 use Rattle.words.proofs.expression.expression_words_only.Tie as tie

@@ -10,7 +10,7 @@ use Rattle.words.specs.Word.{Kind, kindOf, spareBitsClear, lowByte}
 use Rattle.words.specs.Decoded.{kindIn}
 use Rattle.words.specs.declared.word.Kind.{Kind as Case}
 use Rattle.words.specs.declared.word.Kind.the-variants.{Symbol, Empty, Union, Product, Closure}
-use Rattle.words.specs.Expression.{namesAt, isExpressionWord}
+use Rattle.words.specs.ExpressionWords.{namesAt, isExpressionWord}
 use Rattle.words.proofs.TestLaws.{and-none}
 use Rattle.words.proofs.DecodedLaws.{Left, left-all, told-kind}
 use Rattle.words.proofs.expression.is_expression_word.Statement.{statement}

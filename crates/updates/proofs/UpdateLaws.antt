@@ -1,33 +1,37 @@
--- Laws of the steps that recompute nodes behind an exchange: what each step asks, shown of what the first one asks, and what
--- they give together.
+-- Laws of the steps that bring marks up to date: what each step asks, shown of what the first one asks, and what they give
+-- together.
 use mathlib.Core.Path.{_≡_, refl, ap, _∙_}
 use mathlib.Core.List.{List, reverse}
-use Prim.Native.Nat.{ℕ, _-_, _≤_}
+use Prim.Native.Nat.{ℕ, _-_, _*_, _≤_}
 use native.Mathlib.Omega.{arith}
 use lib.ListN.{length, replicate, length-replicate}
-use Rattle.index.specs.Index.{indexOf, Indexable}
-use Rattle.nodes.specs.Nodes.{rootsOf, Held, Stackable, markedFrom}
+use Rattle.words.specs.Limits.{statesMost}
+use Rattle.sets.specs.Size.{setMost}
+use Rattle.index.specs.Index.{indexLength, indexOf, Indexable}
+use Rattle.closures.specs.Closure.{rowsMost}
+use Rattle.memo.specs.Memo.{placesMost, slotsMost}
+use Rattle.nodes.specs.Nodes.{rootsOf, stackLength, Held, Stackable, markedFrom}
 use Rattle.nodes.specs.Marking.{Maintained, NodesMarkable}
 use Rattle.nodes.proofs.WorkableLaws.{table-few, workable-long}
-use Rattle.nodes.proofs.NodesLaws.{nothing-prepared}
+use Rattle.nodes.proofs.NodesLaws.{nothing-maintained}
 use Rattle.propagation.specs.Propagation.{propagateFrom, initial, PropagationStartable}
-use Rattle.exchanger.specs.Exchanging.{exchangedFrom, Exchangeable}
+use Rattle.updates.specs.Updating.{updatedFrom, Updatable}
 
-module _ {a table ch : List ℕ} {start root : ℕ} {marks : List ℕ} (g : Exchangeable a table ch start root marks) where
-  pub nodes-index : Indexable table (replicate 3328 0)
+module _ {a table ch : List ℕ} {start root : ℕ} {marks : List ℕ} (g : Updatable a table ch start root marks) where
+  pub nodes-index : Indexable table (replicate indexLength 0)
   nodes-index = record { few = table-few (g .workable); zeros = refl }
 
-  pub nodes-stack : Stackable a ch start (replicate 4100 0)
+  pub nodes-stack : Stackable a ch start (replicate stackLength 0)
   nodes-stack =
       let order = g .order in
       let inside = g .inside in
-      record { tree = g .workable .tree; within = omega arith; long = length-replicate {A = ℕ} 4100 0; zeros = refl }
+      record { tree = g .workable .tree; within = omega arith; long = length-replicate {A = ℕ} stackLength 0; zeros = refl }
 
   pub nodes-marks : {index : List ℕ} → index ≡ indexOf table → {array : List ℕ} {height : ℕ}
-      → length array ≡ length (replicate {A = ℕ} 4100 0)
+      → length array ≡ length (replicate {A = ℕ} stackLength 0)
       → Held array height (reverse (rootsOf a ch start))
-      → NodesMarkable a table index ch start root marks array height (replicate 1024 0) (replicate 1024 0) (replicate 1021 0)
-      (replicate 64 0) (replicate 2048 0) (replicate 1024 0)
+      → NodesMarkable a table index ch start root marks array height (replicate slotsMost 0) (replicate slotsMost 0)
+      (replicate placesMost 0) (replicate rowsMost 0) (replicate (rowsMost * setMost) 0) (replicate statesMost 0)
   nodes-marks q l s =
       let order = g .order in
       let inside = g .inside in
@@ -36,7 +40,7 @@ module _ {a table ch : List ℕ} {start root : ℕ} {marks : List ℕ} (g : Exch
         indexed = q;
         order = order;
         inside = omega arith;
-        prepared = nothing-prepared (l ∙ length-replicate {A = ℕ} 4100 0) (omega arith) s;
+        maintained = nothing-maintained (l ∙ length-replicate {A = ℕ} stackLength 0) (omega arith) s;
       }
 
   pub nodes-propagate : {index : List ℕ} → index ≡ indexOf table
@@ -52,14 +56,14 @@ module _ {a table ch : List ℕ} {start root : ℕ} {marks : List ℕ} (g : Exch
           indexed = q;
           order = omega arith;
           inside = omega arith;
-          prepared = p;
+          maintained = p;
         };
         few = omega arith;
       }
 
-pub nodes-exchanged : (a table ch : List ℕ) (start root : ℕ) (marks work : List ℕ) → work ≡ markedFrom a table ch start (root - start) marks
+pub nodes-updated : (a table ch : List ℕ) (start root : ℕ) (marks work : List ℕ) → work ≡ markedFrom a table ch start (root - start) marks
     → (r : List ℕ × ℕ) → r ≡ propagateFrom a table ch root (length ch - root) work (initial (root - start))
-    → r ≡ exchangedFrom a table ch start root marks
-unfolding exchangedFrom
-nodes-exchanged a table ch start root marks work w r p =
+    → r ≡ updatedFrom a table ch start root marks
+unfolding updatedFrom
+nodes-updated a table ch start root marks work w r p =
     p ∙ ap (λ (m : List ℕ). propagateFrom a table ch root (length ch - root) m (initial (root - start))) w

@@ -1,10 +1,10 @@
--- `exchanger::subtree::recompute_nodes` meets its contract: the index of the table, the stack of the nodes before the replacement, the
+-- `updates::update_marks` meets its contract: the index of the table, the stack of the nodes before the replacement, the
 -- replacement's nodes up to its root, and the loop over the root and the ancestors.
 use native.Mathlib.Omega.{arith}
-use Rattle.exchanger.proofs.RecomputedNodesLaws.{nodes-index, nodes-stack, nodes-marks, nodes-propagate, nodes-exchanged}
+use Rattle.updates.proofs.UpdateLaws.{nodes-index, nodes-stack, nodes-marks, nodes-propagate, nodes-updated}
 use borrow.Author.Needs.{needs}
-use Rattle.exchanger.proofs.subtree.recompute_nodes.Statement.{statement}
-use Rattle.exchanger.proofs.subtree.recompute_nodes.Tie as tie
+use Rattle.updates.proofs.update_marks.Statement.{statement}
+use Rattle.updates.proofs.update_marks.Tie as tie
 
 slice-aggregate-write-index : tie.Need-slice-aggregate-write-index
 slice-aggregate-write-index c = search needs
@@ -98,13 +98,13 @@ same-length c = search needs
 
 returns : tie.Need-returns
 returns c =
-    nodes-exchanged _ _ _ _ _ _ _
+    nodes-updated _ _ _ _ _ _ _
     (c .before .before .before .before .before .before .before .before .before .before .before .before .before .before .before .before
     .before .before .before .before .before .before .before .before .before .before .before .before .mark-nodes .ensures .0) _
     (c .before .before .before .before .before .before .before .before .before .propagate .ensures)
 
-pub recompute-nodes-spec : {M : Type 1} → statement M
-recompute-nodes-spec =
+pub update-marks-spec : {M : Type 1} → statement M
+update-marks-spec =
     tie.close
     (tie.spec
     slice-aggregate-write-index

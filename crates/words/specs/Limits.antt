@@ -1,0 +1,28 @@
+-- The limits (document 01, "Words").
+use Prim.Native.Nat.{ℕ}
+
+-- "An alphabet has 1 to 64 words and 1 to 16 constants"
+abbrev pub alphabetMost : ℕ
+alphabetMost = 64
+
+abbrev pub constantsMost : ℕ
+constantsMost = 16
+
+-- "rank, 0 to 4"
+abbrev pub rankMost : ℕ
+rankMost = 4
+
+-- "a rule 1 to 64 words"
+abbrev pub expressionMost : ℕ
+expressionMost = 64
+
+-- "a table at most 1,024 states and 2,048 words"
+abbrev pub statesMost : ℕ
+statesMost = 1024
+
+abbrev pub tableMost : ℕ
+tableMost = 2048
+
+-- "a chapter 1 to 4,096 elements"
+abbrev pub nodesMost : ℕ
+nodesMost = 4096

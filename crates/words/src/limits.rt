@@ -1,0 +1,22 @@
+// Document 01's limits; specs/Limits.antt has them for the definitions.
+
+// The most entries of an alphabet.
+pub const ALPHABET_MOST: usize = 64;
+
+// The most constants of an alphabet.
+pub const CONSTANTS_MOST: usize = 16;
+
+// The highest rank.
+pub const RANK_MOST: usize = 4;
+
+// The most words of a rule.
+pub const EXPRESSION_MOST: usize = 64;
+
+// The most states of a table.
+pub const STATES_MOST: usize = 1024;
+
+// The most words of a table.
+pub const TABLE_MOST: usize = 2048;
+
+// The most elements of a chapter.
+pub const NODES_MOST: usize = 4096;
