@@ -2,11 +2,11 @@
 ghost use mathlib.Core.Path.{_≡_};
 ghost use Rattle.operations.specs.Compile.{compileFault, compileAnswer, compileExit};
 ghost use Rattle.compiler.specs.CompileAnswer.{answerInCompiled};
+use alphabet::alphabet_fault;
+use alphabet::count_constants;
 use states::states_after;
+use syntax::expression::expression_fault;
 use table::write_table;
-use words::alphabet::alphabet_fault;
-use words::alphabet::count_constants;
-use words::expression::expression_fault;
 use words::limits::STATES_MOST;
 
 mod states;

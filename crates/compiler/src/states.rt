@@ -9,7 +9,7 @@ ghost use Rattle.compiler.specs.Compiling.{ConstantsCounted, PortMakeabl
 use ports::port::EVERY;
 use ports::port::NONE;
 use ports::port::port_of;
-use words::postfix::arity;
+use syntax::postfix::arity;
 use words::word::Kind;
 use words::word::SYMBOL_RANGE;
 use words::word::kind_of;

@@ -11,9 +11,9 @@ ghost use Rattle.exchanger.specs.ExchangeAnswer.{answerInExchanged};
 use super::Exchanged;
 use super::replace::move_tail;
 use slices::moves::copy_words;
+use syntax::postfix::subtree_start;
 use tables::head::set_size;
 use updates::update_marks;
-use words::postfix::subtree_start;
 
 // An accepted call. The old element's words move to the place of the replacement's root, which is then compared with them.
 pub(crate) fn replace_subtree(

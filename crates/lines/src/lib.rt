@@ -7,7 +7,7 @@ ghost use lib.ListN.{length, getD};
 ghost use Rattle.words.specs.Chapter.{symbolOf};
 use encoding::byte_writer::write_field;
 use encoding::byte_writer::write_text;
-use words::postfix::subtree_start;
+use syntax::postfix::subtree_start;
 use words::word::SYMBOL_RANGE;
 
 // The line `refused N`.

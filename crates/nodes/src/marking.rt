@@ -5,8 +5,8 @@ ghost use Prim.Native.Nat.{_+_, _-_};
 ghost use Rattle.nodes.specs.Nodes.{markedAt, markedFrom};
 ghost use Rattle.nodes.specs.Marking.{Maintained, NodeMarkable, NodesMarkable};
 use super::stack::STACK_BASE;
+use alphabet::rank;
 use memo::lookup::mark_next;
-use words::alphabet::rank;
 use words::word::SYMBOL_RANGE;
 
 // Marks node i, and puts its representative on the stack in the place of its children's; answers the stack's height.

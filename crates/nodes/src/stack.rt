@@ -7,7 +7,7 @@ ghost use lib.ListN.{getD, set};
 ghost use Rattle.words.specs.Alphabet.{rankOf};
 ghost use Rattle.words.specs.Chapter.{symbolOf};
 ghost use Rattle.nodes.specs.Nodes.{rootsOf, Held, Pushable, Stackable};
-use words::alphabet::rank;
+use alphabet::rank;
 use words::limits::NODES_MOST;
 use words::limits::RANK_MOST;
 use words::word::SYMBOL_RANGE;

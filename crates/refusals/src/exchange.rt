@@ -9,9 +9,9 @@ use super::shared::marked_fault;
 use super::shared::marks_too_short;
 use super::shared::table_fault;
 use super::shared::wrong_count;
-use words::chapter::tree_fault;
+use syntax::chapter::tree_fault;
+use syntax::postfix::subtree_start;
 use words::limits::NODES_MOST;
-use words::postfix::subtree_start;
 
 // Whether so many elements are too few or too many, or do not fit a chapter slice of this length.
 fn wrong_used_count(count: usize, chapter_length: usize) -> bool

@@ -5,10 +5,10 @@ ghost use lib.ListN.{length};
 ghost use Rattle.words.specs.Limits.{nodesMost};
 ghost use Rattle.words.specs.Refusal.{refusal};
 ghost use Rattle.operations.specs.Run.{wrongCount, marksTooShort, tableRefusals, markedRefusals};
+use alphabet::alphabet_fault;
+use syntax::chapter::tree_fault;
 use tables::check::is_table;
 use tables::head::set_size;
-use words::alphabet::alphabet_fault;
-use words::chapter::tree_fault;
 use words::limits::NODES_MOST;
 
 // Document 01's number 1, 2 or 8, the first that applies, or 0.

@@ -4,7 +4,7 @@ ghost use mathlib.Core.Path.{_≡_};
 ghost use Prim.Native.Nat.{_+_};
 ghost use lib.ListN.{drop};
 ghost use Rattle.automaton.specs.Table.{isHead, isTableWord, sourcesLeft, areTransitions, isTable};
-use words::alphabet::rank;
+use alphabet::rank;
 use words::limits::STATES_MOST;
 use words::limits::TABLE_MOST;
 use words::word::COUNT_RANGE;

@@ -27,6 +27,3 @@ pub mod HoldingLaws
 pub mod WordLaws
 pub mod RelabelLaws
 pub mod ScanLaws
-pub mod ChapterLaws
-pub mod ConstantScanLaws
-pub mod StartLaws

@@ -1,8 +1,4 @@
-// Words of 32 bits in postfix order: which words make an alphabet, a rule or a chapter (document 01's terms), and where
-// the subtrees begin. Every answer equals what a definition of `specs/` gives.
-pub mod alphabet;
-pub mod chapter;
-pub mod expression;
+// Words of 32 bits: the kind that a word is of, which bits it names, and the limits. Every answer equals what a definition of
+// `specs/` gives.
 pub mod limits;
-pub mod postfix;
 pub mod word;

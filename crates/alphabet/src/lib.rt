@@ -1,0 +1,118 @@
+// The alphabet: ranks, constants in symbol order, and refusals 1 and 2.
+ghost use mathlib.Core.Path.{_≡_};
+ghost use lib.ListN.{length, take};
+ghost use lib.Seq.{sets};
+ghost use Rattle.words.specs.Lists.{all};
+ghost use Rattle.words.specs.Limits.{alphabetMost};
+ghost use Rattle.words.specs.Alphabet.{isEntry, isConstant, rankOf, constantsOf, alphabetFault};
+use words::limits::ALPHABET_MOST;
+use words::limits::CONSTANTS_MOST;
+use words::limits::RANK_MOST;
+use words::word::Kind;
+use words::word::SYMBOL_RANGE;
+use words::word::kind_of;
+use words::word::spare_bits_clear;
+
+// The rank of a symbol; 0 for an unknown one.
+pub fn rank(alphabet: &[u32], symbol: usize) -> usize
+    ensures { λ r. ⌜ r ≡ rankOf (now (alphabet .entry)) symbol ⌝ }
+{
+    if symbol < alphabet.len() {
+        return (alphabet[symbol] % SYMBOL_RANGE) as usize;
+    }
+    0
+}
+
+// Whether the alphabet has the symbol and its rank is 0.
+pub fn is_constant(alphabet: &[u32], symbol: usize) -> bool
+    ensures { λ r. ⌜ r ≡ isConstant (now (alphabet .entry)) symbol ⌝ }
+{
+    if symbol < alphabet.len() {
+        return alphabet[symbol] % SYMBOL_RANGE == 0;
+    }
+    false
+}
+
+// Whether a word is an alphabet entry.
+fn is_entry(w: u32) -> bool
+    ensures { λ r. ⌜ r ≡ isEntry w ⌝ }
+{
+    let kind = kind_of(w);
+    match kind {
+        Kind::Entry => spare_bits_clear(w) && w % SYMBOL_RANGE <= RANK_MOST as u32,
+        _ => false,
+    }
+}
+
+// Whether every word is an alphabet entry.
+fn entries_only(alphabet: &[u32]) -> bool
+    ensures { λ r. ⌜ r ≡ all isEntry (now (alphabet .entry)) ⌝ }
+{
+    let mut i = 0;
+    while i < alphabet.len() {
+        if !is_entry(alphabet[i]) {
+            return false;
+        }
+        i += 1;
+    }
+    true
+}
+
+// How many constants the alphabet has.
+pub fn count_constants(alphabet: &[u32]) -> usize
+    ensures { λ r. ⌜ r ≡ length (constantsOf (now (alphabet .entry))) ⌝ }
+{
+    let mut count: usize = 0;
+    let mut i = 0;
+    while i < alphabet.len() {
+        if is_constant(alphabet, i) {
+            count += 1;
+        }
+        i += 1;
+    }
+    count
+}
+
+// Writes the constants in symbol order into the first words of the list, as far as it reaches, and answers how many there are.
+// Only the symbols that an alphabet can have are looked at.
+pub fn write_constants(alphabet: &[u32], list: &mut [u32]) -> usize
+    ensures answer { λ r. ⌜ r ≡ length (constantsOf (take alphabetMost (now (alphabet .entry)))) ⌝ }
+    ensures list { λ _. ⌜ now (list .exit) ≡ sets (now (list .entry)) 0 (constantsOf (take alphabetMost (now (alphabet .entry)))) ⌝ }
+{
+    let mut n: usize = 0;
+    let mut i = 0;
+    while i < ALPHABET_MOST {
+        if is_constant(alphabet, i) {
+            if n < list.len() {
+                list[n] = i as u32;
+            }
+            n += 1;
+        }
+        i += 1;
+    }
+    n
+}
+
+// Document 01's number 1 or 2, the first that applies, or 0.
+pub fn alphabet_fault(alphabet: &[u32]) -> u32
+    ensures { λ r. ⌜ r ≡ alphabetFault (now (alphabet .entry)) ⌝ }
+{
+    let size = alphabet.len();
+    if size == 0 {
+        return 1;
+    }
+    if size > ALPHABET_MOST {
+        return 1;
+    }
+    if !entries_only(alphabet) {
+        return 1;
+    }
+    let constants = count_constants(alphabet);
+    if constants == 0 {
+        return 2;
+    }
+    if constants > CONSTANTS_MOST {
+        return 2;
+    }
+    0
+}

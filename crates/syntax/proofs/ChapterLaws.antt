@@ -1,0 +1,67 @@
+-- The check of a chapter in one pass: what is judged already, and what the rest decides.
+use mathlib.Core.Path.{_≡_, refl, ap, _∙_, sym}
+use mathlib.Core.Bool.{Bool, true, false}
+use mathlib.Core.List.{List}
+use Prim.Native.Nat.{ℕ, _+_, _-_, _<_, _≤_}
+use native.Mathlib.Omega.{arith}
+use lib.ListN.{length, getD, take, drop}
+use borrow.Author.Tests.{eq-eqb, ne-eqb}
+use Rattle.words.specs.Lists.{all}
+use Rattle.words.specs.Alphabet.{rankOf}
+use Rattle.words.specs.Postfix.{arity, trees, notOneTree}
+use Rattle.words.specs.Chapter.{symbolOf, isNode, notNodes, treeFault}
+use Rattle.words.proofs.ScanLaws.{drop-part, all-fails, all-continues, all-end, trees-lacks, trees-continues, trees-end}
+use Rattle.words.proofs.WordLaws.{isNode-facts}
+
+-- the words before word i are nodes and make `made` trees: the words from i on decide
+pub record ChapterJudged (a words : List ℕ) (made i : ℕ) : Type 0 where
+  pub few : i ≤ length words
+  pub below : made ≤ i
+  pub nodes : all (isNode a) words ≡ all (isNode a) (drop i words)
+  pub shape : trees a 0 words 1 ≡ trees a made (drop i words) 1
+
+pub judged-none : (a words : List ℕ) → ChapterJudged a words 0 0
+judged-none a words = record { few = omega arith; below = omega arith; nodes = refl; shape = refl }
+
+module _ {a words : List ℕ} {made i : ℕ} (s : ChapterJudged a words made i) where
+  -- behind the last word
+  pub judged-one : length words ≤ i → made ≡ 1 → 0 ≡ treeFault a words
+  unfolding notNodes notOneTree
+  judged-one h e = sym (rw (s .nodes ∙ all-end (isNode a) words i h, s .shape ∙ trees-end (arity a) words made i 1 h, eq-eqb made 1 e))
+
+  pub judged-not-one : length words ≤ i → (made ≡ 1 → ⊥) → 11 ≡ treeFault a words
+  unfolding notNodes notOneTree
+  judged-not-one h e = sym (rw (s .nodes ∙ all-end (isNode a) words i h, s .shape ∙ trees-end (arity a) words made i 1 h, ne-eqb made 1 e))
+
+  -- b tells whether the part `&words[i..]` has nodes only
+  rest : (b : Bool) → b ≡ all (isNode a) (take (length words - i) (drop i words)) → all (isNode a) words ≡ b
+  rest b e = s .nodes ∙ sym (e ∙ ap (all (isNode a)) (drop-part words i))
+
+  pub judged-later : (b : Bool) → b ≡ all (isNode a) (take (length words - i) (drop i words)) → b ≡ false → 10 ≡ treeFault a words
+  unfolding notNodes
+  judged-later b e f = sym (rw (rest b e ∙ f))
+
+  module _ (h : i < length words) where
+    pub judged-no-node : isNode a (getD words i 0) ≡ false → 10 ≡ treeFault a words
+    unfolding notNodes
+    judged-no-node e = sym (rw (s .nodes ∙ all-fails (isNode a) words i h e))
+
+    -- word i is a node, and r is its symbol's rank
+    module _ (node : isNode a (getD words i 0) ≡ true) (r : ℕ) (e : r ≡ rankOf a (symbolOf (getD words i 0))) where
+      rank-arity : r ≡ arity a (getD words i 0)
+      rank-arity = e ∙ sym (isNode-facts a (getD words i 0) node .arity-rank)
+
+      pub judged-lacks : made < r → (b : Bool) → b ≡ all (isNode a) (take (length words - i) (drop i words)) → b ≡ true
+          → 11 ≡ treeFault a words
+      unfolding notNodes notOneTree
+      judged-lacks l b eb t = sym (rw (rest b eb ∙ t, s .shape ∙ trees-lacks (arity a) words made i 1 r h rank-arity l))
+
+      pub judged-more : r ≤ made → ChapterJudged a words (made - r + 1) (i + 1)
+      judged-more l =
+          let below = s .below in
+          record {
+            few = omega arith;
+            below = omega arith;
+            nodes = s .nodes ∙ all-continues (isNode a) words i h node;
+            shape = s .shape ∙ trees-continues (arity a) words made i 1 r h rank-arity l;
+          }

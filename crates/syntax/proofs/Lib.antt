@@ -1,0 +1,2 @@
+pub mod ChapterLaws
+pub mod StartLaws

@@ -1,0 +1,74 @@
+-- Laws of the backward walk that finds where a subtree begins: which arities there are, where the words do not suffice, and
+-- the walk's invariant.
+use mathlib.Core.Path.{_≡_, refl, ap, ap₂, _∙_, sym}
+use mathlib.Core.List.{List}
+use Prim.Native.Nat.{ℕ, zero, suc, _+_, _-_, _<_, _≤_}
+use native.Mathlib.Omega.{arith}
+use lib.ListN.{length, getD, List·getD-eq-default}
+use Rattle.words.specs.Word.{kindOf, kindAt, lowByte}
+use Rattle.words.specs.Alphabet.{rankOf}
+use Rattle.words.specs.Postfix.{arity}
+use Rattle.words.specs.Shape.{startFromBy, startOfBy}
+use Rattle.words.proofs.WordLaws.{arityAt-most}
+use Rattle.words.proofs.PostfixLaws.{startFrom-none, startFrom-more, start-parts}
+
+-- ---- arities
+
+-- a rank is a byte
+pub arity-byte : (a : List ℕ) (w r : ℕ) → r ≡ arity a w → r ≤ 255
+unfolding arity rankOf
+arity-byte a w r e = rw e (arityAt-most 255 (rankOf a (lowByte w)) (kindOf w) (omega arith) (omega arith))
+
+-- a missing word takes no children
+pub arity-missing : (a : List ℕ) → arity a 0 ≡ 0
+unfolding arity kindAt
+arity-missing a = refl
+
+-- ---- where subtrees begin
+
+-- where there are not more words than trees asked for, the words go to their beginning
+pub startFrom-short : (arity : ℕ → ℕ) (ws : List ℕ) (j n : ℕ) → j ≤ n → startFromBy arity ws j n ≡ 0
+unfolding startFromBy
+startFrom-short arity ws zero n h = refl
+startFrom-short arity ws (suc j) zero h = absurd (omega arith)
+startFrom-short arity ws (suc j) (suc n) h = startFrom-short arity ws j (n + arity (getD ws j 0)) (omega arith)
+
+-- behind the words, a missing one that takes no children is a subtree of its own
+pub start-missing : (arity : ℕ → ℕ) (ws : List ℕ) (i : ℕ) → arity 0 ≡ 0 → length ws ≤ i → startOfBy arity ws i ≡ i
+start-missing arity ws i z h =
+    start-parts arity ws i
+    ∙ ap (startFromBy arity ws i) (ap arity (List·getD-eq-default ws 0 h) ∙ z)
+    ∙ startFrom-none arity ws i
+
+-- ---- the walk back from behind a node: `needed` trees still end before `start`
+
+pub record Backward (arity : ℕ → ℕ) (ws : List ℕ) (node start needed : ℕ) : Type 0 where
+  pub low : start ≤ node + 1
+  pub same : startOfBy arity ws node ≡ startFromBy arity ws start needed
+
+pub backward-first : (arity : ℕ → ℕ) (ws : List ℕ) (node : ℕ) → Backward arity ws node (node + 1) 1
+backward-first arity ws node = record { low = omega arith; same = refl }
+
+module _ {arity : ℕ → ℕ} {ws : List ℕ} {node start needed : ℕ} (b : Backward arity ws node start needed) where
+  pub backward-short : start ≤ needed → 0 ≡ startOfBy arity ws node
+  backward-short h = sym (b .same ∙ startFrom-short arity ws start needed h)
+
+  pub backward-more : (r : ℕ) → 0 < needed → 0 < start → r ≡ arity (getD ws (start - 1) 0)
+      → Backward arity ws node (start - 1) (needed - 1 + r)
+  backward-more r hn hs e =
+      let low = b .low in
+      let p : start ≡ suc (start - 1) = omega arith in
+      let q : needed ≡ suc (needed - 1) = omega arith in
+      record {
+        low = omega arith;
+        same =
+            b .same
+            ∙ ap₂ (startFromBy arity ws) p q
+            ∙ startFrom-more arity ws (start - 1) (needed - 1)
+            ∙ ap (λ (n : ℕ). startFromBy arity ws (start - 1) (needed - 1 + n)) (sym e);
+      }
+
+  pub backward-end : needed ≤ 0 → start ≡ startOfBy arity ws node
+  backward-end h =
+      let z : needed ≡ 0 = omega arith in
+      sym (b .same ∙ ap (startFromBy arity ws start) z ∙ startFrom-none arity ws start)

@@ -1,0 +1,59 @@
+// Words in postfix order: how many children a word takes, which words make one tree, and where subtrees begin.
+ghost use mathlib.Core.Path.{_≡_};
+ghost use Rattle.words.specs.Postfix.{arity, oneTree, startOf};
+use alphabet::rank;
+use words::word::Kind;
+use words::word::SYMBOL_RANGE;
+use words::word::kind_of;
+
+// How many children a word takes.
+pub fn arity(alphabet: &[u32], w: u32) -> usize
+    ensures { λ r. ⌜ r ≡ arity (now (alphabet .entry)) w ⌝ }
+{
+    let kind = kind_of(w);
+    match kind {
+        Kind::Symbol => rank(alphabet, (w % SYMBOL_RANGE) as usize),
+        Kind::Union => 2,
+        Kind::Product => 2,
+        Kind::Closure => 1,
+        Kind::Node => rank(alphabet, (w % SYMBOL_RANGE) as usize),
+        _ => 0,
+    }
+}
+
+// Whether the words make exactly one tree.
+pub(crate) fn one_tree(alphabet: &[u32], words: &[u32]) -> bool
+    ensures { λ r. ⌜ r ≡ oneTree (now (alphabet .entry)) (now (words .entry)) ⌝ }
+{
+    let mut made: usize = 0;
+    let mut i = 0;
+    while i < words.len() {
+        let children = arity(alphabet, words[i]);
+        if made < children {
+            return false;
+        }
+        made = made - children + 1;
+        i += 1;
+    }
+    made == 1
+}
+
+// The index of the first word of the node's subtree. Going back from behind the node, `needed` trees still end before `start`;
+// where fewer words are left than trees needed, they do not suffice and the answer is 0.
+pub fn subtree_start(alphabet: &[u32], words: &[u32], node: usize) -> usize
+    ensures { λ r. ⌜ r ≡ startOf (now (alphabet .entry)) (now (words .entry)) node ⌝ }
+{
+    if node >= words.len() {
+        return node;
+    }
+    let mut start = node + 1;
+    let mut needed: usize = 1;
+    while needed > 0 {
+        if start <= needed {
+            return 0;
+        }
+        start -= 1;
+        needed = needed - 1 + arity(alphabet, words[start]);
+    }
+    start
+}
