@@ -11,7 +11,7 @@ use Rattle.words.proofs.ListLaws.{sets-whole}
 use Rattle.automaton.specs.Numbering.{statesAfter, compiled}
 use Rattle.words.specs.Answer.{refused, accepted}
 use Rattle.operations.specs.Compile.{compiledTable, tooManyStates, tableTooLong, compileFault, compileAnswer, compileExit}
-use Rattle.operations.proofs.AcceptedLaws.{rule-alphabet, rule-expression, CompileAccepted, compile-accepted}
+use Rattle.operations.proofs.AcceptedLaws.{CompileAccepted, compile-accepted}
 use Rattle.compiler.specs.Compiling.{Accepted}
 
 -- ---- 6 and 7
@@ -54,7 +54,7 @@ module _ (a e slice : List ℕ) (f : ℕ) (h : f ≡ compileFault a e (length sl
     passed = compile-accepted a e (length slice) (sym h ∙ z)
 
     pub accepted-parts : Accepted a e
-    accepted-parts = record { alphabet = rule-alphabet (passed .rule); expression = rule-expression (passed .rule) }
+    accepted-parts = record { alphabet = passed .rule .alphabet; expression = passed .rule .expression }
 
     pub accepted-exit : (out : List ℕ) → out ≡ sets slice 0 (compiledTable a e) → out ≡ compileExit a e slice
     unfolding compileExit

@@ -18,7 +18,10 @@ use Rattle.words.proofs.PostfixLaws.{length-splice}
 use Rattle.words.proofs.HoldingLaws.{holding-first}
 use Rattle.automaton.specs.StateSet.{StateSet}
 use Rattle.operations.specs.Marks.{sizeOf, storedSet, sameWords, refit}
-use Rattle.operations.specs.Exchange.{setIn, recomputedIn, outcomesAfter, fault, newTree, outcomes}
+use Rattle.operations.specs.ExchangeCall.{ExchangeCall}
+use Rattle.operations.specs.Exchange.{setIn, recomputedIn, used, fault, newTree, storedIn, outcomes}
+use Rattle.operations.specs.Recomputation.{startIn}
+use Rattle.operations.proofs.AcceptedLaws.{call-accepted}
 use Rattle.operations.proofs.MarksLaws.{length-flatten, take-refit}
 use Rattle.operations.proofs.RuleLaws.{follows-length, follows-outcomes}
 use Rattle.nodes.proofs.LoopLaws.{setAt}
@@ -34,50 +37,63 @@ use Rattle.updates.specs.Updating.{updatedFrom}
 use Rattle.propagation.proofs.PropagationLaws.{recomputed-is, step-ancestor, propagate-continues, propagate-stops}
 use Rattle.exchanger.proofs.PropagateSetsLaws.{Propagating, Same, propagate-propagateSets}
 use Rattle.exchanger.proofs.TailLaws.{tail-filled}
-use Rattle.exchanger.proofs.CallNumberLaws.{CallNumbers, call-numbers, accepted-call, length-used, chapter-movable}
+use Rattle.exchanger.proofs.CallNumberLaws.{totalCount, movedChapter, CallNumbers, call-numbers, length-used, chapter-movable}
 use Rattle.exchanger.proofs.MovedLaws.{gapSets, behindUse}
 
 -- the marks at exit, and the number worked out
-pub record ExchangeLeft (a table chapter marks : List ℕ) (n element : ℕ) (xs : List ℕ) (marks′ : List ℕ) (count : ℕ) : Type 0 where
-  pub words : marks′ ≡ refit (n * sizeOf table) (flatten (map setIn (outcomes a table chapter marks n element xs))) marks
-  pub count-is : count ≡ recomputedIn (outcomes a table chapter marks n element xs)
+pub record ExchangeLeft (c : ExchangeCall) (marks′ : List ℕ) (count : ℕ) : Type 0 where
+  pub words : marks′ ≡ refit (c .count * sizeOf (c .table)) (flatten (map setIn (outcomes c))) (c .marks)
+  pub count-is : count ≡ recomputedIn (outcomes c)
 
-module _ (a table chapter marks : List ℕ) (n element : ℕ) (xs : List ℕ) (ok : fault a table chapter marks n element xs ≡ 0) where
+module _ (c : ExchangeCall) (ok : fault c ≡ 0) where
+  abbrev a : List ℕ
+  a = c .alphabet
+
+  abbrev table : List ℕ
+  table = c .table
+
+  -- the used elements
+  abbrev ch : List ℕ
+  ch = used c
+
+  abbrev element : ℕ
+  element = c .element
+
+  abbrev xs : List ℕ
+  xs = c .replacement
+
   abbrev size : ℕ
   size = sizeOf table
 
   abbrev stored : ℕ → StateSet
-  stored = storedSet size marks
-
-  abbrev used : List ℕ
-  used = take n chapter
+  stored = storedIn c
 
   abbrev s : ℕ
-  s = startOf a used element
+  s = startIn c
 
   abbrev tree : List ℕ
-  tree = splice a used element xs
+  tree = splice a ch element xs
 
   abbrev gap : List StateSet
-  gap = gapSets a table chapter marks n element xs ok
+  gap = gapSets c ok
 
   abbrev total : ℕ
-  total = s + length xs + (n - element - 1)
+  total = totalCount c s
 
   abbrev rest : List ℕ
-  rest = behindUse (n * size) (total * size) marks
+  rest = behindUse (c .count * size) (total * size) (c .marks)
 
   abbrev above : ℕ → Bool
-  above i = isAncestor a used element (i - (s + length xs) + (element + 1))
+  above i = isAncestor a ch element (i - (s + length xs) + (element + 1))
 
-  facts : CallNumbers a table chapter marks n element xs s size
-  facts = call-numbers a table chapter marks n element xs ok s refl size refl
+  facts : CallNumbers c s size
+  facts = call-numbers c ok s refl size refl
 
-  he : element < length used
-  he = rw (length-used a table chapter marks n element xs ok) (accepted-call a table chapter marks n element xs ok .element)
+  he : element < length ch
+  he = rw (length-used c ok) (call-accepted c ok .change .element)
 
   abbrev replaced : ℕ → List StateSet
-  replaced = replacedSets a table stored used element xs gap
+  replaced = replacedSets a table stored ch element xs gap
 
   -- how many nodes the replacement has below its root
   abbrev m : ℕ
@@ -92,19 +108,19 @@ module _ (a table chapter marks : List ℕ) (n element : ℕ) (xs : List ℕ) (o
 
   length-replaced : (k : ℕ) → length (replaced k) ≡ length tree
   length-replaced k =
-      let g = accepted-call a table chapter marks n element xs ok in
-      length-replacedSets a table stored used element xs gap he (g .replacement .tree) (g .replacement .counted .some) length-gap k
-      ∙ length-movedSets a table stored used element xs gap he (g .replacement .tree) (g .replacement .counted .some) length-gap
-      ∙ sym (length-splice (arity a) used element xs he)
+      let g = call-accepted c ok in
+      length-replacedSets a table stored ch element xs gap he (g .change .replacement .tree .shape) (g .change .replacement .counted .some) length-gap k
+      ∙ length-movedSets a table stored ch element xs gap he (g .change .replacement .tree .shape) (g .change .replacement .counted .some) length-gap
+      ∙ sym (length-splice (arity a) ch element xs he)
 
   -- the replacement's nodes, worked out in the marks
-  module _ (moved : List ℕ) (held : MarksHolding (sizeOf table) moved (movedSets a table stored used element xs gap) rest) where
+  module _ (moved : List ℕ) (held : MarksHolding (sizeOf table) moved (movedSets a table stored ch element xs gap) rest) where
     replaced-holds : (k : ℕ) → k ≤ length xs → MarksHolding size (markedFrom a table tree s k moved) (replaced k) rest
     unfolding markedFrom replacedSets
     replaced-holds zero h = held
     replaced-holds (suc k) h =
         let t = length-replaced k in
-        let l = length-splice (arity a) used element xs he in
+        let l = length-splice (arity a) ch element xs he in
         markedAt-rows a table tree (markedFrom a table tree s k moved) (replaced k) rest (s + k) (replaced-holds k (omega arith))
         (omega arith) (omega arith)
 
@@ -129,7 +145,7 @@ module _ (a table chapter marks : List ℕ) (n element : ℕ) (xs : List ℕ) (o
     unfolding replacedSets
     root-kept zero h =
         let front = listFrom stored 0 s in
-        let behind = listFrom stored (element + 1) (length (drop (element + 1) used)) in
+        let behind = listFrom stored (element + 1) (length (drop (element + 1) ch)) in
         let at : length (listFrom stored s m) ≡ m = length-listFrom stored m s in
         ap (λ (i : ℕ). setAt (front ++ (gap ++ behind)) (i + m)) (sym (length-listFrom stored s 0))
         ∙ getD-append-add front (gap ++ behind) m []
@@ -140,10 +156,10 @@ module _ (a table chapter marks : List ℕ) (n element : ℕ) (xs : List ℕ) (o
         getD-set-other (replaced k) (s + k) (s + m) _ [] (omega arith) ∙ root-kept k (omega arith)
 
     abbrev left : ℕ
-    left = length (drop (element + 1) used)
+    left = length (drop (element + 1) ch)
 
     length-tree : length tree ≡ s + (length xs + left)
-    length-tree = length-splice (arity a) used element xs he
+    length-tree = length-splice (arity a) ch element xs he
 
     abbrev v : StateSet
     v = loops.setFromSets a table tree (s + m) (replaced m)
@@ -175,18 +191,18 @@ module _ (a table chapter marks : List ℕ) (n element : ℕ) (xs : List ℕ) (o
     tests = ap₂ sameWords (root-is ∙ sym new-is) (sym old-is)
 
     behind : (t : Progress) → t .reach ≡ 1 → t .recomputed ≡ length xs
-        → Same a table tree used element rest above
+        → Same a table tree ch element rest above
         (propagateFrom a table tree (suc (s + m)) left work t) (propagateSets a table tree above (s + length xs) left rows (length xs))
-    behind t r c =
-        let g = accepted-call a table chapter marks n element xs ok in
-        let at : Propagating a table tree used element rest above (s + length xs) (element + 1) 0 left work rows = record {
+    behind t r e =
+        let g = call-accepted c ok in
+        let at : Propagating a table tree ch element rest above (s + length xs) (element + 1) 0 left work rows = record {
           words =
               λ t. sym (getD-drop (s + length xs) tree t 0)
               ∙ ap (λ (l : List ℕ). getD l t 0)
-              (words-behind a table stored used element xs gap he (g .replacement .tree) (g .replacement .counted .some) length-gap)
-              ∙ getD-drop (element + 1) used t 0;
-          ancestors = λ t. ap (isAncestor a used element) (omega arith);
-          holding = holding-first (arity a) used element;
+              (words-behind a table stored ch element xs gap he (g .change .replacement .tree .shape) (g .change .replacement .counted .some) length-gap)
+              ∙ getD-drop (element + 1) ch t 0;
+          ancestors = λ t. ap (isAncestor a ch element) (omega arith);
+          holding = holding-first (arity a) ch element;
           inside = omega (arith, length-tree);
           rows-inside = omega (arith, length-tree, length-replaced (suc m));
           sets = work-holds;
@@ -194,9 +210,9 @@ module _ (a table chapter marks : List ℕ) (n element : ℕ) (xs : List ℕ) (o
         let first : suc (s + m) ≡ s + length xs = omega (arith, some) in
         rw first
         (subst
-        (λ (i : ℕ). Same a table tree used element rest above (propagateFrom a table tree (s + length xs) left work t)
+        (λ (i : ℕ). Same a table tree ch element rest above (propagateFrom a table tree (s + length xs) left work t)
         (propagateSets a table tree above (s + length xs) left rows i))
-        c (propagate-propagateSets a table tree used element rest above left (s + length xs) (element + 1) 0 work rows t r at))
+        e (propagate-propagateSets a table tree ch element rest above left (s + length xs) (element + 1) 0 work rows t r at))
 
     -- ---- both loops
 
@@ -209,7 +225,7 @@ module _ (a table chapter marks : List ℕ) (n element : ℕ) (xs : List ℕ) (o
         let at : s + length xs - 1 ≡ s + m = omega (arith, some) in
         let count : s + length xs - 1 - s ≡ m = omega (arith, some) in
         let more : length tree - (s + m) ≡ suc left = omega (arith, some, length-tree) in
-        ap₂ (λ (i c : ℕ). propagateFrom a table tree i (length tree - i) (markedFrom a table tree s c moved) (initial c)) at count
+        ap₂ (λ (i k : ℕ). propagateFrom a table tree i (length tree - i) (markedFrom a table tree s k moved) (initial k)) at count
         ∙ ap (λ (i : ℕ). propagateFrom a table tree (s + m) i before (initial m)) more
 
     -- the root is worked out, and the loop is behind it
@@ -223,7 +239,7 @@ module _ (a table chapter marks : List ℕ) (n element : ℕ) (xs : List ℕ) (o
     abbrev up : List StateSet × ℕ
     up = propagateSets a table tree above (s + length xs) left rows (length xs)
 
-    sets-is : exchangedSets a table stored used element xs gap ≡ cond (sameWords new old) (rows, length xs) up
+    sets-is : exchangedSets a table stored ch element xs gap ≡ cond (sameWords new old) (rows, length xs) up
     unfolding exchangedSets
     sets-is =
         ap
@@ -232,15 +248,15 @@ module _ (a table chapter marks : List ℕ) (n element : ℕ) (xs : List ℕ) (o
         some
         ∙ ap (λ (b : Bool). cond b (rows, length xs) up) tests
 
-    exchanged : Same a table tree used element rest above (updatedFrom a table tree s (s + length xs - 1) moved)
-        (exchangedSets a table stored used element xs gap)
+    exchanged : Same a table tree ch element rest above (updatedFrom a table tree s (s + length xs - 1) moved)
+        (exchangedSets a table stored ch element xs gap)
     exchanged = rw (propagateed-is, sets-is) (go (tested (sameWords new old)))
       where
         count : m + 1 ≡ length xs
         count = omega (arith, some)
 
         go : Tested (sameWords new old)
-            → Same a table tree used element rest above propagated (cond (sameWords new old) (rows, length xs) up)
+            → Same a table tree ch element rest above propagated (cond (sameWords new old) (rows, length xs) up)
         go (holds b) =
             rw (propagate-stops a table tree (s + m) before (initial m) left work _ (step-root true b) refl, b)
             (record { sets = work-holds; count = count })
@@ -249,55 +265,54 @@ module _ (a table chapter marks : List ℕ) (n element : ℕ) (xs : List ℕ) (o
 
     pub left-outcomes : (marks′ : List ℕ) (count : ℕ)
         → (marks′, count)
-        ≡ updatedFrom a table (splice a (take n chapter) element xs) (startOf a (take n chapter) element)
-        (startOf a (take n chapter) element + length xs - 1) moved
-        → ExchangeLeft a table chapter marks n element xs marks′ count
-    unfolding outcomes refit
+        ≡ updatedFrom a table tree (startIn c)
+        (startIn c + length xs - 1) moved
+        → ExchangeLeft c marks′ count
+    unfolding outcomes newTree refit
     left-outcomes marks′ count q =
-        let g = accepted-call a table chapter marks n element xs ok in
-        let os = outcomesAfter a table stored used element xs in
-        let same : Same a table tree used element rest above (marks′, count) (map setIn os, recomputedIn os) =
+        let g = call-accepted c ok in
+        let os = outcomes c in
+        let same : Same a table tree ch element rest above (marks′, count) (map setIn os, recomputedIn os) =
         rw (
           q,
-          ← exchangedSets-outcomes a table stored used element xs gap he (g .replacement .tree)
-              (g .replacement .counted .some) length-gap,
+          ← exchangedSets-outcomes a table stored ch element xs gap he (g .change .replacement .tree .shape)
+              (g .change .replacement .counted .some) length-gap,
         ) exchanged in
         let many : length os ≡ length tree =
-        follows-length a table tree [] os (follows-outcomes a table stored used element xs he (g .replacement .tree)) in
+        follows-length a table tree [] os (follows-outcomes a table stored ch element xs he (g .change .replacement .tree .shape)) in
         let long : length (flatten (map setIn os)) ≡ total * size =
         length-flatten size (map setIn os) (same .sets .sized)
         ∙ ap (λ (i : ℕ). i * size) (length-map os setIn ∙ many ∙ sym (facts .total)) in
         record {
           words =
               same .sets .words
-              ∙ ap (λ (i : ℕ). flatten (map setIn os) ++ behindUse (n * size) i marks) (sym long);
+              ∙ ap (λ (i : ℕ). flatten (map setIn os) ++ behindUse (c .count * size) i (c .marks)) (sym long);
           count-is = same .count;
         }
 
 -- ---- the chapter
 
-module _ (a table chapter marks : List ℕ) (n element : ℕ) (xs : List ℕ) (ok : fault a table chapter marks n element xs ≡ 0) where
+module _ (c : ExchangeCall) (ok : fault c ≡ 0) where
   abbrev place : ℕ
-  place = startOf a (take n chapter) element
+  place = startIn c
 
-  pub chapter-left : (moved filled : List ℕ)
-      → moved ≡ refit n (take (place + length xs) chapter ++ slice (element + 1) n chapter) chapter
-      → filled ≡ paste moved place xs (length xs)
-      → filled ≡ refit n (newTree a table chapter marks n element xs) chapter
+  pub chapter-left : (moved filled : List ℕ) → moved ≡ movedChapter c (startIn c)
+      → filled ≡ paste moved (startIn c) (c .replacement) (length (c .replacement))
+      → filled ≡ refit (c .count) (newTree c) (c .chapter)
   unfolding newTree spliceBy
   chapter-left moved filled p q =
-      let g = call-numbers a table chapter marks n element xs ok place refl (sizeOf table) refl in
+      let g = call-numbers c ok place refl (sizeOf (c .table)) refl in
       let low = g .low in
       let inside = g .inside in
+      let xs = c .replacement in
+      let tail = slice (c .element + 1) (c .count) (c .chapter) in
       q ∙ ap (λ (l : List ℕ). paste l place xs (length xs)) p
-      ∙ tail-filled chapter n (element + 1) (place + length xs)
-      (chapter-movable a table chapter marks n element xs ok place refl (sizeOf table) refl) place xs refl
-      ∙ ap (λ (l : List ℕ). refit n (l ++ (xs ++ slice (element + 1) n chapter)) chapter) (sym (take-take place n chapter (omega arith)))
+      ∙ tail-filled (c .chapter) (c .count) (c .element + 1) (place + length xs)
+      (chapter-movable c ok place refl (sizeOf (c .table)) refl) place xs refl
+      ∙ ap (λ (l : List ℕ). refit (c .count) (l ++ (xs ++ tail)) (c .chapter)) (sym (take-take place (c .count) (c .chapter) (omega arith)))
 
   -- the new tree's words are those in use
-  pub nodes-left : (filled : List ℕ) → filled ≡ refit n (newTree a table chapter marks n element xs) chapter
-      → take (place + length xs + (n - element - 1)) filled ≡ splice a (take n chapter) element xs
-  unfolding newTree
+  pub nodes-left : (filled : List ℕ) → filled ≡ refit (c .count) (newTree c) (c .chapter) → take (totalCount c (startIn c)) filled ≡ newTree c
   nodes-left filled p =
-      let g = call-numbers a table chapter marks n element xs ok place refl (sizeOf table) refl in
-      ap₂ take (g .total) p ∙ take-refit n (splice a (take n chapter) element xs) chapter
+      let g = call-numbers c ok place refl (sizeOf (c .table)) refl in
+      ap₂ take (g .total) p ∙ take-refit (c .count) (newTree c) (c .chapter)

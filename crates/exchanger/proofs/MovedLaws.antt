@@ -9,18 +9,20 @@ use native.Mathlib.Numerals.{add-one}
 use lib.ListN.{length, take, drop, replicate, length-drop}
 use lib.Seq.{slice}
 use Rattle.words.specs.Lists.{listFrom}
-use Rattle.words.specs.Postfix.{startOf}
 use Rattle.words.proofs.ListLaws.{listFrom-add}
 use Rattle.automaton.specs.StateSet.{StateSet}
-use Rattle.operations.specs.Marks.{sizeOf, storedSet, refit}
-use Rattle.operations.specs.Exchange.{fault}
+use Rattle.operations.specs.Marks.{sizeOf, refit}
+use Rattle.operations.specs.ExchangeCall.{ExchangeCall}
+use Rattle.operations.specs.Exchange.{used, fault, storedIn}
+use Rattle.operations.specs.Recomputation.{startIn}
 use Rattle.operations.proofs.MarksLaws.{Sized, sized-append}
 use Rattle.exchanger.proofs.ExchangeLoops.{movedSets}
 use Rattle.slices.proofs.RefitLaws.{take-drop}
 use Rattle.sets.proofs.RowLaws.{sized-stored, flatten-stored}
 use Rattle.nodes.proofs.MarkLaws.{MarksHolding}
 use Rattle.exchanger.proofs.TailLaws.{length-kept}
-use Rattle.exchanger.proofs.CallNumberLaws.{CallNumbers, call-numbers, marks-movable, length-used}
+use Rattle.exchanger.proofs.CallNumberLaws.{restCount, rootAt, totalCount, movedMarks, CallNumbers}
+use Rattle.exchanger.proofs.CallNumberLaws.{call-numbers, marks-movable, length-used}
 
 pub flatten-append : (l k : List StateSet) → flatten (l ++ k) ≡ flatten l ++ flatten k
 unfolding flatten
@@ -31,97 +33,94 @@ flatten-append (r ∷ l) k = ap (λ (t : List ℕ). r ++ t) (flatten-append l k)
 abbrev pub behindUse : ℕ → ℕ → List ℕ → List ℕ
 behindUse old new slice = replicate (old - new) 0 ++ drop (max old new) slice
 
-module _ (a table chapter marks : List ℕ) (n element : ℕ) (xs : List ℕ) (ok : fault a table chapter marks n element xs ≡ 0) where
+module _ (c : ExchangeCall) (ok : fault c ≡ 0) where
   abbrev size : ℕ
-  size = sizeOf table
+  size = sizeOf (c .table)
 
   abbrev stored : ℕ → StateSet
-  stored = storedSet size marks
-
-  abbrev used : List ℕ
-  used = take n chapter
+  stored = storedIn c
 
   abbrev s : ℕ
-  s = startOf a used element
+  s = startIn c
 
   abbrev k : ℕ
-  k = n - element - 1
+  k = restCount c
 
-  -- where the replacement's root comes
   abbrev root : ℕ
-  root = s + length xs - 1
+  root = rootAt c s
 
   -- whatever stood where the replacement's sets come, and the old element's set in the place of the root's
   abbrev pub gapSets : List StateSet
-  gapSets = listFrom stored s (length xs - 1) ++ (stored element ∷ [])
+  gapSets = listFrom stored s (length (c .replacement) - 1) ++ (stored (c .element) ∷ [])
 
-  facts : CallNumbers a table chapter marks n element xs s size
-  facts = call-numbers a table chapter marks n element xs ok s refl size refl
+  abbrev sets : List StateSet
+  sets = movedSets (c .alphabet) (c .table) stored (used c) (c .element) (c .replacement) gapSets
 
-  root-is : root ≡ s + (length xs - 1)
+  facts : CallNumbers c s size
+  facts = call-numbers c ok s refl size refl
+
+  root-is : root ≡ s + (length (c .replacement) - 1)
   root-is = let some = facts .some in omega arith
 
-  behind-count : length (drop (element + 1) used) ≡ k
+  behind-count : length (drop (c .element + 1) (used c)) ≡ k
   behind-count =
-      length-drop (element + 1) used ∙ ap (λ (i : ℕ). i - (element + 1)) (length-used a table chapter marks n element xs ok) ∙ omega arith
+      length-drop (c .element + 1) (used c) ∙ ap (λ (i : ℕ). i - (c .element + 1)) (length-used c ok) ∙ omega arith
 
-  front-words : flatten (listFrom stored 0 root) ≡ take (root * size) marks
-  front-words = flatten-stored size marks root 0 ∙ ap (λ (i : ℕ). take (root * size) (drop i marks)) (zero-mul size)
+  front-words : flatten (listFrom stored 0 root) ≡ take (root * size) (c .marks)
+  front-words = flatten-stored size (c .marks) root 0 ∙ ap (λ (i : ℕ). take (root * size) (drop i (c .marks))) (zero-mul size)
 
-  tail-words : flatten (listFrom stored element (suc k)) ≡ slice (element * size) (n * size) marks
+  tail-words : flatten (listFrom stored (c .element) (suc k)) ≡ slice (c .element * size) (c .count * size) (c .marks)
   tail-words =
       let old = facts .old-words in
-      let c : suc k * size ≡ n * size - element * size = suc-mul k size ∙ omega arith in
-      flatten-stored size marks (suc k) element
-      ∙ ap (λ (i : ℕ). take i (drop (element * size) marks)) c
-      ∙ take-drop (element * size) (n * size) marks (omega arith)
+      let many : suc k * size ≡ c .count * size - c .element * size = suc-mul k size ∙ omega arith in
+      flatten-stored size (c .marks) (suc k) (c .element)
+      ∙ ap (λ (i : ℕ). take i (drop (c .element * size) (c .marks))) many
+      ∙ take-drop (c .element * size) (c .count * size) (c .marks) (omega arith)
 
-  sets-are : movedSets a table stored used element xs gapSets ≡ listFrom stored 0 root ++ listFrom stored element (suc k)
+  sets-are : sets ≡ listFrom stored 0 root ++ listFrom stored (c .element) (suc k)
   sets-are =
-      let tail = listFrom stored (element + 1) k in
+      let tail = listFrom stored (c .element + 1) k in
       let front = listFrom stored 0 s in
-      let gap = listFrom stored s (length xs - 1) in
-      ap (λ (i : ℕ). front ++ (gapSets ++ listFrom stored (element + 1) i)) behind-count
-      ∙ regroup front gap (stored element ∷ []) tail
-      ∙ ap₂ (λ (l : List StateSet) (j : ℕ). l ++ (stored element ∷ listFrom stored j k))
-      (ap (λ (i : ℕ). front ++ listFrom stored i (length xs - 1)) (sym (zero-add s))
-      ∙ sym (listFrom-add stored s (length xs - 1) 0) ∙ ap (listFrom stored 0) (sym root-is))
-      (add-one element)
+      let gap = listFrom stored s (length (c .replacement) - 1) in
+      ap (λ (i : ℕ). front ++ (gapSets ++ listFrom stored (c .element + 1) i)) behind-count
+      ∙ regroup front gap (stored (c .element) ∷ []) tail
+      ∙ ap₂ (λ (l : List StateSet) (j : ℕ). l ++ (stored (c .element) ∷ listFrom stored j k))
+      (ap (λ (i : ℕ). front ++ listFrom stored i (length (c .replacement) - 1)) (sym (zero-add s))
+      ∙ sym (listFrom-add stored s (length (c .replacement) - 1) 0) ∙ ap (listFrom stored 0) (sym root-is))
+      (add-one (c .element))
     where
       regroup : (u v w z : List StateSet) → u ++ ((v ++ w) ++ z) ≡ (u ++ v) ++ (w ++ z)
       regroup u v w z = simp append-assoc
 
-  sets-words : flatten (movedSets a table stored used element xs gapSets)
-      ≡ take (root * size) marks ++ slice (element * size) (n * size) marks
+  sets-words : flatten sets
+      ≡ take (root * size) (c .marks) ++ slice (c .element * size) (c .count * size) (c .marks)
   sets-words =
-      ap flatten sets-are ∙ flatten-append (listFrom stored 0 root) (listFrom stored element (suc k))
+      ap flatten sets-are ∙ flatten-append (listFrom stored 0 root) (listFrom stored (c .element) (suc k))
       ∙ ap₂ (λ (l r : List ℕ). l ++ r) front-words tail-words
 
-  sets-sized : Sized size (movedSets a table stored used element xs gapSets)
+  sets-sized : Sized size sets
   sets-sized =
       let old = facts .old-fits in
       let new = facts .new-fits in
       let w = facts .new-words in
-      let all : element + suc k ≡ n = let i = facts .inside in omega arith in
+      let all : c .element + suc k ≡ c .count = let i = facts .inside in omega arith in
       rw sets-are
-      (sized-append size (listFrom stored 0 root) (listFrom stored element (suc k))
-      (sized-stored size marks root 0 (rw (zero-add root) (omega arith)))
-      (sized-stored size marks (suc k) element (rw all old)))
+      (sized-append size (listFrom stored 0 root) (listFrom stored (c .element) (suc k))
+      (sized-stored size (c .marks) root 0 (rw (zero-add root) (omega arith)))
+      (sized-stored size (c .marks) (suc k) (c .element) (rw all old)))
 
   -- the marks behind the move
-  pub moved-holds : (moved : List ℕ)
-      → moved ≡ refit (n * size) (take ((s + length xs - 1) * size) marks ++ slice (element * size) (n * size) marks) marks
-      → MarksHolding (sizeOf table) moved (movedSets a table stored used element xs gapSets)
-      (behindUse (n * size) ((s + length xs + k) * size) marks)
+  pub moved-holds : (moved : List ℕ) → moved ≡ movedMarks c (startIn c) (sizeOf (c .table))
+      → MarksHolding (sizeOf (c .table)) moved sets (behindUse (c .count * size) (totalCount c s * size) (c .marks))
   unfolding refit
   moved-holds moved q =
-      let words = take (root * size) marks ++ slice (element * size) (n * size) marks in
+      let words = take (root * size) (c .marks) ++ slice (c .element * size) (c .count * size) (c .marks) in
       let old = facts .old-words in
       let new = facts .new-words in
-      let l : length words ≡ (s + length xs + k) * size =
-      length-kept marks (n * size) (element * size) (root * size) (marks-movable a table chapter marks n element xs ok s refl size refl)
+      let l : length words ≡ totalCount c s * size =
+      length-kept (c .marks) (c .count * size) (c .element * size) (root * size) (marks-movable c ok s refl size refl)
       ∙ omega arith in
       record {
-        words = q ∙ ap₂ (λ (t : List ℕ) (i : ℕ). t ++ behindUse (n * size) i marks) (sym sets-words) l;
+        words = q ∙ ap₂ (λ (t : List ℕ) (i : ℕ). t ++ behindUse (c .count * size) i (c .marks)) (sym sets-words) l;
         sized = sets-sized;
       }

@@ -1,5 +1,6 @@
 // Exchange: one subtree of a marked chapter gives way to a replacement.
 ghost use mathlib.Core.Path.{_≡_};
+ghost use Rattle.operations.specs.ExchangeCall.{exchangeCall};
 ghost use Rattle.operations.specs.Exchange.{exchangeAnswer, exchangeChapter, exchangeMarks};
 ghost use Rattle.exchanger.specs.ExchangeAnswer.{answerInExchanged};
 use refusals::exchange::exchange_fault;
@@ -26,18 +27,21 @@ pub fn exchange(
 ) -> Exchanged
     ensures answer { λ r. ⌜
         answerInExchanged r
-        ≡ exchangeAnswer (now (alphabet .entry)) (now (table .entry)) (now (chapter .entry)) (now (marks .entry)) count element
-        (now (replacement .entry))
+        ≡ exchangeAnswer
+        (exchangeCall (now (alphabet .entry)) (now (table .entry)) (now (chapter .entry)) (now (marks .entry)) count element
+        (now (replacement .entry)))
         ⌝ }
     ensures chapter { λ _. ⌜
         now (chapter .exit)
-        ≡ exchangeChapter (now (alphabet .entry)) (now (table .entry)) (now (chapter .entry)) (now (marks .entry)) count element
-        (now (replacement .entry))
+        ≡ exchangeChapter
+        (exchangeCall (now (alphabet .entry)) (now (table .entry)) (now (chapter .entry)) (now (marks .entry)) count element
+        (now (replacement .entry)))
         ⌝ }
     ensures marks { λ _. ⌜
         now (marks .exit)
-        ≡ exchangeMarks (now (alphabet .entry)) (now (table .entry)) (now (chapter .entry)) (now (marks .entry)) count element
-        (now (replacement .entry))
+        ≡ exchangeMarks
+        (exchangeCall (now (alphabet .entry)) (now (table .entry)) (now (chapter .entry)) (now (marks .entry)) count element
+        (now (replacement .entry)))
         ⌝ }
 {
     let fault = exchange_fault(

@@ -6,6 +6,7 @@ ghost use Prim.Native.Nat.{_*_};
 ghost use lib.ListN.{length};
 ghost use Rattle.words.specs.Answer.{accepted};
 ghost use Rattle.operations.specs.Marks.{sizeOf, refit};
+ghost use Rattle.operations.specs.ExchangeCall.{exchangeCall};
 ghost use Rattle.operations.specs.Exchange.{setIn, recomputedIn, fault as Exchange·fault, newTree, outcomes};
 ghost use Rattle.exchanger.specs.ExchangeAnswer.{answerInExchanged};
 use super::Exchanged;
@@ -25,30 +26,30 @@ pub(crate) fn replace_subtree(
     element: usize,
     replacement: &[u32],
 ) -> Exchanged
-    requires { ⌜ Exchange·fault (now alphabet) (now table) (now chapter) (now marks) count element (now replacement) ≡ 0 ⌝ }
+    requires { ⌜ Exchange·fault (exchangeCall (now alphabet) (now table) (now chapter) (now marks) count element (now replacement)) ≡ 0 ⌝ }
     ensures answer { λ r. ⌜
         answerInExchanged r
         ≡ accepted
-        (length (newTree (now (alphabet .entry)) (now (table .entry)) (now (chapter .entry)) (now (marks .entry)) count element
-        (now (replacement .entry)))
+        (length (newTree (exchangeCall (now (alphabet .entry)) (now (table .entry)) (now (chapter .entry)) (now (marks .entry)) count element
+        (now (replacement .entry))))
         ∷ recomputedIn
-        (outcomes (now (alphabet .entry)) (now (table .entry)) (now (chapter .entry)) (now (marks .entry)) count element
-        (now (replacement .entry)))
+        (outcomes (exchangeCall (now (alphabet .entry)) (now (table .entry)) (now (chapter .entry)) (now (marks .entry)) count element
+        (now (replacement .entry))))
         ∷ [])
         ⌝ }
     ensures chapter { λ _. ⌜
         now (chapter .exit)
         ≡ refit count
-        (newTree (now (alphabet .entry)) (now (table .entry)) (now (chapter .entry)) (now (marks .entry)) count element
-        (now (replacement .entry)))
+        (newTree (exchangeCall (now (alphabet .entry)) (now (table .entry)) (now (chapter .entry)) (now (marks .entry)) count element
+        (now (replacement .entry))))
         (now (chapter .entry))
         ⌝ }
     ensures marks { λ _. ⌜
         now (marks .exit)
         ≡ refit (count * sizeOf (now (table .entry)))
         (flatten (map setIn
-        (outcomes (now (alphabet .entry)) (now (table .entry)) (now (chapter .entry)) (now (marks .entry)) count element
-        (now (replacement .entry)))))
+        (outcomes (exchangeCall (now (alphabet .entry)) (now (table .entry)) (now (chapter .entry)) (now (marks .entry)) count element
+        (now (replacement .entry))))))
         (now (marks .entry))
         ⌝ }
 {

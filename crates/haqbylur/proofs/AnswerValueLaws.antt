@@ -5,6 +5,7 @@ use Prim.Native.Nat.{ℕ, _^_, _<_}
 use Rattle.operations.specs.Compile.{compileAnswer}
 use Rattle.operations.specs.Run.{runAnswer}
 use Rattle.operations.specs.Listing.{listAnswer}
+use Rattle.operations.specs.ExchangeCall.{ExchangeCall}
 use Rattle.operations.specs.Exchange.{exchangeAnswer}
 use Rattle.operations.proofs.ValueLaws.{compile-value, run-values, list-value, exchange-values}
 use Rattle.compiler.specs.declared.Compiled.{Compiled}
@@ -30,6 +31,6 @@ pub list-small : (a table : List ℕ) (n : ℕ) (marks list : List ℕ) {k : ℕ
     → answerInListed r ≡ listAnswer a table n marks list → k < 2 ^ 32
 list-small a table n marks list r told answer = list-value a table n marks list (rw told at answer)
 
-pub exchange-small : (a table chapter marks : List ℕ) (n i : ℕ) (xs : List ℕ) {count worked : ℕ} (r : Exchanged) → r ≡ Replaced count worked
-    → answerInExchanged r ≡ exchangeAnswer a table chapter marks n i xs → (count < 2 ^ 32) × (worked < 2 ^ 32)
-exchange-small a table chapter marks n i xs r told answer = exchange-values a table chapter marks n i xs (rw told at answer)
+pub exchange-small : (c : ExchangeCall) {count worked : ℕ} (r : Exchanged) → r ≡ Replaced count worked
+    → answerInExchanged r ≡ exchangeAnswer c → (count < 2 ^ 32) × (worked < 2 ^ 32)
+exchange-small c r told answer = exchange-values c (rw told at answer)

@@ -5,6 +5,7 @@ ghost use mathlib.Core.Path.{_≡_};
 ghost use Rattle.operations.specs.Compile.{compileAnswer, compileExit};
 ghost use Rattle.operations.specs.Run.{runAnswer, runExit};
 ghost use Rattle.operations.specs.Listing.{listAnswer, listExit};
+ghost use Rattle.operations.specs.ExchangeCall.{exchangeCall};
 ghost use Rattle.operations.specs.Exchange.{exchangeAnswer, exchangeChapter, exchangeMarks};
 ghost use Rattle.haqbylur.specs.Status.{statusOf, valueOr};
 use compiler::Compiled;
@@ -128,31 +129,31 @@ pub extern "C" fn haqbylur_exchange(
     ensures status { λ r. ⌜
         r
         ≡ statusOf
-        (exchangeAnswer (now (alphabet .entry)) (now (table .entry)) (now (chapter .entry)) (now (marks .entry)) count element
-        (now (replacement .entry)))
+        (exchangeAnswer (exchangeCall (now (alphabet .entry)) (now (table .entry)) (now (chapter .entry)) (now (marks .entry)) count element
+        (now (replacement .entry))))
         ⌝ }
     ensures chapter { λ _. ⌜
         now (chapter .exit)
-        ≡ exchangeChapter (now (alphabet .entry)) (now (table .entry)) (now (chapter .entry)) (now (marks .entry)) count element
-        (now (replacement .entry))
+        ≡ exchangeChapter (exchangeCall (now (alphabet .entry)) (now (table .entry)) (now (chapter .entry)) (now (marks .entry)) count element
+        (now (replacement .entry)))
         ⌝ }
     ensures marks { λ _. ⌜
         now (marks .exit)
-        ≡ exchangeMarks (now (alphabet .entry)) (now (table .entry)) (now (chapter .entry)) (now (marks .entry)) count element
-        (now (replacement .entry))
+        ≡ exchangeMarks (exchangeCall (now (alphabet .entry)) (now (table .entry)) (now (chapter .entry)) (now (marks .entry)) count element
+        (now (replacement .entry)))
         ⌝ }
     ensures elements { λ _. ⌜
         now (elements .exit)
         ≡ valueOr
-        (exchangeAnswer (now (alphabet .entry)) (now (table .entry)) (now (chapter .entry)) (now (marks .entry)) count element
-        (now (replacement .entry)))
+        (exchangeAnswer (exchangeCall (now (alphabet .entry)) (now (table .entry)) (now (chapter .entry)) (now (marks .entry)) count element
+        (now (replacement .entry))))
         0 (now (elements .entry))
         ⌝ }
     ensures worked { λ _. ⌜
         now («worked_out» .exit)
         ≡ valueOr
-        (exchangeAnswer (now (alphabet .entry)) (now (table .entry)) (now (chapter .entry)) (now (marks .entry)) count element
-        (now (replacement .entry)))
+        (exchangeAnswer (exchangeCall (now (alphabet .entry)) (now (table .entry)) (now (chapter .entry)) (now (marks .entry)) count element
+        (now (replacement .entry))))
         1 (now («worked_out» .entry))
         ⌝ }
 {

@@ -7,6 +7,7 @@ use lib.ListN.{length, take, drop, length-append}
 use lib.Seq.{sets, length-sets, length-front, length-take-le}
 use lib.Dec.{ltb}
 use mathlib.Core.Bool.{true}
+use Rattle.report.specs.Stages.{bufferWords}
 use Rattle.words.proofs.TestLaws.{all-append}
 use Rattle.encoding.specs.Words.{areBytes, wordsIn}
 use Rattle.encoding.proofs.WordByteLaws.{kept-parts}
@@ -33,7 +34,7 @@ module _ (count : ℕ) (words₀ : List ℕ) where
 
   -- the next part, of which there are as many bytes as asked for
   pub so-far-more : (words : List ℕ) (seen : ℕ) → SoFar count words₀ words seen → seen < count
-      → (part words′ : List ℕ) (n : ℕ) → n ≡ 4 * min (count - seen) 1024 → n ≡ length part → words′ ≡ sets words seen (wordsIn part)
+      → (part words′ : List ℕ) (n : ℕ) → n ≡ 4 * min (count - seen) bufferWords → n ≡ length part → words′ ≡ sets words seen (wordsIn part)
       → areBytes part ≡ true
       → SoFar count words₀ words′ (seen + n / 4)
   so-far-more words seen s h part words′ n e l q b =

@@ -6,6 +6,7 @@ use Prim.Native.Nat.{ℕ, _≤_, min}
 use native.Mathlib.Omega.{arith}
 use lib.ListN.{length, getD, take, drop}
 use lib.Seq.{length-sets, take-all, length-take-le}
+use Rattle.report.specs.Stages.{alphabetKept, ruleKept, chapterKept, bufferLength}
 use Rattle.lines.specs.Line.{refusedLine}
 use Rattle.report.specs.Output.{outputOf}
 use lib.Dec.{ltb}
@@ -57,7 +58,7 @@ counts-are {before} {after} s e =
 -- ---- all parts
 
 module _ (counts₀ counts alphabet₀ alphabet rule₀ rule chapter₀ chapter : List ℕ)
-    (few : length counts₀ ≡ 3) (symbols : length alphabet₀ ≡ 65) (words : length rule₀ ≡ 65) (nodes : length chapter₀ ≡ 257)
+    (few : length counts₀ ≡ 3) (symbols : length alphabet₀ ≡ alphabetKept) (words : length rule₀ ≡ ruleKept) (nodes : length chapter₀ ≡ chapterKept)
     (c : Stored 3 counts₀ counts) (s : Stored (getD counts 0 0) alphabet₀ alphabet) (t : Stored (getD counts 1 0) rule₀ rule)
     (u : Stored (getD counts 2 0) chapter₀ chapter) where
   -- the bytes that were read
@@ -82,8 +83,8 @@ module _ (counts₀ counts alphabet₀ alphabet rule₀ rule chapter₀ chapter 
       ∙ ap (λ (x : List ℕ). wordsIn (t .bytes) ++ x) (sym (append-nil (wordsIn (u .bytes))))))
 
   pub all-printed : programOutput allBytes
-      ≡ outputOf true (take (min (getD counts 0 0) 65) alphabet) (take (min (getD counts 1 0) 65) rule)
-      (take (min (getD counts 2 0) 257) chapter)
+      ≡ outputOf true (take (min (getD counts 0 0) alphabetKept) alphabet) (take (min (getD counts 1 0) ruleKept) rule)
+      (take (min (getD counts 2 0) chapterKept) chapter)
   all-printed =
       program-complete allBytes (getD counts 0 0) (getD counts 1 0) (getD counts 2 0) (wordsIn (s .bytes)) (wordsIn (t .bytes))
       (wordsIn (u .bytes)) []
@@ -113,31 +114,31 @@ printed false a e ch before after r whole long same =
 -- ---- the whole function: four calls that read, and the report
 
 module _ {counts alphabet rule chapter : List ℕ} {b₁ b₂ b₃ b₄ : Bool}
-    (first : ReadAll true 3 (zeros 3) counts b₁) (second : ReadAll b₁ (getD counts 0 0) (zeros 65) alphabet b₂)
-    (third : ReadAll b₂ (getD counts 1 0) (zeros 65) rule b₃) (fourth : ReadAll b₃ (getD counts 2 0) (zeros 257) chapter b₄) where
+    (first : ReadAll true 3 (zeros 3) counts b₁) (second : ReadAll b₁ (getD counts 0 0) (zeros alphabetKept) alphabet b₂)
+    (third : ReadAll b₂ (getD counts 1 0) (zeros ruleKept) rule b₃) (fourth : ReadAll b₃ (getD counts 2 0) (zeros chapterKept) chapter b₄) where
   read-input : b₄ ≡ true → (input : List ℕ)
       × (areBytes input ≡ true)
       × (programOutput input
-      ≡ outputOf true (take (min (getD counts 0 0) 65) alphabet) (take (min (getD counts 1 0) 65) rule)
-      (take (min (getD counts 2 0) 257) chapter))
+      ≡ outputOf true (take (min (getD counts 0 0) alphabetKept) alphabet) (take (min (getD counts 1 0) ruleKept) rule)
+      (take (min (getD counts 2 0) chapterKept) chapter))
   read-input e =
       let u = fourth e in
       let t = third (u .0) in
       let s = second (t .0) in
       let c = first (s .0) in (
-        allBytes _ _ _ _ _ _ _ _ (many 3) (many 65) (many 65) (many 257) (c .1) (s .1) (t .1) (u .1),
-        all-bytes _ _ _ _ _ _ _ _ (many 3) (many 65) (many 65) (many 257) (c .1) (s .1) (t .1) (u .1),
-        all-printed _ _ _ _ _ _ _ _ (many 3) (many 65) (many 65) (many 257) (c .1) (s .1) (t .1) (u .1),
+        allBytes _ _ _ _ _ _ _ _ (many 3) (many alphabetKept) (many ruleKept) (many chapterKept) (c .1) (s .1) (t .1) (u .1),
+        all-bytes _ _ _ _ _ _ _ _ (many 3) (many alphabetKept) (many ruleKept) (many chapterKept) (c .1) (s .1) (t .1) (u .1),
+        all-printed _ _ _ _ _ _ _ _ (many 3) (many alphabetKept) (many ruleKept) (many chapterKept) (c .1) (s .1) (t .1) (u .1),
       )
 
-  pub answered : {n m k r : ℕ} {out₀ out : List ℕ} → n ≡ min (getD counts 0 0) 65 → m ≡ min (getD counts 1 0) 65
-      → k ≡ min (getD counts 2 0) 257
+  pub answered : {n m k r : ℕ} {out₀ out : List ℕ} → n ≡ min (getD counts 0 0) alphabetKept → m ≡ min (getD counts 1 0) ruleKept
+      → k ≡ min (getD counts 2 0) chapterKept
       → r ≡ length (outputOf b₄ (take n alphabet) (take m rule) (take k chapter))
       → out ≡ outputOf b₄ (take n alphabet) (take m rule) (take k chapter) ++ drop r out₀ → Printed out₀ out r
   answered x y z long same = printed b₄ _ _ _ _ _ _ (λ e. rw (x, y, z) (read-input e)) long same
 
 -- it fits a buffer of 4,096 bytes
-pub printed-short : {before after : List ℕ} {r : ℕ} → Printed before after r → r ≤ 4096
+pub printed-short : {before after : List ℕ} {r : ℕ} → Printed before after r → r ≤ bufferLength
 unfolding programOutput
 printed-short p =
     let l = p .long in

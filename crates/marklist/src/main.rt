@@ -2,14 +2,25 @@
 // (document 01, "The source's own example"). What the bytes mean and what is printed stands in the crate `report`.
 ghost use Prim.Native.Nat.{_≤_};
 ghost use lib.ListN.{length};
+ghost use Rattle.report.specs.Stages.{bufferLength};
 ghost use Rattle.marklist.specs.InputReading.{ReadAll, Printed};
 use encoding::word_bytes::WORD_BYTES;
 use encoding::word_bytes::keep_words;
 use libc::STDIN_FILENO;
 use libc::STDOUT_FILENO;
+use report::CHAPTER_MOST;
 use report::input::kept_words;
 use report::input::part_bytes;
 use report::report;
+use words::limits::ALPHABET_MOST;
+use words::limits::EXPRESSION_MOST;
+
+// How many words are kept of each slice: one more than the most that is accepted. What follows makes no difference.
+const ALPHABET_KEPT: usize = ALPHABET_MOST + 1;
+
+const RULE_KEPT: usize = EXPRESSION_MOST + 1;
+
+const CHAPTER_KEPT: usize = CHAPTER_MOST + 1;
 
 // Reads the next `count` words, keeps as many as the slice has room for, and answers whether all were there. It asks for
 // no byte behind them, and for none where `complete` says that the input has ended before.
@@ -33,16 +44,15 @@ fn read_words(complete: bool, count: u32, words: &mut [u32]) -> bool
     true
 }
 
-// Reads the input, writes what is to be printed of it, and answers how many bytes that is. Each slice of words has room for
-// one more than the most that is accepted: what follows makes no difference.
+// Reads the input, writes what is to be printed of it, and answers how many bytes that is.
 fn answer_input(out: &mut [u8]) -> usize
-    requires { ⌜ 4096 ≤ length (now out) ⌝ }
+    requires { ⌜ bufferLength ≤ length (now out) ⌝ }
     ensures { λ r. ⌜ Printed (now (out .entry)) (now (out .exit)) r ⌝ }
 {
     let mut counts = [0u32; 3];
-    let mut alphabet = [0u32; 65];
-    let mut rule = [0u32; 65];
-    let mut chapter = [0u32; 257];
+    let mut alphabet = [0u32; ALPHABET_KEPT];
+    let mut rule = [0u32; RULE_KEPT];
+    let mut chapter = [0u32; CHAPTER_KEPT];
     let mut complete = read_words(true, 3, &mut counts);
     let symbols = counts[0];
     let words = counts[1];
@@ -52,9 +62,9 @@ fn answer_input(out: &mut [u8]) -> usize
     complete = read_words(complete, nodes, &mut chapter);
     report(
         complete,
-        &alphabet[..kept_words(symbols, 65)],
-        &rule[..kept_words(words, 65)],
-        &chapter[..kept_words(nodes, 257)],
+        &alphabet[..kept_words(symbols, ALPHABET_KEPT)],
+        &rule[..kept_words(words, RULE_KEPT)],
+        &chapter[..kept_words(nodes, CHAPTER_KEPT)],
         out,
     )
 }

@@ -15,17 +15,17 @@ use Rattle.words.specs.Answer.{refused, accepted}
 use Rattle.operations.specs.Marks.{sizeOf, nodeSet, nodeSets, storedSet}
 use Rattle.operations.specs.Run.{runFault, runMarks, cellsIn, runAnswer, runExit}
 use Rattle.nodes.proofs.LoopLaws.{Recomputing}
+use Rattle.operations.proofs.AcceptedLaws.{run-accepted}
 use Rattle.operations.proofs.RunLaws.{run-writes, run-length}
 use Rattle.sets.specs.Size.{marksMost}
 use Rattle.sets.proofs.StoredLaws.{words-few}
 use Rattle.nodes.specs.Nodes.{markedFrom, Workable}
 use Rattle.nodes.proofs.WorkedLaws.{workedFrom, worked-is}
 use Rattle.nodes.proofs.MarkLaws.{holding-stored, markedFrom-rows}
-use Rattle.nodes.proofs.WorkableLaws.{workable-size}
+use Rattle.nodes.proofs.WorkableLaws.{workable-size, run-workable}
 use Rattle.propagation.specs.Propagation.{propagateFrom}
 use Rattle.updates.specs.Updating.{updatedFrom, Updatable}
 use Rattle.refusals.proofs.AnswerLaws.{answer-refused, answer-accepted, exit-refused, exit-accepted}
-use Rattle.matcher.proofs.AcceptedCallLaws.{run-workable}
 
 -- ---- all nodes
 
@@ -64,7 +64,7 @@ marked-run a table ch marks h =
 
 module _ (a table ch marks : List ℕ) (h : runFault a table ch (length marks) ≡ 0) where
   pub workable : Workable a table ch (length marks)
-  workable = run-workable a table ch (length marks) h
+  workable = run-workable (run-accepted a table ch (length marks) h)
 
   module _ (marks′ : List ℕ) (count : ℕ) (e : (marks′, count) ≡ updatedFrom a table ch 0 (length ch) marks) where
     pub run-left : marks′ ≡ runMarks a table ch marks

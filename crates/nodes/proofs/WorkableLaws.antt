@@ -6,23 +6,28 @@ use Prim.Native.Nat.{ℕ, suc, _<_, _≤_}
 use native.Mathlib.Omega.{arith}
 use lib.ListN.{length, getD, take, drop}
 use lib.Seq.{split-at}
+use Rattle.words.specs.Limits.{tableMost}
 use Rattle.words.specs.Alphabet.{rankOf}
 use Rattle.words.specs.Lists.{all}
 use Rattle.words.specs.Chapter.{symbolOf, isNode}
 use Rattle.words.specs.Postfix.{arity}
 use Rattle.words.proofs.TestLaws.{and-true, all-right}
 use Rattle.words.proofs.WordLaws.{isNode-facts}
+use Rattle.words.proofs.AcceptedAlphabet.{alphabet-accepted}
+use Rattle.words.proofs.AcceptedTree.{tree-accepted}
 use Rattle.automaton.proofs.TableLaws.{isTable-tables, isTable-sizes}
 use Rattle.operations.specs.Marks.{sizeOf}
+use Rattle.operations.proofs.AcceptedLaws.{RunAccepted}
+use Rattle.sets.specs.Size.{setMost}
 use Rattle.nodes.specs.Nodes.{BoundedTree, Workable}
 
--- a state set has at most 32 words
-pub workable-size : {a table ch : List ℕ} {marksLength : ℕ} → Workable a table ch marksLength → sizeOf table ≤ 32
+-- no state set has more words than there may be
+pub workable-size : {a table ch : List ℕ} {marksLength : ℕ} → Workable a table ch marksLength → sizeOf table ≤ setMost
 unfolding sizeOf
 workable-size {a} {table} g = isTable-sizes a table (g .checked) .size-most
 
--- a table has at most 2,048 words
-pub table-few : {a table ch : List ℕ} {marksLength : ℕ} → Workable a table ch marksLength → length table ≤ 2048
+-- and no table
+pub table-few : {a table ch : List ℕ} {marksLength : ℕ} → Workable a table ch marksLength → length table ≤ tableMost
 table-few {a} {table} g = isTable-tables a (omega (arith, g .alphabet)) table .0 (g .checked) .fits
 
 node-word : (a ch : List ℕ) (i : ℕ) → all (isNode a) ch ≡ true → i < length ch → isNode a (getD ch i 0) ≡ true
@@ -38,3 +43,16 @@ node-arity {a} {ch} g i l = isNode-facts a (getD ch i 0) (node-word a ch i (g .n
 -- marks of the same length serve as well
 pub workable-long : {a table ch : List ℕ} {m n : ℕ} → n ≡ m → Workable a table ch m → Workable a table ch n
 workable-long e w = rw e w
+
+-- what Run accepts is workable
+pub run-workable : {a table ch : List ℕ} {marksLength : ℕ} → RunAccepted a table ch marksLength → Workable a table ch marksLength
+run-workable {a} {ch = ch} g =
+    let alphabet = alphabet-accepted a (g .checked .alphabet) in
+    let tree = tree-accepted a ch (g .marked .tree) in
+    record {
+      alphabet = alphabet .few;
+      ranks = alphabet .ranks;
+      checked = g .checked .automaton;
+      tree = record { nodes = tree .nodes; tree = tree .shape; few = g .counted .few };
+      marks-fit = g .marked .marks;
+    }

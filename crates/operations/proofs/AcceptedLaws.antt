@@ -1,29 +1,33 @@
--- What is known of a call that is not refused: for each operation one record, a field for each number, and for Run and List
--- back.
-use mathlib.Core.Path.{_≡_, refl}
+-- What is known of a call that is not refused. A part that lists of refusals share has one record, and an operation's record is made
+-- of those of its parts and of what is its own; what 1 and 2, 3 to 5, and 10 and 11 say is in words (AcceptedAlphabet,
+-- AcceptedExpression, AcceptedTree).
+use mathlib.Core.Path.{_≡_, refl, _∙_}
 use mathlib.Core.Bool.{true, false, not, _&&_, _||_}
-use mathlib.Core.List.{List, [], _∷_}
+use mathlib.Core.List.{List, [], _∷_, _++_}
 use Prim.Native.Nat.{ℕ, _*_, _≤_, _<_}
 use native.Mathlib.Omega.{arith}
 use lib.ListN.{length}
 use lib.Dec.{ltb, eqb}
 use borrow.Author.Tests.{eqb-true, eqb-false, ne-eqb, ltb-true, ltb-false, le-ltb, not-false}
 use Rattle.words.specs.Lists.{all}
-use Rattle.words.specs.Refusal.{refusal}
-use Rattle.words.specs.Alphabet.{noAlphabet, wrongConstants, alphabetRefusals, alphabetFault}
-use Rattle.words.specs.ExpressionWords.{wrongLength, notExpressionWords, expressionRefusals, expressionFault}
-use Rattle.words.specs.Chapter.{isNode, notNodes}
-use Rattle.words.specs.Postfix.{oneTree, notOneTree, splice}
+use Rattle.words.specs.Limits.{statesMost, nodesMost}
+use Rattle.words.specs.Refusal.{Refusals, refusal}
+use Rattle.words.specs.Alphabet.{alphabetRefusals, alphabetFault}
+use Rattle.words.specs.ExpressionWords.{expressionRefusals, expressionFault}
+use Rattle.words.specs.Chapter.{isNode, treeRefusals, treeFault}
+use Rattle.words.specs.Postfix.{oneTree, splice}
 use Rattle.words.proofs.TestLaws.{Tested, holds, fails, tested, and-true, or-false, false-or}
-use Rattle.words.proofs.RefusalLaws.{none-refusal, conditionOf, none-applies, parts-pass}
+use Rattle.words.proofs.RefusalLaws.{conditionOf, none-applies, parts-pass, first-passes}
+use Rattle.words.proofs.AcceptedTree.{AcceptedTree}
 use Rattle.automaton.specs.Table.{isTable, noTable}
 use Rattle.automaton.specs.Numbering.{compiled}
 use Rattle.words.specs.Answer.{refused, accepted, answerOf}
 use Rattle.operations.specs.Compile.{compiledTable, tooManyStates, tableTooLong, ruleRefusals, compileFault}
 use Rattle.operations.specs.Marks.{sizeOf}
-use Rattle.operations.specs.Run.{wrongCount, marksTooShort, runRefusals, runFault}
-use Rattle.operations.specs.Listing.{listTooShort, listRefusals, listFault}
-use Rattle.operations.specs.Exchange.{wrongUsedCount, noElement, noReplacement, resultTooLong, exchangeRefusals, exchangeFault}
+use Rattle.operations.specs.Run.{wrongCount, marksTooShort, tableRefusals, markedRefusals, runFault}
+use Rattle.operations.specs.Listing.{listTooShort, listFault}
+use Rattle.operations.specs.ExchangeCall.{ExchangeCall}
+use Rattle.operations.specs.Exchange.{wrongUsedCount, noElement, noReplacement, resultTooLong, changeRefusals, exchangeFault, used, fault}
 
 -- an accepted answer is that of a call without a refusal, and has its values
 pub accepted-values : (f : ℕ) (vs us : List ℕ) → answerOf f vs ≡ accepted us → (f ≡ 0) × (vs ≡ us)
@@ -33,134 +37,27 @@ accepted-values f vs us h = go (tested (eqb f 0))
     go (holds b) = let e : accepted vs ≡ accepted us = rw b at h in (eqb-true f 0 b, cc)
     go (fails b) = absurd (let e : refused f ≡ accepted us = rw b at h in let z : _≡_ {A = ℕ} 0 1 = cc in omega arith)
 
--- ---- each condition
+-- ---- an alphabet and a rule
 
--- 8
-pub table-right : (a table : List ℕ) → noTable a table ≡ false → isTable a table ≡ true
-unfolding noTable
-table-right a table h = not-false (isTable a table) h
-
--- 9
-pub record ElementCount (n : ℕ) : Type 0 where
-  pub some : 0 < n
-  pub few : n ≤ 4096
-
-pub count-right : (n : ℕ) → wrongCount n ≡ false → ElementCount n
-unfolding wrongCount
-count-right n h =
-    let p = or-false (eqb n 0) (ltb 4096 n) h in
-    let z = eqb-false n 0 (p .0) in
-    record { some = omega arith; few = ltb-false 4096 n (p .1) }
-
-pub right-count : (n : ℕ) → ElementCount n → wrongCount n ≡ false
-unfolding wrongCount
-right-count n c = let s = c .some in false-or (eqb n 0) (ltb 4096 n) (ne-eqb n 0 (omega arith)) (le-ltb 4096 n (c .few))
-
--- 9 of Exchange
-pub record Used (n chapterLength : ℕ) : Type 0 where
-  pub counted : ElementCount n
-  pub within : n ≤ chapterLength
-
-pub used-count-right : (n chapterLength : ℕ) → wrongUsedCount n chapterLength ≡ false → Used n chapterLength
-unfolding wrongUsedCount
-used-count-right n chapterLength h =
-    let p = or-false (wrongCount n) (ltb chapterLength n) h in
-    record { counted = count-right n (p .0); within = ltb-false chapterLength n (p .1) }
-
--- 10 and 11
-pub nodes-right : (a ch : List ℕ) → notNodes a ch ≡ false → all (isNode a) ch ≡ true
-unfolding notNodes
-nodes-right a ch h = not-false (all (isNode a) ch) h
-
-pub right-nodes : (a ch : List ℕ) → all (isNode a) ch ≡ true → notNodes a ch ≡ false
-unfolding notNodes
-right-nodes a ch h = rw h
-
-pub tree-right : (a ch : List ℕ) → notOneTree a ch ≡ false → oneTree a ch ≡ true
-unfolding notOneTree
-tree-right a ch h = not-false (oneTree a ch) h
-
-pub right-tree : (a ch : List ℕ) → oneTree a ch ≡ true → notOneTree a ch ≡ false
-unfolding notOneTree
-right-tree a ch h = rw h
-
--- 12
-pub marks-fit : (table : List ℕ) (n marksLength : ℕ) → marksTooShort table n marksLength ≡ false → n * sizeOf table ≤ marksLength
-unfolding marksTooShort
-marks-fit table n marksLength h = ltb-false marksLength (n * sizeOf table) h
-
-pub fit-marks : (table : List ℕ) (n marksLength : ℕ) → n * sizeOf table ≤ marksLength → marksTooShort table n marksLength ≡ false
-unfolding marksTooShort
-fit-marks table n marksLength h = le-ltb marksLength (n * sizeOf table) h
-
--- 15
-pub record Replacement (a xs : List ℕ) : Type 0 where
-  pub counted : ElementCount (length xs)
-  pub nodes : all (isNode a) xs ≡ true
-  pub tree : oneTree a xs ≡ true
-
-pub replacement-right : (a xs : List ℕ) → noReplacement a xs ≡ false → Replacement a xs
-unfolding noReplacement
-replacement-right a xs h =
-    let p = or-false (wrongCount (length xs)) (not (all (isNode a) xs && oneTree a xs)) h in
-    let r = and-true (all (isNode a) xs) (oneTree a xs) (not-false (all (isNode a) xs && oneTree a xs) (p .1)) in
-    record { counted = count-right (length xs) (p .0); nodes = r .0; tree = r .1 }
-
--- 16
-pub record ResultFits (table : List ℕ) (n chapterLength marksLength : ℕ) : Type 0 where
-  pub few : n ≤ 4096
-  pub elements : n ≤ chapterLength
-  pub marks : n * sizeOf table ≤ marksLength
-
-pub result-right : (table : List ℕ) (n chapterLength marksLength : ℕ) → resultTooLong table n chapterLength marksLength ≡ false
-    → ResultFits table n chapterLength marksLength
-unfolding resultTooLong
-result-right table n chapterLength marksLength h =
-    let p = or-false (ltb 4096 n || ltb chapterLength n) (marksTooShort table n marksLength) h in
-    let q = or-false (ltb 4096 n) (ltb chapterLength n) (p .0) in
-    record {
-      few = ltb-false 4096 n (q .0);
-      elements = ltb-false chapterLength n (q .1);
-      marks = marks-fit table n marksLength (p .1);
-    }
-
--- ---- Compile
-
--- an alphabet and a rule
 pub record RuleAccepted (a e : List ℕ) : Type 0 where
-  -- 1
-  pub alphabet : noAlphabet a ≡ false
-  -- 2
-  pub constants : wrongConstants a ≡ false
-  -- 3
-  pub few : wrongLength e ≡ false
-  -- 4
-  pub words : notExpressionWords a e ≡ false
-  -- 5
-  pub tree : notOneTree a e ≡ false
+  -- 1 2
+  pub alphabet : alphabetFault a ≡ 0
+  -- 3 4 5
+  pub expression : expressionFault a e ≡ 0
   -- 6
-  pub states : compiled a e .states ≤ 1024
+  pub states : compiled a e .states ≤ statesMost
 
 pub rule-accepted : (a e : List ℕ) → refusal (ruleRefusals a e) ≡ 0 → RuleAccepted a e
 unfolding tooManyStates
 rule-accepted a e h =
-    let not-so : (n : ℕ) → conditionOf n (ruleRefusals a e) ≡ false = none-applies (ruleRefusals a e) refl h in
+    let six : Refusals = (6, tooManyStates a e) ∷ [] in
+    let p = parts-pass (alphabetRefusals a) (expressionRefusals a e ++ six) refl h in
+    let q = parts-pass (expressionRefusals a e) six refl (p .1) in
     record {
-      alphabet = not-so 1;
-      constants = not-so 2;
-      few = not-so 3;
-      words = not-so 4;
-      tree = not-so 5;
-      states = ltb-false 1024 (compiled a e .states) (not-so 6);
+      alphabet = p .0;
+      expression = q .0;
+      states = ltb-false statesMost (compiled a e .states) (none-applies six refl (q .1) 6);
     }
-
--- what 1 and 2, and 3 to 5, say together
-module _ {a e : List ℕ} (g : RuleAccepted a e) where
-  pub rule-alphabet : alphabetFault a ≡ 0
-  rule-alphabet = none-refusal (alphabetRefusals a) (g .alphabet, (g .constants, tt))
-
-  pub rule-expression : expressionFault a e ≡ 0
-  rule-expression = none-refusal (expressionRefusals a e) (g .few, (g .words, (g .tree, tt)))
 
 -- `tableLength` is the length of the table slice
 pub record CompileAccepted (a e : List ℕ) (tableLength : ℕ) : Type 0 where
@@ -172,66 +69,181 @@ pub record CompileAccepted (a e : List ℕ) (tableLength : ℕ) : Type 0 where
 pub compile-accepted : (a e : List ℕ) (tableLength : ℕ) → compileFault a e tableLength ≡ 0 → CompileAccepted a e tableLength
 unfolding tableTooLong
 compile-accepted a e tableLength h =
-    let p = parts-pass (ruleRefusals a e) ((7, tableTooLong a e tableLength) ∷ []) refl h in
+    let seven : Refusals = (7, tableTooLong a e tableLength) ∷ [] in
+    let p = parts-pass (ruleRefusals a e) seven refl h in
     record {
       rule = rule-accepted a e (p .0);
-      fits = ltb-false tableLength (length (compiledTable a e)) (none-applies ((7, tableTooLong a e tableLength) ∷ []) refl (p .1) 7);
+      fits = ltb-false tableLength (length (compiledTable a e)) (none-applies seven refl (p .1) 7);
+    }
+
+-- ---- an alphabet and a table
+
+pub record TableAccepted (a table : List ℕ) : Type 0 where
+  -- 1 2
+  pub alphabet : alphabetFault a ≡ 0
+  -- 8
+  pub automaton : isTable a table ≡ true
+
+module _ (a table : List ℕ) where
+  pub table-accepted : refusal (tableRefusals a table) ≡ 0 → TableAccepted a table
+  unfolding noTable
+  table-accepted h =
+      let eight : Refusals = (8, noTable a table) ∷ [] in
+      let p = parts-pass (alphabetRefusals a) eight refl h in
+      record { alphabet = p .0; automaton = not-false (isTable a table) (none-applies eight refl (p .1) 8) }
+
+  pub accepted-table : TableAccepted a table → refusal (tableRefusals a table) ≡ 0
+  unfolding noTable
+  accepted-table g = first-passes (alphabetRefusals a) ((8, noTable a table) ∷ []) refl (g .alphabet) ∙ rw (g .automaton)
+
+-- ---- how many elements there are
+
+-- 9
+pub record ElementCount (n : ℕ) : Type 0 where
+  pub some : 0 < n
+  pub few : n ≤ nodesMost
+
+pub count-right : (n : ℕ) → wrongCount n ≡ false → ElementCount n
+unfolding wrongCount
+count-right n h =
+    let p = or-false (eqb n 0) (ltb nodesMost n) h in
+    let z = eqb-false n 0 (p .0) in
+    record { some = omega arith; few = ltb-false nodesMost n (p .1) }
+
+pub right-count : (n : ℕ) → ElementCount n → wrongCount n ≡ false
+unfolding wrongCount
+right-count n c = let s = c .some in false-or (eqb n 0) (ltb nodesMost n) (ne-eqb n 0 (omega arith)) (le-ltb nodesMost n (c .few))
+
+-- 9 of Exchange
+pub record UsedCount (n chapterLength : ℕ) : Type 0 where
+  pub counted : ElementCount n
+  pub within : n ≤ chapterLength
+
+pub used-count-right : (n chapterLength : ℕ) → wrongUsedCount n chapterLength ≡ false → UsedCount n chapterLength
+unfolding wrongUsedCount
+used-count-right n chapterLength h =
+    let p = or-false (wrongCount n) (ltb chapterLength n) h in
+    record { counted = count-right n (p .0); within = ltb-false chapterLength n (p .1) }
+
+-- ---- a chapter and its marks
+
+module _ (table : List ℕ) (n marksLength : ℕ) where
+  marks-fit : marksTooShort table n marksLength ≡ false → n * sizeOf table ≤ marksLength
+  unfolding marksTooShort
+  marks-fit h = ltb-false marksLength (n * sizeOf table) h
+
+  fit-marks : n * sizeOf table ≤ marksLength → marksTooShort table n marksLength ≡ false
+  unfolding marksTooShort
+  fit-marks h = le-ltb marksLength (n * sizeOf table) h
+
+pub record MarkedAccepted (a table : List ℕ) (n : ℕ) (ch : List ℕ) (marksLength : ℕ) : Type 0 where
+  -- 10 11
+  pub tree : treeFault a ch ≡ 0
+  -- 12
+  pub marks : n * sizeOf table ≤ marksLength
+
+module _ (a table : List ℕ) (n : ℕ) (ch : List ℕ) (marksLength : ℕ) where
+  abbrev twelve : Refusals
+  twelve = (12, marksTooShort table n marksLength) ∷ []
+
+  pub marked-accepted : refusal (markedRefusals a table n ch marksLength) ≡ 0 → MarkedAccepted a table n ch marksLength
+  marked-accepted h =
+      let p = parts-pass (treeRefusals a ch) twelve refl h in
+      record { tree = p .0; marks = marks-fit table n marksLength (none-applies twelve refl (p .1) 12) }
+
+  pub accepted-marked : MarkedAccepted a table n ch marksLength → refusal (markedRefusals a table n ch marksLength) ≡ 0
+  accepted-marked g = first-passes (treeRefusals a ch) twelve refl (g .tree) ∙ rw (fit-marks table n marksLength (g .marks))
+
+-- ---- a change
+
+-- 15
+pub record Replacement (a xs : List ℕ) : Type 0 where
+  pub counted : ElementCount (length xs)
+  pub tree : AcceptedTree a xs
+
+pub replacement-right : (a xs : List ℕ) → noReplacement a xs ≡ false → Replacement a xs
+unfolding noReplacement
+replacement-right a xs h =
+    let p = or-false (wrongCount (length xs)) (not (all (isNode a) xs && oneTree a xs)) h in
+    let r = and-true (all (isNode a) xs) (oneTree a xs) (not-false (all (isNode a) xs && oneTree a xs) (p .1)) in
+    record { counted = count-right (length xs) (p .0); tree = record { nodes = r .0; shape = r .1 } }
+
+-- 16
+pub record ResultFits (table : List ℕ) (n chapterLength marksLength : ℕ) : Type 0 where
+  pub few : n ≤ nodesMost
+  pub elements : n ≤ chapterLength
+  pub marks : n * sizeOf table ≤ marksLength
+
+result-right : (table : List ℕ) (n chapterLength marksLength : ℕ) → resultTooLong table n chapterLength marksLength ≡ false
+    → ResultFits table n chapterLength marksLength
+unfolding resultTooLong
+result-right table n chapterLength marksLength h =
+    let p = or-false (ltb nodesMost n || ltb chapterLength n) (marksTooShort table n marksLength) h in
+    let q = or-false (ltb nodesMost n) (ltb chapterLength n) (p .0) in
+    record {
+      few = ltb-false nodesMost n (q .0);
+      elements = ltb-false chapterLength n (q .1);
+      marks = marks-fit table n marksLength (p .1);
+    }
+
+pub record ChangeAccepted (a table : List ℕ) (n : ℕ) (used : List ℕ) (chapterLength marksLength i : ℕ) (xs : List ℕ) : Type 0 where
+  -- 14
+  pub element : i < n
+  -- 15
+  pub replacement : Replacement a xs
+  -- 16
+  pub fits : ResultFits table (length (splice a used i xs)) chapterLength marksLength
+
+change-accepted : (a table : List ℕ) (n : ℕ) (used : List ℕ) (chapterLength marksLength i : ℕ) (xs : List ℕ)
+    → refusal (changeRefusals a table n used chapterLength marksLength i xs) ≡ 0
+    → ChangeAccepted a table n used chapterLength marksLength i xs
+unfolding noElement
+change-accepted a table n used chapterLength marksLength i xs h =
+    let rs = changeRefusals a table n used chapterLength marksLength i xs in
+    let not-so : (k : ℕ) → conditionOf k rs ≡ false = none-applies rs refl h in
+    record {
+      element = ltb-true i n (not-false (ltb i n) (not-so 14));
+      replacement = replacement-right a xs (not-so 15);
+      fits = result-right table (length (splice a used i xs)) chapterLength marksLength (not-so 16);
     }
 
 -- ---- Run
 
 pub record RunAccepted (a table p : List ℕ) (marksLength : ℕ) : Type 0 where
-  -- 1
-  pub alphabet : noAlphabet a ≡ false
-  -- 2
-  pub constants : wrongConstants a ≡ false
-  -- 8
-  pub automaton : noTable a table ≡ false
+  -- 1 2 8
+  pub checked : TableAccepted a table
   -- 9
   pub counted : ElementCount (length p)
-  -- 10
-  pub nodes : all (isNode a) p ≡ true
-  -- 11
-  pub tree : oneTree a p ≡ true
-  -- 12
-  pub marks : length p * sizeOf table ≤ marksLength
+  -- 10 11 12
+  pub marked : MarkedAccepted a table (length p) p marksLength
 
 module _ (a table p : List ℕ) (marksLength : ℕ) where
+  abbrev nine : Refusals
+  nine = (9, wrongCount (length p)) ∷ []
+
+  abbrev marked : Refusals
+  marked = markedRefusals a table (length p) p marksLength
+
   pub run-accepted : runFault a table p marksLength ≡ 0 → RunAccepted a table p marksLength
   run-accepted h =
-      let rs = runRefusals a table p marksLength in
-      let not-so : (n : ℕ) → conditionOf n rs ≡ false = none-applies rs refl h in
+      let first = parts-pass (tableRefusals a table) (nine ++ marked) refl h in
+      let rest = parts-pass nine marked refl (first .1) in
       record {
-        alphabet = not-so 1;
-        constants = not-so 2;
-        automaton = not-so 8;
-        counted = count-right (length p) (not-so 9);
-        nodes = nodes-right a p (not-so 10);
-        tree = tree-right a p (not-so 11);
-        marks = marks-fit table (length p) marksLength (not-so 12);
+        checked = table-accepted a table (first .0);
+        counted = count-right (length p) (none-applies nine refl (rest .0) 9);
+        marked = marked-accepted a table (length p) p marksLength (rest .1);
       }
 
   pub accepted-run : RunAccepted a table p marksLength → runFault a table p marksLength ≡ 0
   accepted-run g =
-      rw (
-        g .alphabet,
-        g .constants,
-        g .automaton,
-        right-count (length p) (g .counted),
-        right-nodes a p (g .nodes),
-        right-tree a p (g .tree),
-        fit-marks table (length p) marksLength (g .marks),
-      )
+      first-passes (tableRefusals a table) (nine ++ marked) refl (accepted-table a table (g .checked))
+      ∙ rw (right-count (length p) (g .counted)) (accepted-marked a table (length p) p marksLength (g .marked))
 
 -- ---- List
 
 pub record ListAccepted (a table : List ℕ) (n marksLength listLength : ℕ) : Type 0 where
-  -- 1
-  pub alphabet : noAlphabet a ≡ false
-  -- 2
-  pub constants : wrongConstants a ≡ false
-  -- 8
-  pub automaton : noTable a table ≡ false
+  -- 1 2 8
+  pub checked : TableAccepted a table
   -- 9
   pub counted : ElementCount n
   -- 12
@@ -240,15 +252,16 @@ pub record ListAccepted (a table : List ℕ) (n marksLength listLength : ℕ) : 
   pub list : n ≤ listLength
 
 module _ (a table : List ℕ) (n marksLength listLength : ℕ) where
+  abbrev own : Refusals
+  own = (9, wrongCount n) ∷ (12, marksTooShort table n marksLength) ∷ (13, listTooShort n listLength) ∷ []
+
   pub list-accepted : listFault a table n marksLength listLength ≡ 0 → ListAccepted a table n marksLength listLength
   unfolding listTooShort
   list-accepted h =
-      let rs = listRefusals a table n marksLength listLength in
-      let not-so : (k : ℕ) → conditionOf k rs ≡ false = none-applies rs refl h in
+      let p = parts-pass (tableRefusals a table) own refl h in
+      let not-so : (k : ℕ) → conditionOf k own ≡ false = none-applies own refl (p .1) in
       record {
-        alphabet = not-so 1;
-        constants = not-so 2;
-        automaton = not-so 8;
+        checked = table-accepted a table (p .0);
         counted = count-right n (not-so 9);
         marks = marks-fit table n marksLength (not-so 12);
         list = ltb-false listLength n (not-so 13);
@@ -257,58 +270,44 @@ module _ (a table : List ℕ) (n marksLength listLength : ℕ) where
   pub accepted-list : ListAccepted a table n marksLength listLength → listFault a table n marksLength listLength ≡ 0
   unfolding listTooShort
   accepted-list g =
-      rw (
-        g .alphabet,
-        g .constants,
-        g .automaton,
-        right-count n (g .counted),
-        fit-marks table n marksLength (g .marks),
-        le-ltb listLength n (g .list),
-      )
+      first-passes (tableRefusals a table) own refl (accepted-table a table (g .checked))
+      ∙ rw (right-count n (g .counted), fit-marks table n marksLength (g .marks), le-ltb listLength n (g .list))
 
 -- ---- Exchange
 
 pub record ExchangeAccepted (a table : List ℕ) (n : ℕ) (used : List ℕ) (chapterLength marksLength i : ℕ) (xs : List ℕ) : Type 0 where
-  -- 1
-  pub alphabet : noAlphabet a ≡ false
-  -- 2
-  pub constants : wrongConstants a ≡ false
-  -- 8
-  pub automaton : noTable a table ≡ false
+  -- 1 2 8
+  pub checked : TableAccepted a table
   -- 9
-  pub counted : ElementCount n
-  pub within : n ≤ chapterLength
-  -- 10
-  pub nodes : all (isNode a) used ≡ true
-  -- 11
-  pub tree : oneTree a used ≡ true
-  -- 12
-  pub marks : n * sizeOf table ≤ marksLength
-  -- 14
-  pub element : i < n
-  -- 15
-  pub replacement : Replacement a xs
-  -- 16
-  pub fits : ResultFits table (length (splice a used i xs)) chapterLength marksLength
+  pub count : UsedCount n chapterLength
+  -- 10 11 12
+  pub marked : MarkedAccepted a table n used marksLength
+  -- 14 15 16
+  pub change : ChangeAccepted a table n used chapterLength marksLength i xs
 
-module _ (a table : List ℕ) (n : ℕ) (used : List ℕ) (chapterLength marksLength i : ℕ) (xs : List ℕ) where
-  pub exchange-accepted : exchangeFault a table n used chapterLength marksLength i xs ≡ 0
-      → ExchangeAccepted a table n used chapterLength marksLength i xs
-  unfolding noElement
-  exchange-accepted h =
-      let rs = exchangeRefusals a table n used chapterLength marksLength i xs in
-      let not-so : (k : ℕ) → conditionOf k rs ≡ false = none-applies rs refl h in
-      let count = used-count-right n chapterLength (not-so 9) in
-      record {
-        alphabet = not-so 1;
-        constants = not-so 2;
-        automaton = not-so 8;
-        counted = count .counted;
-        within = count .within;
-        nodes = nodes-right a used (not-so 10);
-        tree = tree-right a used (not-so 11);
-        marks = marks-fit table n marksLength (not-so 12);
-        element = ltb-true i n (not-false (ltb i n) (not-so 14));
-        replacement = replacement-right a xs (not-so 15);
-        fits = result-right table (length (splice a used i xs)) chapterLength marksLength (not-so 16);
-      }
+pub exchange-accepted : (a table : List ℕ) (n : ℕ) (used : List ℕ) (chapterLength marksLength i : ℕ) (xs : List ℕ)
+    → exchangeFault a table n used chapterLength marksLength i xs ≡ 0
+    → ExchangeAccepted a table n used chapterLength marksLength i xs
+exchange-accepted a table n used chapterLength marksLength i xs h =
+    let nine : Refusals = (9, wrongUsedCount n chapterLength) ∷ [] in
+    let marked = markedRefusals a table n used marksLength in
+    let change = changeRefusals a table n used chapterLength marksLength i xs in
+    let first = parts-pass (tableRefusals a table) (nine ++ (marked ++ change)) refl h in
+    let second = parts-pass nine (marked ++ change) refl (first .1) in
+    let third = parts-pass marked change refl (second .1) in
+    record {
+      checked = table-accepted a table (first .0);
+      count = used-count-right n chapterLength (none-applies nine refl (second .0) 9);
+      marked = marked-accepted a table n used marksLength (third .0);
+      change = change-accepted a table n used chapterLength marksLength i xs (third .1);
+    }
+
+-- the same of a call as one record
+abbrev pub CallAccepted : ExchangeCall → Type 0
+CallAccepted c =
+    ExchangeAccepted (c .alphabet) (c .table) (c .count) (used c) (length (c .chapter)) (length (c .marks)) (c .element) (c .replacement)
+
+pub call-accepted : (c : ExchangeCall) → fault c ≡ 0 → CallAccepted c
+unfolding fault
+call-accepted c h =
+    exchange-accepted (c .alphabet) (c .table) (c .count) (used c) (length (c .chapter)) (length (c .marks)) (c .element) (c .replacement) h

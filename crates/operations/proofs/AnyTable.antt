@@ -7,12 +7,12 @@ use mathlib.Core.Bool.{true, false}
 use mathlib.Core.List.{List, [], _∷_, map}
 use native.Mathlib.Omega.{arith}
 use lib.ListN.{length, getD, take, drop}
-use borrow.Author.Tests.{not-false}
 use Rattle.words.specs.Tree.{Tree}
-use Rattle.words.specs.Alphabet.{noAlphabet}
+use Rattle.words.specs.Limits.{alphabetMost}
 use Rattle.words.specs.Chapter.{symbolOf}
 use Rattle.words.specs.Postfix.{arity, subtreeOf, childrenOf}
-use Rattle.words.proofs.AlphabetLaws.{alphabet-most}
+use Rattle.words.proofs.AcceptedAlphabet.{alphabet-accepted}
+use Rattle.words.proofs.AcceptedTree.{AcceptedTree, tree-accepted}
 use Rattle.words.specs.ExactlyOne.{ExactlyOne}
 use Rattle.words.proofs.ChildLaws.{values-children}
 use Rattle.words.proofs.StackLaws.{Right}
@@ -36,12 +36,9 @@ use Rattle.operations.proofs.RunLaws.{run-writes, run-exit, node-tree}
 
 -- ---- any table
 
-module _ (a table : List ℕ) (alphabet : noAlphabet a ≡ false) (passes : noTable a table ≡ false) where
+module _ (a table : List ℕ) (few : length a ≤ alphabetMost) (checked : isTable a table ≡ true) where
   below : TargetsBelow (automatonOf table .states) (automatonOf table .transitions)
-  unfolding noTable
-  below =
-      let few = alphabet-most a alphabet in
-      targets-below (isTable-automaton a (omega arith) table (not-false (isTable a table) passes))
+  below = targets-below (isTable-automaton a (omega arith) table checked)
 
   pub nodeSet-reached : (w : ℕ) (rs : List StateSet) → ReachedSet table (symbolOf w) rs (nodeSet table w rs)
   unfolding nodeSet
@@ -72,8 +69,11 @@ module _ (a table ch marks : List ℕ) (n cells : ℕ) (h : runAnswer a table ch
   run : RunAccepted a table ch (length marks)
   run = run-accepted a table ch (length marks) fine
 
-  few : length a ≤ 64
-  few = alphabet-most a (run .alphabet)
+  few : length a ≤ alphabetMost
+  few = alphabet-accepted a (run .checked .alphabet) .few
+
+  tree : AcceptedTree a ch
+  tree = tree-accepted a ch (run .marked .tree)
 
   -- the words of element i at exit
   abbrev set : ℕ → StateSet
@@ -97,10 +97,10 @@ module _ (a table ch marks : List ℕ) (n cells : ℕ) (h : runAnswer a table ch
     sets = λ i l.
         let rs = map set (childrenOf a ch i) in
         subst (ReachedSet table (symbolOf (getD ch i 0)) rs) (sym (values-children (arity a) ch (nodeSet table) set set-right i l))
-        (nodeSet-reached a table (run .alphabet) (run .automaton) (getD ch i 0) rs);
-    subtrees = λ i l. exactly-one-subtree a few ch i (run .nodes) (run .tree) l;
+        (nodeSet-reached a table few (run .checked .automaton) (getD ch i 0) rs);
+    subtrees = λ i l. exactly-one-subtree a few ch i (tree .nodes) (tree .shape) l;
     reaches = λ i t l k q.
-        rw (set-tree i t l k) (treeSet-reaches (automatonOf table) (below a table (run .alphabet) (run .automaton)) t q);
+        rw (set-tree i t l k) (treeSet-reaches (automatonOf table) (below a table few (run .checked .automaton)) t q);
   }
 
 -- ---- a table that Compile writes
@@ -108,6 +108,7 @@ module _ (a table ch marks : List ℕ) (n cells : ℕ) (h : runAnswer a table ch
 -- 8 never refuses it, and it has at most 1,147 words
 pub compiled-passes : (a e slice : List ℕ) (k : ℕ) → compileAnswer a e slice ≡ accepted (k ∷ [])
     → (noTable a (take k (compileExit a e slice)) ≡ false) × (k ≤ 1147)
+unfolding noTable
 compiled-passes a e slice k h =
     let c = compile-result a e slice k h in
-    (rw (c .table) (c .passes), rw (c .count) (c .most))
+    (rw (c .table, c .checked), rw (c .count) (c .most))

@@ -2,7 +2,7 @@
 -- one table of rows, one theorem.
 use Prim.Native.Nat.{ℕ}
 use mathlib.Core.Path.{_≡_, refl}
-use mathlib.Core.List.{List, [], _∷_}
+use mathlib.Core.List.{List, [], _∷_, map}
 use lib.ListN.{replicate}
 use Rattle.words.specs.Word.{kindAt, spareBitsClear, isOf}
 use Rattle.words.specs.Alphabet.{isEntry, rankOf, isConstant, constantsFrom, constantsOf, noAlphabet, wrongConstants}
@@ -19,6 +19,7 @@ use Rattle.operations.specs.Compile.{tooManyStates, tableTooLong, compil
 use Rattle.operations.specs.Marks.{sizeOf}
 use Rattle.operations.specs.Run.{wrongCount, marksTooShort, runAnswer}
 use Rattle.operations.specs.Listing.{listTooShort, listAnswer}
+use Rattle.operations.specs.ExchangeCall.{ExchangeCall, exchangeCall}
 use Rattle.operations.specs.Exchange.{wrongUsedCount, noElement, noReplacement, resultTooLong, fault, exchangeAnswer}
 
 -- a call of an operation, with all that is lent
@@ -26,17 +27,13 @@ pub data Called : Type 0 where
   compile : (a e slice : List ℕ) → Called
   run : (a table ch marks : List ℕ) → Called
   list : (a table : List ℕ) (n : ℕ) (marks slice : List ℕ) → Called
-  exchange : (a table chapter marks : List ℕ) (n i : ℕ) (xs : List ℕ) → Called
+  exchange : ExchangeCall → Called
 
 abbrev pub answerTo : Called → Answer
 answerTo (compile a e slice) = compileAnswer a e slice
 answerTo (run a table ch marks) = runAnswer a table ch marks
 answerTo (list a table n marks slice) = listAnswer a table n marks slice
-answerTo (exchange a table chapter marks n i xs) = exchangeAnswer a table chapter marks n i xs
-
-abbrev pub Refuse : List (ℕ × Called) → Type 0
-Refuse [] = Unit {0}
-Refuse (r ∷ rs) = (answerTo (r .1) ≡ refused (r .0)) × Refuse rs
+answerTo (exchange c) = exchangeAnswer c
 
 -- a constant 0 and a symbol 1 of rank 2; 16 constants
 abbrev two : List ℕ
@@ -81,19 +78,20 @@ calls =
     ∷ (9, list two one 4097 [] [])
     ∷ (12, list two one 1 [] [])
     ∷ (13, list two one 1 (0 ∷ []) [])
-    ∷ (1, exchange [] [] [] [] 0 0 [])
-    ∷ (2, exchange (0x1000_0004 ∷ []) [] [] [] 0 0 [])
-    ∷ (8, exchange two (0x8000_0401 ∷ []) [] [] 0 0 [])
-    ∷ (9, exchange two one (0x6000_0000 ∷ []) [] 2 2 [])
-    ∷ (10, exchange two one (0x6000_0000 ∷ []) [] 1 1 [])
-    ∷ (11, exchange two one (leaf ∷ leaf ∷ []) [] 2 2 [])
-    ∷ (12, exchange two one (leaf ∷ []) [] 1 1 [])
-    ∷ (14, exchange two one (leaf ∷ []) (0 ∷ []) 1 1 (leaf ∷ leaf ∷ []))
-    ∷ (15, exchange two one (leaf ∷ []) (0 ∷ []) 1 0 (leaf ∷ leaf ∷ []))
-    ∷ (16, exchange two one (leaf ∷ []) (0 ∷ []) 1 0 (leaf ∷ leaf ∷ pair ∷ []))
+    ∷ (1, exchange (exchangeCall [] [] [] [] 0 0 []))
+    ∷ (2, exchange (exchangeCall (0x1000_0004 ∷ []) [] [] [] 0 0 []))
+    ∷ (8, exchange (exchangeCall two (0x8000_0401 ∷ []) [] [] 0 0 []))
+    ∷ (9, exchange (exchangeCall two one (0x6000_0000 ∷ []) [] 2 2 []))
+    ∷ (10, exchange (exchangeCall two one (0x6000_0000 ∷ []) [] 1 1 []))
+    ∷ (11, exchange (exchangeCall two one (leaf ∷ leaf ∷ []) [] 2 2 []))
+    ∷ (12, exchange (exchangeCall two one (leaf ∷ []) [] 1 1 []))
+    ∷ (14, exchange (exchangeCall two one (leaf ∷ []) (0 ∷ []) 1 1 (leaf ∷ leaf ∷ [])))
+    ∷ (15, exchange (exchangeCall two one (leaf ∷ []) (0 ∷ []) 1 0 (leaf ∷ leaf ∷ [])))
+    ∷ (16, exchange (exchangeCall two one (leaf ∷ []) (0 ∷ []) 1 0 (leaf ∷ leaf ∷ pair ∷ [])))
     ∷ []
 
-pub attained : Refuse calls
+-- each answers its number
+pub attained : map (λ r. answerTo (r .1)) calls ≡ map (λ r. refused (r .0)) calls
 unfolding kindAt spareBitsClear isOf isEntry rankOf isConstant constantsFrom constantsOf noAlphabet wrongConstants arity treesBy notOneTree
     startFromBy spliceBy
     isExpressionWord wrongLength notExpressionWords isNode notNodes automatonOf hasEntries statesOf portOf ownTransitions portsFrom
@@ -101,4 +99,4 @@ unfolding kindAt spareBitsClear isOf isEntry rankOf isConstant constantsFrom con
     compiled isHead isTableWord sourcesLeft areTransitions isTable noTable sizeFor tooManyStates tableTooLong compileAnswer sizeOf
     wrongCount marksTooShort
     runAnswer listTooShort listAnswer wrongUsedCount noElement noReplacement resultTooLong fault exchangeAnswer
-attained = (refl, (refl, (refl, (refl, (refl, (refl, (refl, (refl, (refl, (refl, (refl, (refl, (refl, (refl, (refl, (refl, (refl, (refl, (refl, (refl, (refl, (refl, (refl, (refl, (refl, (refl, (refl, (refl, (refl, (refl, tt))))))))))))))))))))))))))))))
+attained = refl

@@ -2,30 +2,30 @@
 -- the alphabet, and the decoder reads that automaton back.
 use Prim.Native.Nat.{ℕ, _≤_}
 use mathlib.Core.Path.{_≡_, sym}
-use mathlib.Core.Bool.{false}
+use mathlib.Core.Bool.{true}
 use mathlib.Core.List.{List, [], _∷_}
 use native.Mathlib.Omega.{arith}
 use lib.ListN.{length, take, drop}
 use lib.Seq.{take-at}
-use Rattle.words.specs.Alphabet.{noAlphabet}
-use Rattle.words.proofs.AlphabetLaws.{alphabet-most}
+use Rattle.words.specs.Limits.{alphabetMost}
+use Rattle.words.proofs.AcceptedAlphabet.{alphabet-accepted}
+use Rattle.words.proofs.AcceptedExpression.{expression-passed}
 use Rattle.words.specs.ExactlyOne.{ExactlyOne}
 use Rattle.language.specs.Expression.{ExpressionOf}
-use Rattle.language.proofs.AcceptedWordLaws.{expression-accepted}
+use Rattle.language.proofs.ExpressionLaws.{exactly-one-expression}
 use Rattle.automaton.specs.Transition.{automatonOf}
 use Rattle.automaton.specs.Numbering.{compiled}
-use Rattle.automaton.specs.Table.{noTable, AutomatonOver}
+use Rattle.automaton.specs.Table.{isTable, AutomatonOver}
 use Rattle.automaton.proofs.DecodeLaws.{automatonOf-words}
 use Rattle.automaton.proofs.CompiledOver.{compiled-over}
 use Rattle.automaton.proofs.CompiledTable.{compiled-isTable, table-most}
 use Rattle.words.specs.Answer.{accepted}
 use Rattle.operations.specs.Compile.{compiledTable, compileFault, compileAnswer, compileExit}
-use Rattle.operations.proofs.AcceptedLaws.{accepted-values, compile-accepted, rule-alphabet, rule-expression}
+use Rattle.operations.proofs.AcceptedLaws.{accepted-values, compile-accepted}
 
 -- an accepted call that answers k
 pub record CompileResult (a e slice : List ℕ) (k : ℕ) : Type 0 where
-  pub alphabet : noAlphabet a ≡ false
-  pub few : length a ≤ 64
+  pub few : length a ≤ alphabetMost
   pub expression : ExactlyOne (ExpressionOf a e)
   pub over : AutomatonOver a (compiled a e)
   pub count : k ≡ length (compiledTable a e)
@@ -33,26 +33,26 @@ pub record CompileResult (a e slice : List ℕ) (k : ℕ) : Type 0 where
   pub table : take k (compileExit a e slice) ≡ compiledTable a e
   pub automaton : automatonOf (compiledTable a e) ≡ compiled a e
   -- 8 lets it pass
-  pub passes : noTable a (compiledTable a e) ≡ false
+  pub checked : isTable a (compiledTable a e) ≡ true
   -- "No compiled table takes more than 1,147 words."
   pub most : length (compiledTable a e) ≤ 1147
 
 pub compile-result : (a e slice : List ℕ) (k : ℕ) → compileAnswer a e slice ≡ accepted (k ∷ []) → CompileResult a e slice k
-unfolding compileAnswer compileExit noTable
+unfolding compileAnswer compileExit
 compile-result a e slice k h =
     let v = accepted-values (compileFault a e (length slice)) (length (compiledTable a e) ∷ []) (k ∷ []) h in
     let f = compile-accepted a e (length slice) (v .0) .rule in
-    let few = alphabet-most a (f .alphabet) in
-    let over = compiled-over a e (rule-expression f) (f .states) in
+    let few = alphabet-accepted a (f .alphabet) .few in
+    let words = expression-passed a e (f .expression) in
+    let over = compiled-over a e (f .expression) (f .states) in
     let n : k ≡ length (compiledTable a e) = cc in
     record {
-      alphabet = f .alphabet;
       few = few;
-      expression = expression-accepted a (f .alphabet) e .0 (f .words, f .tree);
+      expression = exactly-one-expression a few e (words .words) (words .shape);
       over = over;
       count = n;
       table = rw (v .0) (take-at (compiledTable a e) (drop (length (compiledTable a e)) slice) k (sym n));
       automaton = automatonOf-words a (omega arith) over;
-      passes = rw (compiled-isTable a e (rule-alphabet f) (rule-expression f) (f .states));
-      most = table-most a e (rule-alphabet f) (rule-expression f) (f .states);
+      checked = compiled-isTable a e (f .alphabet) (f .expression) (f .states);
+      most = table-most a e (f .alphabet) (f .expression) (f .states);
     }

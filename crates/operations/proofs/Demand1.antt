@@ -15,8 +15,8 @@ use Rattle.operations.specs.Compile.{compiledTable, compileRefusals, com
 use Rattle.operations.specs.Marks.{sizeOf, nodeSets, refit}
 use Rattle.operations.specs.Run.{runRefusals, runAnswer, runExit, runMarks, cellsIn}
 use Rattle.operations.specs.Listing.{listRefusals, listAnswer, listExit, matchesOf}
-use Rattle.operations.specs.Exchange.{setIn, fault, recomputedIn, exchangeAnswer, exchangeChapter, exchangeMarks}
-use Rattle.operations.specs.ExchangeCall.{refusalsOf, newTreeOf, outcomesOf}
+use Rattle.operations.specs.Exchange.{setIn, recomputedIn, refusalsOf, fault, newTree, outcomes}
+use Rattle.operations.specs.Exchange.{exchangeAnswer, exchangeChapter, exchangeMarks}
 use Rattle.operations.specs.Demands.{Unchanged, SameLength, Judged, Demand1}
 use Rattle.operations.proofs.LengthLaws.{compile-length, run-exit-length, list-length, chapter-length, marks-length}
 
@@ -82,14 +82,14 @@ demand1 = record {
       (λ k h. (kept-by vs (refusal rs) k (matchesOf table n marks ++ drop (length (matchesOf table n marks)) slice) slice h, tt))
       (list-length a table n marks slice, tt);
   exchange = λ c.
-      let vs = length (newTreeOf c) ∷ recomputedIn (outcomesOf c) ∷ [] in
+      let vs = length (newTree c) ∷ recomputedIn (outcomes c) ∷ [] in
       let rs = refusalsOf c in
       judged vs rs _ refl
       (λ n h. (
-        kept-by vs (refusal rs) n (refit (c .count) (newTreeOf c) (c .chapter)) (c .chapter) h,
-        (kept-by vs (refusal rs) n (refit (c .count * sizeOf (c .table)) (flatten (map setIn (outcomesOf c))) (c .marks)) (c .marks) h, tt),
+        kept-by vs (refusal rs) n (refit (c .count) (newTree c) (c .chapter)) (c .chapter) h,
+        (kept-by vs (refusal rs) n (refit (c .count * sizeOf (c .table)) (flatten (map setIn (outcomes c))) (c .marks)) (c .marks) h, tt),
       )) (
-        chapter-length (c .alphabet) (c .table) (c .chapter) (c .marks) (c .count) (c .element) (c .replacement),
-        (marks-length (c .alphabet) (c .table) (c .chapter) (c .marks) (c .count) (c .element) (c .replacement), tt),
+        chapter-length c,
+        (marks-length c, tt),
       );
 }

@@ -9,9 +9,11 @@ use native.Mathlib.Omega.{arith}
 use native.Mathlib.Nat.{zero-add}
 use lib.ListN.{length, getD, take, drop}
 use lib.Seq.{take-at}
+use Rattle.words.specs.Limits.{alphabetMost}
 use Rattle.words.specs.Tree.{Tree}
 use Rattle.words.specs.Postfix.{subtreeOf}
 use Rattle.words.specs.ExactlyOne.{ExactlyOne}
+use Rattle.words.proofs.AcceptedTree.{tree-accepted}
 use Rattle.language.specs.Expression.{Expression, ExpressionOf, SubjectOf}
 use Rattle.language.specs.Membership.{Member}
 use Rattle.language.proofs.ExpressionLaws.{expression-of}
@@ -37,7 +39,7 @@ use Rattle.operations.proofs.RunLaws.{run-writes, run-exit, matches-nod
 
 -- ---- a compiled table
 
-module _ (a e ch : List ℕ) (few : length a ≤ 64) (auto : automatonOf (compiledTable a e) ≡ compiled a e)
+module _ (a e ch : List ℕ) (few : length a ≤ alphabetMost) (auto : automatonOf (compiledTable a e) ≡ compiled a e)
     (below : TargetsBelow (compiled a e .states) (compiled a e .transitions)) where
   abbrev table : List ℕ
   table = compiledTable a e
@@ -127,7 +129,9 @@ module _ (c : Calls) (h : AllAccepted c) where
       rw (compiles .table) (named a T (c .chapter) (c .marksSlice) (c .listSlice) (c .elements) (c .cells) (c .hits) runs lists i)
 
   subtree : (i : ℕ) → i < length (c .chapter) → ExactlyOne (SubjectOf a (subtreeOf a (c .chapter) i))
-  subtree i l = exactly-one-subtree a (compiles .few) (c .chapter) i (run .nodes) (run .tree) l
+  subtree i l =
+      let tree = tree-accepted a (c .chapter) (run .marked .tree) in
+      exactly-one-subtree a (compiles .few) (c .chapter) i (tree .nodes) (tree .shape) l
 
   holding-member : (i : ℕ) (l : i < length (c .chapter))
       → (contains (getD (nodeSets a T (c .chapter)) i []) (finalOf T) ≡ true) ↔ Member (compiles .expression .the) (subtree i l .the)

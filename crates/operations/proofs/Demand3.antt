@@ -2,19 +2,15 @@
 -- chapter. The memory and the plain chapter are related (`Related`) at the start and behind each call; by recursion over the
 -- list they are behind all of them, and all that is claimed follows.
 use mathlib.Core.Path.{_≡_, refl, ap, ap₂, _∙_, sym}
-use mathlib.Core.Bool.{true}
 use mathlib.Core.List.{List, [], _∷_, _++_, map, flatten, head-eq-of-cons-eq}
 use Prim.Native.Nat.{ℕ, _+_, _*_, _<_}
 use native.Mathlib.Omega.{arith}
 use lib.ListN.{length, take, drop, length-append, take-append-drop}
 use lib.Dec.{eqb}
 use borrow.Author.Tests.{eqb-true}
-use Rattle.words.specs.Lists.{all}
-use Rattle.words.specs.Chapter.{isNode}
-use Rattle.words.specs.Shape.{spliceBy}
-use Rattle.words.specs.Postfix.{arity, startOf, splice}
-use Rattle.words.proofs.TestLaws.{Tested, holds, fails, tested, all-left, all-right, all-append}
-use Rattle.words.proofs.PostfixLaws.{splice-tree}
+use Rattle.words.specs.Postfix.{splice}
+use Rattle.words.proofs.TestLaws.{Tested, holds, fails, tested}
+use Rattle.words.proofs.AcceptedTree.{tree-accepted}
 use Rattle.automaton.specs.StateSet.{StateSet}
 use Rattle.words.specs.Answer.{answerOf, exitOf}
 use Rattle.operations.specs.Marks.{sizeOf, nodeSets, storedSet, refit}
@@ -22,12 +18,12 @@ use Rattle.operations.specs.Run.{runFault, runMarks, runAnswer, runExit,
 use Rattle.operations.specs.Listing.{matchesOf, listFault, listAnswer, listExit}
 use Rattle.operations.specs.Exchange.{setIn, outcomesAfter, exchangeFault, fault, newTree}
 use Rattle.operations.specs.Exchange.{outcomes, exchangeAnswer, exchangeChapter, exchangeMarks}
-use Rattle.operations.specs.ExchangeCall.{newTreeOf, outcomesOf}
 use Rattle.operations.specs.History.{Call, Memory, callOn, exchange, exchanges, plain, plains}
 use Rattle.operations.specs.Demands.{Start, Fresh, Faithful, Demand3}
 use Rattle.operations.proofs.MarksLaws.{stored-right, take-refit, length-refit}
 use Rattle.operations.proofs.RunLaws.{length-words, run-writes, run-length, run-exit, matches-nodeSets}
 use Rattle.operations.proofs.AcceptedLaws.{accepted-values, run-accepted, accepted-run}
+use Rattle.operations.proofs.ResultLaws.{result-accepted}
 use Rattle.operations.proofs.AcceptedLaws.{ResultFits, ExchangeAccepted, exchange-accepted}
 use Rattle.operations.proofs.OutcomeLaws.{outcomes-right}
 
@@ -48,46 +44,18 @@ module _ (a table : List ℕ) (chapterLength marksLength : ℕ) where
 
   -- the new tree passes Run's checks
   run-spliced : (p : List ℕ) (c : Call) → Accepted p c → runFault a table (splice a p (c .element) (c .replacement)) marksLength ≡ 0
-  unfolding spliceBy
   run-spliced p c k =
-      accepted-run a table (splice a p element xs) marksLength
-      (record {
-        alphabet = k .alphabet;
-        constants = k .constants;
-        automaton = k .automaton;
-        counted = record { some = some; few = k .fits .few };
-        nodes = nodes;
-        tree = splice-tree (arity a) p element (k .tree) (k .element) xs (k .replacement .tree);
-        marks = k .fits .marks;
-      })
-    where
-      element : ℕ
-      element = c .element
-
-      xs : List ℕ
-      xs = c .replacement
-
-      nodes : all (isNode a) (splice a p element xs) ≡ true
-      nodes =
-          let s = startOf a p element in
-          all-append (isNode a) (take s p) (xs ++ drop (element + 1) p)
-          (all-left (isNode a) (take s p) (drop s p) (rw (take-append-drop s p) (k .nodes)))
-          (all-append (isNode a) xs (drop (element + 1) p) (k .replacement .nodes)
-          (all-right (isNode a) (take (element + 1) p) (drop (element + 1) p) (rw (take-append-drop (element + 1) p) (k .nodes))))
-
-      some : 0 < length (splice a p element xs)
-      some =
-          let l = k .replacement .counted .some in
-          simp length-append (omega arith)
+      accepted-run a table (splice a p (c .element) (c .replacement)) marksLength
+      (result-accepted a table p chapterLength marksLength (c .element) (c .replacement) k)
 
   -- ---- one call
 
   module _ (p : List ℕ) (s : Memory) (c : Call) (g : Related a table chapterLength marksLength p s) where
     abbrev tree : List ℕ
-    tree = newTreeOf (callOn a table s c)
+    tree = newTree (callOn a table s c)
 
     abbrev sets : List StateSet
-    sets = map setIn (outcomesOf (callOn a table s c))
+    sets = map setIn (outcomes (callOn a table s c))
 
     -- the memory behind an accepted call
     abbrev exchanged : Memory
@@ -104,7 +72,7 @@ module _ (a table : List ℕ) (chapterLength marksLength : ℕ) where
     callFault = exchangeFault a table (length p) p chapterLength marksLength (c .element) (c .replacement)
 
     -- the plain chapter is refused as the memory is
-    same-fault : fault a table (s .chapter) (s .marks) (s .count) (c .element) (c .replacement) ≡ callFault
+    same-fault : fault (callOn a table s c) ≡ callFault
     unfolding fault
     same-fault =
         ap (λ (u : List ℕ). exchangeFault a table (s .count) u (length (s .chapter)) (length (s .marks)) (c .element) (c .replacement))
@@ -121,8 +89,8 @@ module _ (a table : List ℕ) (chapterLength marksLength : ℕ) where
     same-sets k =
         ap (λ (u : List ℕ). map setIn (outcomesAfter a table (storedSet (sizeOf table) (s .marks)) u (c .element) (c .replacement)))
         (g .elements)
-        ∙ outcomes-right a table (storedSet (sizeOf table) (s .marks)) p (c .element) (c .replacement) (k .tree) (k .element)
-        (k .replacement .tree)
+        ∙ outcomes-right a table (storedSet (sizeOf table) (s .marks)) p (c .element) (c .replacement)
+        (tree-accepted a p (k .marked .tree) .shape) (k .change .element) (k .change .replacement .tree .shape)
         (stored-right a table p (s .marks) (g .marks))
 
     related-exchanged : Accepted p c → Related a table chapterLength marksLength p′ exchanged
@@ -130,11 +98,11 @@ module _ (a table : List ℕ) (chapterLength marksLength : ℕ) where
       count = ap length same-tree;
       elements = take-refit (s .count) tree (s .chapter) ∙ same-tree;
       chapter-long =
-          length-refit (s .count) tree (s .chapter) (omega (arith, k .within, g .count, g .chapter-long))
+          length-refit (s .count) tree (s .chapter) (omega (arith, k .count .within, g .count, g .chapter-long))
           (rw same-tree (omega (arith, fits .elements, g .chapter-long)))
           ∙ g .chapter-long;
       marks-long =
-          length-refit (s .count * sizeOf table) (flatten sets) (s .marks) (rw (g .count) (omega (arith, k .marks, g .marks-long)))
+          length-refit (s .count * sizeOf table) (flatten sets) (s .marks) (rw (g .count) (omega (arith, k .marked .marks, g .marks-long)))
           (omega (arith, many, fits .marks, g .marks-long))
           ∙ g .marks-long;
       run = run-spliced p c k;
@@ -144,7 +112,7 @@ module _ (a table : List ℕ) (chapterLength marksLength : ℕ) where
     }
       where
         fits : ResultFits table (length p′) chapterLength marksLength
-        fits = k .fits
+        fits = k .change .fits
 
         many : length (flatten sets) ≡ length p′ * sizeOf table
         many = ap (λ (l : List StateSet). length (flatten l)) (same-sets k) ∙ length-words a table p′
@@ -201,7 +169,7 @@ module _ (a table : List ℕ) (chapterLength marksLength : ℕ) where
           lengths : length (s .marks) ≡ length (runExit a table p slice)
           lengths =
               sym n ∙ sym (ap length (run-exit a table p slice run)
-              ∙ run-length a table p slice (run-accepted a table p (length slice) run .marks))
+              ∙ run-length a table p slice (run-accepted a table p (length slice) run .marked .marks))
 
           matches : matchesOf table (s .count) (s .marks) ≡ matchesOf table (s .count) (runExit a table p slice)
           matches =
@@ -237,7 +205,7 @@ related-start a table ch s h = record {
     left = h .marks ∙ run-exit a table ch (h .before) run
 
     same : length (s .marks) ≡ length (h .before)
-    same = ap length left ∙ run-length a table ch (h .before) (run-accepted a table ch (length (h .before)) run .marks)
+    same = ap length left ∙ run-length a table ch (h .before) (run-accepted a table ch (length (h .before)) run .marked .marks)
 
 related-end : (a table ch : List ℕ) (s : Memory) (calls : List Call) → Start a table ch s
     → Related a table (length (s .chapter)) (length (s .marks)) (plains a table (length (s .chapter)) (length (s .marks)) calls ch)

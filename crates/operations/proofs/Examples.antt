@@ -30,6 +30,7 @@ use Rattle.operations.specs.Run.{wrongCount, marksTooShort, runFault, ru
 use Rattle.operations.specs.Listing.{matchesIn, matchesOf}
 use Rattle.operations.specs.Demands.{Calls, AllAccepted, namesOf}
 use Rattle.operations.proofs.Demand2.{demand2, demand2-of}
+use Rattle.operations.specs.ExchangeCall.{exchangeCall}
 use Rattle.operations.specs.Exchange.{wrongUsedCount, noElement, noReplacement, resultTooLong, recomputedIn}
 use Rattle.operations.specs.Exchange.{propagate, rootSet, outcomesBehind, outcomesAfter, fault, newTree}
 use Rattle.operations.specs.Exchange.{outcomes, exchangeAnswer, exchangeChapter, exchangeMarks}
@@ -80,9 +81,9 @@ pub record ListingRow (al e ch : List ℕ) (states words head : ℕ) (lines : Li
 -- what an Exchange answers and leaves with the table of a rule, where these marks are stored; and what List then names
 pub record ExchangeRow (rl slice stored : List ℕ) (n i : ℕ) (xs : List ℕ) (answer : Answer) (left : List ℕ) (leftMarks : List ℕ)
     (hits : List ℕ) : Type 0 where
-  pub answers : exchangeAnswer alphabet (compiledTable alphabet rl) slice stored n i xs ≡ answer
-  pub chapterLeft : exchangeChapter alphabet (compiledTable alphabet rl) slice stored n i xs ≡ left
-  pub marksLeft : exchangeMarks alphabet (compiledTable alphabet rl) slice stored n i xs ≡ leftMarks
+  pub answers : exchangeAnswer (exchangeCall alphabet (compiledTable alphabet rl) slice stored n i xs) ≡ answer
+  pub chapterLeft : exchangeChapter (exchangeCall alphabet (compiledTable alphabet rl) slice stored n i xs) ≡ left
+  pub marksLeft : exchangeMarks (exchangeCall alphabet (compiledTable alphabet rl) slice stored n i xs) ≡ leftMarks
   pub lists : matchesOf (compiledTable alphabet rl) (firstValue answer n) leftMarks ≡ hits
 
 -- every call of Compile, Run and List with the alphabet and this rule, whatever the chapter: List names exactly the nodes

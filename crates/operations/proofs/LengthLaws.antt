@@ -5,12 +5,11 @@ use mathlib.Core.Path.{_≡_, ap, _∙_}
 use mathlib.Core.List.{List, [], _∷_, _++_, map, flatten}
 use native.Mathlib.Omega.{arith}
 use native.Mathlib.Nat.{mul-le-mul-right}
-use lib.ListN.{length, take, drop, length-append, length-drop, length-map}
+use lib.ListN.{length, drop, length-append, length-drop, length-map}
 use lib.Seq.{length-take-le}
 use lib.Dec.{eqb}
 use borrow.Author.Tests.{eqb-true}
 use Rattle.words.specs.Lists.{listFrom}
-use Rattle.words.specs.Postfix.{splice}
 use Rattle.words.proofs.TestLaws.{Tested, holds, fails, tested}
 use Rattle.words.proofs.ListLaws.{length-listFrom}
 use Rattle.automaton.specs.StateSet.{StateSet, contains}
@@ -19,8 +18,9 @@ use Rattle.operations.specs.Compile.{compiledTable, compileFault, compil
 use Rattle.operations.specs.Marks.{sizeOf, finalOf, storedSet, refit}
 use Rattle.operations.specs.Run.{runFault, runMarks, runExit}
 use Rattle.operations.specs.Listing.{listFault, matchesIn, matchesOf, listExit}
-use Rattle.operations.specs.Exchange.{setIn, outcomesAfter, fault, newTree, outcomes, exchangeChapter, exchangeMarks}
-use Rattle.operations.proofs.AcceptedLaws.{compile-accepted, run-accepted, list-accepted, ExchangeAccepted, exchange-accepted}
+use Rattle.operations.specs.ExchangeCall.{ExchangeCall}
+use Rattle.operations.specs.Exchange.{setIn, used, storedIn, fault, newTree, outcomes, exchangeChapter, exchangeMarks}
+use Rattle.operations.proofs.AcceptedLaws.{compile-accepted, run-accepted, list-accepted, CallAccepted, call-accepted}
 use Rattle.operations.proofs.MarksLaws.{Sized, length-storedSet, length-flatten, length-refit}
 use Rattle.operations.proofs.RunLaws.{run-length}
 use Rattle.operations.proofs.RuleLaws.{follows-length, follows-outcomes}
@@ -51,7 +51,7 @@ pub run-exit-length : (a table ch marks : List ℕ) → length (runExit a table 
 unfolding runExit
 run-exit-length a table ch marks =
     length-exit (runFault a table ch (length marks)) (runMarks a table ch marks) marks
-    (λ h. run-length a table ch marks (run-accepted a table ch (length marks) h .marks))
+    (λ h. run-length a table ch marks (run-accepted a table ch (length marks) h .marked .marks))
 
 matches-most : (final : ℕ) (rs : List StateSet) (i : ℕ) → length (matchesIn final i rs) ≤ length rs
 unfolding matchesIn
@@ -79,49 +79,48 @@ list-length a table n marks slice =
 
 -- ---- Exchange
 
-module _ (a table chapter marks : List ℕ) (n element : ℕ) (xs : List ℕ) where
-  abbrev u : List ℕ
-  u = take n chapter
+module _ (c : ExchangeCall) where
+  abbrev size : ℕ
+  size = sizeOf (c .table)
 
-  abbrev Accepted : Type 0
-  Accepted = ExchangeAccepted a table n u (length chapter) (length marks) element xs
+  abbrev sets : List StateSet
+  sets = map setIn (outcomes c)
+
+  there : CallAccepted c → c .element < length (used c)
+  there k = rw (length-take-le (c .count) (c .chapter) (k .count .within)) (k .change .element)
 
   -- the stored sets of the used elements are whole by 12
-  pub sized-outcomes : Accepted → Sized (sizeOf table) (map setIn (outcomes a table chapter marks n element xs))
+  pub sized-outcomes : CallAccepted c → Sized (sizeOf (c .table)) (map setIn (outcomes c))
   unfolding outcomes
   sized-outcomes k =
-      let many = length-take-le n chapter (k .within) in
-      whole-outcomes a table (storedSet (sizeOf table) marks) n
-      (λ i l. length-storedSet (sizeOf table) marks i (omega (arith, mul-le-mul-right (sizeOf table) l, k .marks)))
-      u element xs (rw many (k .element)) (omega arith)
+      let many = length-take-le (c .count) (c .chapter) (k .count .within) in
+      whole-outcomes (c .alphabet) (c .table) (storedIn c) (c .count)
+      (λ i l. length-storedSet size (c .marks) i (omega (arith, mul-le-mul-right size l, k .marked .marks)))
+      (used c) (c .element) (c .replacement) (there k) (omega arith)
 
-  length-sets : Accepted
-      → length (flatten (map setIn (outcomes a table chapter marks n element xs)))
-      ≡ length (newTree a table chapter marks n element xs) * sizeOf table
+  length-sets : CallAccepted c → length (flatten sets) ≡ length (newTree c) * size
   unfolding outcomes newTree
   length-sets k =
-      let os = outcomesAfter a table (storedSet (sizeOf table) marks) u element xs in
-      let there : element < length u = rw (length-take-le n chapter (k .within)) (k .element) in
-      length-flatten (sizeOf table) (map setIn os) (sized-outcomes k)
-      ∙ ap (λ (i : ℕ). i * sizeOf table)
-      (length-map os setIn
-      ∙ follows-length a table (splice a u element xs) [] os
-      (follows-outcomes a table (storedSet (sizeOf table) marks) u element xs there (k .replacement .tree)))
+      length-flatten size sets (sized-outcomes k)
+      ∙ ap (λ (i : ℕ). i * size)
+      (length-map (outcomes c) setIn
+      ∙ follows-length (c .alphabet) (c .table) (newTree c) [] (outcomes c)
+      (follows-outcomes (c .alphabet) (c .table) (storedIn c) (used c) (c .element) (c .replacement) (there k)
+      (k .change .replacement .tree .shape)))
 
   -- the new elements fit by 16
-  pub chapter-length : length (exchangeChapter a table chapter marks n element xs) ≡ length chapter
-  unfolding exchangeChapter fault newTree
+  pub chapter-length : length (exchangeChapter c) ≡ length (c .chapter)
+  unfolding exchangeChapter newTree
   chapter-length =
-      length-exit (fault a table chapter marks n element xs) (refit n (newTree a table chapter marks n element xs) chapter) chapter
-      (λ h. let k = exchange-accepted a table n u (length chapter) (length marks) element xs h in
-      length-refit n (newTree a table chapter marks n element xs) chapter (k .within) (k .fits .elements))
+      length-exit (fault c) (refit (c .count) (newTree c) (c .chapter)) (c .chapter)
+      (λ h. let k = call-accepted c h in
+      length-refit (c .count) (newTree c) (c .chapter) (k .count .within) (k .change .fits .elements))
 
   -- and so do their state sets
-  pub marks-length : length (exchangeMarks a table chapter marks n element xs) ≡ length marks
-  unfolding exchangeMarks fault newTree
+  pub marks-length : length (exchangeMarks c) ≡ length (c .marks)
+  unfolding exchangeMarks newTree
   marks-length =
-      length-exit (fault a table chapter marks n element xs)
-      (refit (n * sizeOf table) (flatten (map setIn (outcomes a table chapter marks n element xs))) marks) marks
-      (λ h. let k = exchange-accepted a table n u (length chapter) (length marks) element xs h in
-      length-refit (n * sizeOf table) (flatten (map setIn (outcomes a table chapter marks n element xs))) marks (k .marks)
-      (omega (arith, length-sets k, k .fits .marks)))
+      length-exit (fault c) (refit (c .count * size) (flatten sets) (c .marks)) (c .marks)
+      (λ h. let k = call-accepted c h in
+      length-refit (c .count * size) (flatten sets) (c .marks) (k .marked .marks)
+      (omega (arith, length-sets k, k .change .fits .marks)))

@@ -6,6 +6,7 @@ pub mod MarksLaws
 pub mod PropagateLaws
 pub mod OutcomeLaws
 pub mod AcceptedLaws
+pub mod ResultLaws
 pub mod RunLaws
 pub mod Demand3
 pub mod CompileLaws

@@ -19,8 +19,8 @@ use Rattle.words.proofs.StackLaws.{length-values, read, Right, list-right, righ
 use Rattle.automaton.specs.StateSet.{StateSet}
 use Rattle.operations.specs.Marks.{nodeSet, nodeSets, sameWords}
 use Rattle.operations.specs.Exchange.{Outcome, kept, recomputed, isRecomputed, recomputedIn}
-use Rattle.operations.specs.Exchange.{keptFrom, rootSet, outcomesBehind, outcomesAfter, outcomes}
-use Rattle.operations.specs.ExchangeCall.{ExchangeCall, usedIn, storedIn}
+use Rattle.operations.specs.Exchange.{keptFrom, rootSet, outcomesBehind, outcomesAfter, used, storedIn, outcomes}
+use Rattle.operations.specs.ExchangeCall.{ExchangeCall}
 use Rattle.operations.specs.Recomputation.{outcomeAt, outcomeOf, setAfter, behindIn, oldNumber}
 use Rattle.operations.specs.Recomputation.{newNumber, ancestor, continues, recomputes}
 use Rattle.operations.proofs.MarksLaws.{length-nodeSets}
@@ -137,26 +137,26 @@ module _ (a table : List ℕ) (stored : ℕ → StateSet) (used : List ℕ) (ele
 -- ---- the nodes behind
 
 abbrev pub behindOf : ExchangeCall → List Outcome
-behindOf c = outcomesBehind (c .alphabet) (c .table) (storedIn c) (usedIn c) (c .element) (c .replacement)
+behindOf c = outcomesBehind (c .alphabet) (c .table) (storedIn c) (used c) (c .element) (c .replacement)
 
-module _ (c : ExchangeCall) (he : c .element < length (usedIn c)) (hx : oneTree (c .alphabet) (c .replacement) ≡ true) where
+module _ (c : ExchangeCall) (he : c .element < length (used c)) (hx : oneTree (c .alphabet) (c .replacement) ≡ true) where
   abbrev behind : List Outcome
   behind = behindOf c
 
   many : length behind ≡ behindIn c
-  many = length-behind (c .alphabet) (c .table) (storedIn c) (usedIn c) (c .element) (c .replacement) he hx
+  many = length-behind (c .alphabet) (c .table) (storedIn c) (used c) (c .element) (c .replacement) he hx
 
   at-behind : (k : ℕ) → outcomeOf c (newNumber c k) ≡ outcomeAt behind k
   unfolding outcomes
-  at-behind k = outcome-behind (c .alphabet) (c .table) (storedIn c) (usedIn c) (c .element) (c .replacement) k
+  at-behind k = outcome-behind (c .alphabet) (c .table) (storedIn c) (used c) (c .element) (c .replacement) k
 
   pub outcome-rest : (k : ℕ) → k < behindIn c
       → outcomeOf c (newNumber c k) ≡ cond (recomputes c k) (recomputed (setAfter c (newNumber c k))) (kept (storedIn c (oldNumber c k)))
   outcome-rest k l =
       simp at-behind
-      (chosen-at (storedIn c) (isAncestor (c .alphabet) (usedIn c) (c .element)) behind (c .element + 1)
+      (chosen-at (storedIn c) (isAncestor (c .alphabet) (used c) (c .element)) behind (c .element + 1)
       (not (sameWords (rootSet (c .alphabet) (c .table) (c .replacement)) (storedIn c (c .element)))) k
-      (chosen-behind (c .alphabet) (c .table) (storedIn c) (usedIn c) (c .element) (c .replacement)) (rw many l))
+      (chosen-behind (c .alphabet) (c .table) (storedIn c) (used c) (c .element) (c .replacement)) (rw many l))
 
   pub count-rest : recomputedIn behind ≡ count (recomputes c) (listFrom (λ i. i) 0 (behindIn c))
   count-rest =
@@ -166,14 +166,14 @@ module _ (c : ExchangeCall) (he : c .element < length (usedIn c)) (hx : oneTree 
       ∙ ap (λ (n : ℕ). count (recomputes c) (listFrom (λ i. i) 0 n)) many
 
   -- "it is at most the replacement's elements plus the depth of the place"
-  pub recomputed-most : recomputedIn behind ≤ depthOf (c .alphabet) (usedIn c) (c .element)
+  pub recomputed-most : recomputedIn behind ≤ depthOf (c .alphabet) (used c) (c .element)
   unfolding depthOfBy
   recomputed-most =
       let w = count-wider (recomputes c) (ancestor c) (λ k h. and-true (continues c k) (ancestor c k) h .1) (listFrom (λ i. i) 0 m) in
       omega (arith, count-rest, shifted, parts)
     where
       above : ℕ → Bool
-      above = isAncestor (c .alphabet) (usedIn c) (c .element)
+      above = isAncestor (c .alphabet) (used c) (c .element)
 
       m : ℕ
       m = behindIn c
@@ -184,10 +184,10 @@ module _ (c : ExchangeCall) (he : c .element < length (usedIn c)) (hx : oneTree 
           ∙ ap (count above) (sym (map-listFrom (λ i. i) (oldNumber c) m 0 ∙ listFrom-offset (λ i. i) (c .element + 1) m 0))
           ∙ count-map above (oldNumber c) (listFrom (λ i. i) 0 m)
 
-      parts : count above (listFrom (λ i. i) 0 (length (usedIn c)))
+      parts : count above (listFrom (λ i. i) 0 (length (used c)))
           ≡ count above (listFrom (λ i. i) 0 (c .element + 1)) + count above (listFrom (λ i. i) (c .element + 1) m)
       parts =
-          let n : length (usedIn c) ≡ c .element + 1 + m = rw (length-drop (c .element + 1) (usedIn c)) (omega arith) in
+          let n : length (used c) ≡ c .element + 1 + m = rw (length-drop (c .element + 1) (used c)) (omega arith) in
           ap (λ (i : ℕ). count above (listFrom (λ k. k) 0 i)) n
           ∙ ap (count above)
           (listFrom-add (λ i. i) (c .element + 1) m 0

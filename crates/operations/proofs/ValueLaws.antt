@@ -4,8 +4,8 @@ use mathlib.Core.List.{List, [], _∷_, flatten, head-eq-of-cons-eq}
 use Prim.Native.Nat.{ℕ, _*_, _^_, _<_, _≤_}
 use native.Mathlib.Omega.{arith}
 use native.Mathlib.Nat.{le-trans, mul-le-mul-left, mul-le-mul-right}
-use lib.ListN.{length, take}
-use Rattle.words.specs.Postfix.{splice}
+use lib.ListN.{length}
+use Rattle.words.specs.Limits.{nodesMost}
 use Rattle.automaton.specs.Transition.{automatonOf}
 use Rattle.automaton.specs.StateSet.{sizeFor}
 use Rattle.words.specs.Answer.{accepted}
@@ -15,7 +15,7 @@ use Rattle.operations.specs.Run.{runFault, cellsIn, runAnswer}
 use Rattle.operations.specs.Listing.{matchesOf, listFault, listAnswer}
 use Rattle.operations.specs.Exchange.{Outcome, kept, recomputed, recomputedIn, fault, newTree, outcomes, exchangeAnswer}
 use Rattle.operations.specs.ExchangeCall.{ExchangeCall}
-use Rattle.operations.proofs.AcceptedLaws.{accepted-values, run-accepted, list-accepted, exchange-accepted}
+use Rattle.operations.proofs.AcceptedLaws.{accepted-values, run-accepted, list-accepted, call-accepted}
 use Rattle.operations.proofs.CompileLaws.{compile-result}
 use Rattle.operations.proofs.CellLaws.{cells-nodeSets}
 use Rattle.operations.proofs.MatchLaws.{matchesOf-few}
@@ -28,11 +28,11 @@ compile-value a e slice {k} h =
     omega (arith, g .count, g .most)
 
 -- the words of all state sets, whatever the head says of the states
-pub words-most : (table : List ℕ) (n : ℕ) → n ≤ 4096 → n * sizeOf table ≤ 262144
+pub words-most : (table : List ℕ) (n : ℕ) → n ≤ nodesMost → n * sizeOf table ≤ 262144
 unfolding sizeOf sizeFor automatonOf
 words-most table n h =
     let few : sizeOf table ≤ 64 = omega arith in
-    le-trans (mul-le-mul-right (sizeOf table) h) (mul-le-mul-left 4096 few)
+    le-trans (mul-le-mul-right (sizeOf table) h) (mul-le-mul-left nodesMost few)
 
 -- Run: at most 4,096 elements, and at most 32 ones in a word
 pub run-values : (a table ch marks : List ℕ) {n cells : ℕ} → accepted (n ∷ cells ∷ []) ≡ runAnswer a table ch marks
@@ -64,14 +64,12 @@ recomputed-few (kept r ∷ os) = let i = recomputed-few os in omega arith
 recomputed-few (recomputed r ∷ os) = let i = recomputed-few os in omega arith
 
 -- Exchange: at most 4,096 elements, and at most as many recomputed
-pub exchange-values : (a table chapter marks : List ℕ) (n element : ℕ) (xs : List ℕ) {count worked : ℕ}
-    → accepted (count ∷ worked ∷ []) ≡ exchangeAnswer a table chapter marks n element xs → (count < 2 ^ 32) × (worked < 2 ^ 32)
-unfolding exchangeAnswer fault newTree
-exchange-values a table chapter marks n element xs {count} {worked} h =
-    let v = accepted-values (fault a table chapter marks n element xs) _ (count ∷ worked ∷ []) (sym h) in
-    let few = exchange-accepted a table n (take n chapter) (length chapter) (length marks) element xs (v .0) .fits .few in
-    let call : ExchangeCall =
-    record { alphabet = a; table = table; chapter = chapter; marks = marks; count = n; element = element; replacement = xs } in
-    let done = recomputation call count worked (sym h) in
-    let most = recomputed-few (outcomes a table chapter marks n element xs) in
+pub exchange-values : (c : ExchangeCall) {count worked : ℕ} → accepted (count ∷ worked ∷ []) ≡ exchangeAnswer c
+    → (count < 2 ^ 32) × (worked < 2 ^ 32)
+unfolding exchangeAnswer newTree
+exchange-values c {count} {worked} h =
+    let v = accepted-values (fault c) _ (count ∷ worked ∷ []) (sym h) in
+    let few = call-accepted c (v .0) .change .fits .few in
+    let done = recomputation c count worked (sym h) in
+    let most = recomputed-few (outcomes c) in
     (omega arith, omega arith)

@@ -20,9 +20,9 @@ use Rattle.operations.specs.Compile.{compiledTable, compileRefusals, com
 use Rattle.operations.specs.Marks.{sizeOf, nodeSet, ReachedSet, nodeSets, storedSet}
 use Rattle.operations.specs.Run.{runRefusals, runAnswer, runExit, cellsIn}
 use Rattle.operations.specs.Listing.{listRefusals, listAnswer, listExit, matchesOf}
-use Rattle.operations.specs.Exchange.{kept, recomputed, recomputedIn, rootSet}
-use Rattle.operations.specs.ExchangeCall.{ExchangeCall, usedIn, refusalsOf, storedIn, newTreeOf}
-use Rattle.operations.specs.ExchangeCall.{outcomesOf, answeredBy, chapterAfter, marksAfter}
+use Rattle.operations.specs.ExchangeCall.{ExchangeCall}
+use Rattle.operations.specs.Exchange.{kept, recomputed, recomputedIn, rootSet, used, refusalsOf, newTree, storedIn, outcomes}
+use Rattle.operations.specs.Exchange.{exchangeAnswer, exchangeChapter, exchangeMarks}
 use Rattle.operations.specs.Recomputation.{outcomeOf, setAfter, startIn, behindIn, oldNumber, newNumber, recomputes}
 use Rattle.operations.specs.History.{Call, Memory, exchanges, plains}
 
@@ -56,8 +56,8 @@ pub record Demand1 : Type 0 where
       → Judged (listRefusals alphabet table elements (length marks) (length slice)) (listAnswer alphabet table elements marks slice)
       (length (matchesOf table elements marks) ∷ []) ((slice, listExit alphabet table elements marks slice) ∷ [])
   pub exchange : (c : ExchangeCall)
-      → Judged (refusalsOf c) (answeredBy c) (length (newTreeOf c) ∷ recomputedIn (outcomesOf c) ∷ [])
-      ((c .chapter, chapterAfter c) ∷ (c .marks, marksAfter c) ∷ [])
+      → Judged (refusalsOf c) (exchangeAnswer c) (length (newTree c) ∷ recomputedIn (outcomes c) ∷ [])
+      ((c .chapter, exchangeChapter c) ∷ (c .marks, exchangeMarks c) ∷ [])
 
 -- ---- Demand 2 (Demand2): "A rule that Compile accepts becomes exactly the numbered Thompson tree automaton of the rules.
 -- After an accepted Run with that table and its alphabet, an accepted List, given both, the element count and the marks Run
@@ -156,11 +156,11 @@ Demand3 =
 -- a call that answers these two numbers
 pub record RecomputesOnly (c : ExchangeCall) (elements workedOut : ℕ) : Type 0 where
   -- "The answer is the new element count and the number worked out"
-  pub newCount : elements ≡ length (newTreeOf c)
-  pub counted : workedOut ≡ recomputedIn (outcomesOf c)
+  pub newCount : elements ≡ length (newTree c)
+  pub counted : workedOut ≡ recomputedIn (outcomes c)
   -- each node of the new tree has one outcome, and its words at exit are the outcome's
-  pub nodes : length (outcomesOf c) ≡ length (newTreeOf c)
-  pub written : (j : ℕ) → j < length (newTreeOf c) → storedSet (sizeOf (c .table)) (marksAfter c) j ≡ setAfter c j
+  pub nodes : length (outcomes c) ≡ length (newTree c)
+  pub written : (j : ℕ) → j < length (newTree c) → storedSet (sizeOf (c .table)) (exchangeMarks c) j ≡ setAfter c j
   -- the nodes before the replaced subtree keep their stored sets
   pub before : (j : ℕ) → j < startIn c → outcomeOf c j ≡ kept (storedIn c j)
   -- "Replacement elements are worked out"
@@ -173,16 +173,16 @@ pub record RecomputesOnly (c : ExchangeCall) (elements workedOut : ℕ) : Type 0
   pub rest : (k : ℕ) → k < behindIn c
       → outcomeOf c (newNumber c k) ≡ cond (recomputes c k) (recomputed (setAfter c (newNumber c k))) (kept (storedIn c (oldNumber c k)))
   -- "each by the rule above from its parts' marks: those just worked out, otherwise those stored"
-  pub rule : (j : ℕ) (r : StateSet) → j < length (newTreeOf c) → outcomeOf c j ≡ recomputed r
-      → r ≡ nodeSet (c .table) (getD (newTreeOf c) j 0) (map (setAfter c) (childrenOf (c .alphabet) (newTreeOf c) j))
+  pub rule : (j : ℕ) (r : StateSet) → j < length (newTree c) → outcomeOf c j ≡ recomputed r
+      → r ≡ nodeSet (c .table) (getD (newTree c) j 0) (map (setAfter c) (childrenOf (c .alphabet) (newTree c) j))
   -- which is: its states are exactly those that are reached
-  pub reached : (j : ℕ) (r : StateSet) → j < length (newTreeOf c) → outcomeOf c j ≡ recomputed r
-      → ReachedSet (c .table) (symbolOf (getD (newTreeOf c) j 0)) (map (setAfter c) (childrenOf (c .alphabet) (newTreeOf c) j)) r
+  pub reached : (j : ℕ) (r : StateSet) → j < length (newTree c) → outcomeOf c j ≡ recomputed r
+      → ReachedSet (c .table) (symbolOf (getD (newTree c) j 0)) (map (setAfter c) (childrenOf (c .alphabet) (newTree c) j)) r
   -- "which is the replacement's elements plus the ancestors worked out, the unchanged one included"
   pub exact : workedOut ≡ length (c .replacement) + count (recomputes c) (listFrom (λ k. k) 0 (behindIn c))
   -- "it is at most the replacement's elements plus the depth of the place"
-  pub most : workedOut ≤ length (c .replacement) + depthOf (c .alphabet) (usedIn c) (c .element)
+  pub most : workedOut ≤ length (c .replacement) + depthOf (c .alphabet) (used c) (c .element)
 
 abbrev pub Demand3Recomputation : Type 0
 Demand3Recomputation =
-    (c : ExchangeCall) (elements workedOut : ℕ) → answeredBy c ≡ accepted (elements ∷ workedOut ∷ []) → RecomputesOnly c elements workedOut
+    (c : ExchangeCall) (elements workedOut : ℕ) → exchangeAnswer c ≡ accepted (elements ∷ workedOut ∷ []) → RecomputesOnly c elements workedOut

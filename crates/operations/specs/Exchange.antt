@@ -13,6 +13,7 @@ use Rattle.words.specs.Postfix.{arity, oneTree, startOf, isAncestor, splice, va
 use Rattle.automaton.specs.StateSet.{StateSet}
 use Rattle.words.specs.Answer.{Answer, answerOf, exitOf}
 use Rattle.operations.specs.Marks.{sizeOf, nodeSet, nodeSets, storedSet, sameWords, refit}
+use Rattle.operations.specs.ExchangeCall.{ExchangeCall}
 use Rattle.operations.specs.Run.{wrongCount, marksTooShort, tableRefusals, markedRefusals}
 
 -- 9: "also if the used count exceeds the chapter slice"
@@ -99,21 +100,27 @@ unfoldable pub outcomesAfter : List ℕ → List ℕ → (ℕ → StateSet) → 
 outcomesAfter a table stored used i xs =
     keptFrom stored 0 (startOf a used i) ++ (map recomputed (nodeSets a table xs) ++ outcomesBehind a table stored used i xs)
 
--- A call: alphabet and table, the chapter slice and the marks slice, the used element count, an element and a replacement
-module _ (a table chapter marks : List ℕ) (n i : ℕ) (xs : List ℕ) where
+module _ (c : ExchangeCall) where
   -- the used elements
   abbrev pub used : List ℕ
-  used = take n chapter
+  used = take (c .count) (c .chapter)
+
+  abbrev pub refusalsOf : Refusals
+  refusalsOf =
+      exchangeRefusals (c .alphabet) (c .table) (c .count) used (length (c .chapter)) (length (c .marks)) (c .element) (c .replacement)
 
   unfoldable pub fault : ℕ
-  fault = exchangeFault a table n used (length chapter) (length marks) i xs
+  fault = refusal refusalsOf
 
   unfoldable pub newTree : List ℕ
-  newTree = splice a used i xs
+  newTree = splice (c .alphabet) used (c .element) (c .replacement)
 
-  -- "Stored marks count as they stand"
+  -- "Stored marks count as they stand": those of node i of the old tree
+  abbrev pub storedIn : ℕ → StateSet
+  storedIn i = storedSet (sizeOf (c .table)) (c .marks) i
+
   unfoldable pub outcomes : List Outcome
-  outcomes = outcomesAfter a table (storedSet (sizeOf table) marks) used i xs
+  outcomes = outcomesAfter (c .alphabet) (c .table) storedIn used (c .element) (c .replacement)
 
   -- "The answer is the new element count and the number worked out"
   unfoldable pub exchangeAnswer : Answer
@@ -121,8 +128,8 @@ module _ (a table chapter marks : List ℕ) (n i : ℕ) (xs : List ℕ) where
 
   -- the chapter slice at exit
   unfoldable pub exchangeChapter : List ℕ
-  exchangeChapter = exitOf fault (refit n newTree chapter) chapter
+  exchangeChapter = exitOf fault (refit (c .count) newTree (c .chapter)) (c .chapter)
 
   -- the marks slice at exit
   unfoldable pub exchangeMarks : List ℕ
-  exchangeMarks = exitOf fault (refit (n * sizeOf table) (flatten (map setIn outcomes)) marks) marks
+  exchangeMarks = exitOf fault (refit (c .count * sizeOf (c .table)) (flatten (map setIn outcomes)) (c .marks)) (c .marks)

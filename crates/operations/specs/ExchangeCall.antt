@@ -1,13 +1,6 @@
--- A call of Exchange as one record, with what it answers and leaves, for the claims.
+-- A call of Exchange: all that it is given, as one record.
 use Prim.Native.Nat.{ℕ}
 use mathlib.Core.List.{List}
-use lib.ListN.{length}
-use Rattle.words.specs.Refusal.{Refusals}
-use Rattle.automaton.specs.StateSet.{StateSet}
-use Rattle.words.specs.Answer.{Answer}
-use Rattle.operations.specs.Marks.{sizeOf, storedSet}
-use Rattle.operations.specs.Exchange.{Outcome, exchangeRefusals, used, newTree, outcomes}
-use Rattle.operations.specs.Exchange.{exchangeAnswer, exchangeChapter, exchangeMarks}
 
 pub record ExchangeCall : Type 0 where
   pub alphabet : List ℕ
@@ -20,30 +13,14 @@ pub record ExchangeCall : Type 0 where
   pub element : ℕ
   pub replacement : List ℕ
 
-module _ (c : ExchangeCall) where
-  abbrev pub usedIn : List ℕ
-  usedIn = used (c .alphabet) (c .table) (c .chapter) (c .marks) (c .count) (c .element) (c .replacement)
-
-  abbrev pub refusalsOf : Refusals
-  refusalsOf =
-      exchangeRefusals (c .alphabet) (c .table) (c .count) usedIn (length (c .chapter)) (length (c .marks)) (c .element) (c .replacement)
-
-  -- "Stored marks count as they stand": those of node i of the old tree
-  abbrev pub storedIn : ℕ → StateSet
-  storedIn i = storedSet (sizeOf (c .table)) (c .marks) i
-
-  abbrev pub newTreeOf : List ℕ
-  newTreeOf = newTree (c .alphabet) (c .table) (c .chapter) (c .marks) (c .count) (c .element) (c .replacement)
-
-  abbrev pub outcomesOf : List Outcome
-  outcomesOf = outcomes (c .alphabet) (c .table) (c .chapter) (c .marks) (c .count) (c .element) (c .replacement)
-
-  -- the answer, and both slices at exit
-  abbrev pub answeredBy : Answer
-  answeredBy = exchangeAnswer (c .alphabet) (c .table) (c .chapter) (c .marks) (c .count) (c .element) (c .replacement)
-
-  abbrev pub chapterAfter : List ℕ
-  chapterAfter = exchangeChapter (c .alphabet) (c .table) (c .chapter) (c .marks) (c .count) (c .element) (c .replacement)
-
-  abbrev pub marksAfter : List ℕ
-  marksAfter = exchangeMarks (c .alphabet) (c .table) (c .chapter) (c .marks) (c .count) (c .element) (c .replacement)
+-- the same of its parts, for a contract
+abbrev pub exchangeCall : List ℕ → List ℕ → List ℕ → List ℕ → ℕ → ℕ → List ℕ → ExchangeCall
+exchangeCall a table chapter marks n i xs = record {
+  alphabet = a;
+  table = table;
+  chapter = chapter;
+  marks = marks;
+  count = n;
+  element = i;
+  replacement = xs;
+}

@@ -6,8 +6,8 @@ use lib.ListN.{length}
 use lib.Dec.{eqb}
 use Rattle.words.specs.Postfix.{splice}
 use Rattle.words.specs.Answer.{firstValue}
-use Rattle.operations.specs.Exchange.{exchangeFault}
-use Rattle.operations.specs.ExchangeCall.{ExchangeCall, answeredBy, chapterAfter, marksAfter}
+use Rattle.operations.specs.ExchangeCall.{ExchangeCall, exchangeCall}
+use Rattle.operations.specs.Exchange.{exchangeFault, exchangeAnswer, exchangeChapter, exchangeMarks}
 
 -- "element and replacement are its own"
 pub record Call : Type 0 where
@@ -22,22 +22,14 @@ pub record Memory : Type 0 where
 
 -- "Each call gets Run's alphabet and table and the same two slices, .. with the element count"
 abbrev pub callOn : List ℕ → List ℕ → Memory → Call → ExchangeCall
-callOn a table s c = record {
-  alphabet = a;
-  table = table;
-  chapter = s .chapter;
-  marks = s .marks;
-  count = s .count;
-  element = c .element;
-  replacement = c .replacement;
-}
+callOn a table s c = exchangeCall a table (s .chapter) (s .marks) (s .count) (c .element) (c .replacement)
 
 -- the memory behind one call
 unfoldable pub exchange : List ℕ → List ℕ → Memory → Call → Memory
 exchange a table s c = record {
-  chapter = chapterAfter (callOn a table s c);
-  marks = marksAfter (callOn a table s c);
-  count = firstValue (answeredBy (callOn a table s c)) (s .count);
+  chapter = exchangeChapter (callOn a table s c);
+  marks = exchangeMarks (callOn a table s c);
+  count = firstValue (exchangeAnswer (callOn a table s c)) (s .count);
 }
 
 -- the memory behind a list of calls, "as the call before left them"

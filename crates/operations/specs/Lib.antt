@@ -2,8 +2,8 @@ pub mod Compile
 pub mod Marks
 pub mod Run
 pub mod Listing
-pub mod Exchange
 pub mod ExchangeCall
+pub mod Exchange
 pub mod Recomputation
 pub mod History
 pub mod Demands

@@ -8,8 +8,8 @@ use Rattle.words.specs.Lists.{all, listFrom}
 use Rattle.words.specs.Postfix.{startOf, isAncestor}
 use Rattle.automaton.specs.StateSet.{StateSet}
 use Rattle.operations.specs.Marks.{sameWords}
-use Rattle.operations.specs.Exchange.{Outcome, kept, setIn, rootSet}
-use Rattle.operations.specs.ExchangeCall.{ExchangeCall, usedIn, storedIn, outcomesOf}
+use Rattle.operations.specs.ExchangeCall.{ExchangeCall}
+use Rattle.operations.specs.Exchange.{Outcome, kept, setIn, rootSet, used, storedIn, outcomes}
 
 -- the outcome of a node by its number
 abbrev pub outcomeAt : List Outcome → ℕ → Outcome
@@ -18,18 +18,18 @@ outcomeAt os j = getD os j (kept [])
 module _ (c : ExchangeCall) where
   -- node j of the new tree: its outcome, and its state set at exit
   abbrev pub outcomeOf : ℕ → Outcome
-  outcomeOf j = outcomeAt (outcomesOf c) j
+  outcomeOf j = outcomeAt (outcomes c) j
 
   abbrev pub setAfter : ℕ → StateSet
   setAfter j = setIn (outcomeOf j)
 
   -- the number of the first node of the replaced subtree, and of the replacement
   abbrev pub startIn : ℕ
-  startIn = startOf (c .alphabet) (usedIn c) (c .element)
+  startIn = startOf (c .alphabet) (used c) (c .element)
 
   -- how many nodes stand behind the replaced subtree; node k of these by its number in the old tree and in the new one
   abbrev pub behindIn : ℕ
-  behindIn = length (drop (c .element + 1) (usedIn c))
+  behindIn = length (drop (c .element + 1) (used c))
 
   abbrev pub oldNumber : ℕ → ℕ
   oldNumber k = c .element + 1 + k
@@ -39,7 +39,7 @@ module _ (c : ExchangeCall) where
 
   -- it is an ancestor of the replaced element
   abbrev pub ancestor : ℕ → Bool
-  ancestor k = isAncestor (c .alphabet) (usedIn c) (c .element) (oldNumber k)
+  ancestor k = isAncestor (c .alphabet) (used c) (c .element) (oldNumber k)
 
   -- it is an ancestor "whose marks are unchanged": work ends there
   abbrev pub unchanged : ℕ → Bool

@@ -1,5 +1,4 @@
--- The output depends on the first 65 words of the alphabet, the first 65 of the rule and the first 257 of the chapter: one
--- word more than the most that is accepted.
+-- The output depends only on the words that are kept of the alphabet, the rule and the chapter.
 use mathlib.Core.Path.{_≡_, refl, ap, _∙_, sym}
 use mathlib.Core.Bool.{Bool, true, false}
 use mathlib.Core.List.{List, [], _∷_, _++_}
@@ -10,6 +9,7 @@ use lib.ListN.{length, take}
 use lib.Seq.{take-all, length-take-le}
 use lib.Dec.{ltb}
 use borrow.Author.Tests.{ltb-true, lt-ltb, ne-eqb}
+use Rattle.words.specs.Limits.{alphabetMost, expressionMost}
 use Rattle.words.specs.Refusal.{Refusals, refusal}
 use Rattle.words.specs.Alphabet.{noAlphabet, alphabetRefusals}
 use Rattle.words.specs.ExpressionWords.{wrongLength}
@@ -17,7 +17,8 @@ use Rattle.words.proofs.TestLaws.{and-true}
 use Rattle.words.proofs.RefusalLaws.{positive, Found, here, next, found-refusal}
 use Rattle.operations.specs.Compile.{ruleRefusals}
 use Rattle.lines.specs.Line.{refusedLine}
-use Rattle.report.specs.Output.{wrongChapter, marklistRefusals, marklistFault, reportLines, marklistOutput, outputOf}
+use Rattle.report.specs.Stages.{alphabetKept, ruleKept, chapterKept}
+use Rattle.report.specs.Output.{chapterMost, wrongChapter, marklistRefusals, marklistFault, reportLines, marklistOutput, outputOf}
 
 -- ---- a refused call prints its number, any other the lines
 
@@ -39,9 +40,9 @@ early-output complete a e ch t = rw t
 
 -- ---- a list that is too long is refused whatever its words are
 
-alphabet-long : (a e ch : List ℕ) → 64 < length a → marklistFault a e ch ≡ 1
+alphabet-long : (a e ch : List ℕ) → alphabetMost < length a → marklistFault a e ch ≡ 1
 unfolding noAlphabet
-alphabet-long a e ch h = rw (ne-eqb (length a) 0 (λ z. omega arith), lt-ltb 64 (length a) h)
+alphabet-long a e ch h = rw (ne-eqb (length a) 0 (λ z. omega arith), lt-ltb alphabetMost (length a) h)
 
 -- where a condition holds, those behind it make no difference
 abbrev upTo : Refusals → ℕ → ℕ
@@ -57,19 +58,19 @@ cut-some [] n h p = h
 cut-some ((m, true) ∷ rs) n h p = ltb-true 0 m (and-true (ltb 0 m) (positive rs) p .0)
 cut-some ((m, false) ∷ rs) n h p = cut-some rs n h (and-true (ltb 0 m) (positive rs) p .1)
 
-rule-long : (a e ch : List ℕ) → 64 < length e → marklistFault a e ch ≡ upTo (alphabetRefusals a) 3
+rule-long : (a e ch : List ℕ) → expressionMost < length e → marklistFault a e ch ≡ upTo (alphabetRefusals a) 3
 unfolding wrongLength
 rule-long a e ch h = sym (found-refusal (marklistRefusals a e ch) (cut (alphabetRefusals a) _ 3 long))
   where
     long : wrongLength e ≡ true
-    long = rw (ne-eqb (length e) 0 (λ z. omega arith), lt-ltb 64 (length e) h)
+    long = rw (ne-eqb (length e) 0 (λ z. omega arith), lt-ltb expressionMost (length e) h)
 
-chapter-long : (a e ch : List ℕ) → 256 < length ch → marklistFault a e ch ≡ upTo (ruleRefusals a e) 9
+chapter-long : (a e ch : List ℕ) → chapterMost < length ch → marklistFault a e ch ≡ upTo (ruleRefusals a e) 9
 unfolding wrongChapter
 chapter-long a e ch h = sym (found-refusal (marklistRefusals a e ch) (cut (ruleRefusals a e) _ 9 long))
   where
     long : wrongChapter ch ≡ true
-    long = rw (ne-eqb (length ch) 0 (λ z. omega arith), lt-ltb 256 (length ch) h)
+    long = rw (ne-eqb (length ch) 0 (λ z. omega arith), lt-ltb chapterMost (length ch) h)
 
 rule-number : (a : List ℕ) → 0 < upTo (alphabetRefusals a) 3
 rule-number a = cut-some (alphabetRefusals a) 3 (omega arith) refl
@@ -82,32 +83,32 @@ chapter-number a e = cut-some (ruleRefusals a e) 9 (omega arith) refl
 kept-one-more : (l : List ℕ) (k : ℕ) → k < length l → k < length (take (k + 1) l)
 kept-one-more l k h = rw (length-take-le (k + 1) l (omega arith)) (omega arith)
 
-keep-alphabet : (a e ch : List ℕ) → marklistOutput (take 65 a) e ch ≡ marklistOutput a e ch
-keep-alphabet a e ch = go (decLe (length a) 64)
+keep-alphabet : (a e ch : List ℕ) → marklistOutput (take alphabetKept a) e ch ≡ marklistOutput a e ch
+keep-alphabet a e ch = go (decLe (length a) alphabetMost)
   where
-    go : Dec (length a ≤ 64) → marklistOutput (take 65 a) e ch ≡ marklistOutput a e ch
-    go (yes h) = ap (λ (l : List ℕ). marklistOutput l e ch) (take-all 65 a (omega arith))
+    go : Dec (length a ≤ alphabetMost) → marklistOutput (take alphabetKept a) e ch ≡ marklistOutput a e ch
+    go (yes h) = ap (λ (l : List ℕ). marklistOutput l e ch) (take-all alphabetKept a (omega arith))
     go (no h) =
-        refused-output (take 65 a) e ch 1 (alphabet-long (take 65 a) e ch (kept-one-more a 64 (omega arith))) (omega arith)
+        refused-output (take alphabetKept a) e ch 1 (alphabet-long (take alphabetKept a) e ch (kept-one-more a alphabetMost (omega arith))) (omega arith)
         ∙ sym (refused-output a e ch 1 (alphabet-long a e ch (omega arith)) (omega arith))
 
-keep-rule : (a e ch : List ℕ) → marklistOutput a (take 65 e) ch ≡ marklistOutput a e ch
-keep-rule a e ch = go (decLe (length e) 64)
+keep-rule : (a e ch : List ℕ) → marklistOutput a (take ruleKept e) ch ≡ marklistOutput a e ch
+keep-rule a e ch = go (decLe (length e) expressionMost)
   where
-    go : Dec (length e ≤ 64) → marklistOutput a (take 65 e) ch ≡ marklistOutput a e ch
-    go (yes h) = ap (λ (l : List ℕ). marklistOutput a l ch) (take-all 65 e (omega arith))
+    go : Dec (length e ≤ expressionMost) → marklistOutput a (take ruleKept e) ch ≡ marklistOutput a e ch
+    go (yes h) = ap (λ (l : List ℕ). marklistOutput a l ch) (take-all ruleKept e (omega arith))
     go (no h) =
-        refused-output a (take 65 e) ch _ (rule-long a (take 65 e) ch (kept-one-more e 64 (omega arith))) (rule-number a)
+        refused-output a (take ruleKept e) ch _ (rule-long a (take ruleKept e) ch (kept-one-more e expressionMost (omega arith))) (rule-number a)
         ∙ sym (refused-output a e ch _ (rule-long a e ch (omega arith)) (rule-number a))
 
-keep-chapter : (a e ch : List ℕ) → marklistOutput a e (take 257 ch) ≡ marklistOutput a e ch
-keep-chapter a e ch = go (decLe (length ch) 256)
+keep-chapter : (a e ch : List ℕ) → marklistOutput a e (take chapterKept ch) ≡ marklistOutput a e ch
+keep-chapter a e ch = go (decLe (length ch) chapterMost)
   where
-    go : Dec (length ch ≤ 256) → marklistOutput a e (take 257 ch) ≡ marklistOutput a e ch
-    go (yes h) = ap (marklistOutput a e) (take-all 257 ch (omega arith))
+    go : Dec (length ch ≤ chapterMost) → marklistOutput a e (take chapterKept ch) ≡ marklistOutput a e ch
+    go (yes h) = ap (marklistOutput a e) (take-all chapterKept ch (omega arith))
     go (no h) =
-        refused-output a e (take 257 ch) _ (chapter-long a e (take 257 ch) (kept-one-more ch 256 (omega arith))) (chapter-number a e)
+        refused-output a e (take chapterKept ch) _ (chapter-long a e (take chapterKept ch) (kept-one-more ch chapterMost (omega arith))) (chapter-number a e)
         ∙ sym (refused-output a e ch _ (chapter-long a e ch (omega arith)) (chapter-number a e))
 
-pub kept-output : (a e ch : List ℕ) → marklistOutput (take 65 a) (take 65 e) (take 257 ch) ≡ marklistOutput a e ch
-kept-output a e ch = keep-alphabet a (take 65 e) (take 257 ch) ∙ keep-rule a e (take 257 ch) ∙ keep-chapter a e ch
+pub kept-output : (a e ch : List ℕ) → marklistOutput (take alphabetKept a) (take ruleKept e) (take chapterKept ch) ≡ marklistOutput a e ch
+kept-output a e ch = keep-alphabet a (take ruleKept e) (take chapterKept ch) ∙ keep-rule a e (take chapterKept ch) ∙ keep-chapter a e ch

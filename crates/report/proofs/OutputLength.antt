@@ -1,4 +1,4 @@
--- The output never has more than 4,096 bytes.
+-- The output never has more bytes than a buffer.
 use mathlib.Core.Path.{_≡_, refl}
 use mathlib.Core.Bool.{Bool, true, false, cond, _&&_}
 use mathlib.Core.List.{List, [], _∷_, _++_}
@@ -9,6 +9,7 @@ use native.Mathlib.Nat.{pow-suc}
 use lib.ListN.{length, getD, length-append}
 use lib.Dec.{eqb, ltb, leb}
 use borrow.Author.Tests.{ltb-false, leb-true, eqb-true}
+use Rattle.words.specs.Limits.{statesMost}
 use Rattle.words.specs.Refusal.{Refusals, refusal}
 use Rattle.words.specs.Chapter.{symbolOf}
 use Rattle.words.specs.Postfix.{startOf}
@@ -24,7 +25,8 @@ use Rattle.operations.proofs.MatchLaws.{matches-few}
 use Rattle.operations.proofs.MarksLaws.{length-nodeSets}
 use Rattle.encoding.specs.Decimal.{decimal}
 use Rattle.lines.specs.Line.{refusedLine, headLine, hitLine, hitLines}
-use Rattle.report.specs.Output.{wrongChapter, marklistRefusals, marklistFault, hitsOf, marklistOutput, outputOf}
+use Rattle.report.specs.Stages.{bufferLength}
+use Rattle.report.specs.Output.{chapterMost, wrongChapter, marklistRefusals, marklistFault, hitsOf, marklistOutput, outputOf}
 use Rattle.encoding.proofs.DecimalLaws.{decimal-one, decimal-several}
 
 -- ---- how many digits a number has
@@ -46,7 +48,7 @@ pub refused-short : (n : ℕ) → n < 100 → length (refusedLine n) ≤ 11
 unfolding refusedLine
 refused-short n h = let d = decimal-most 1 n h in simp length-append (omega arith)
 
-head-short : (nodes states hits : ℕ) → nodes ≤ 256 → states ≤ 1024 → hits ≤ 256 → length (headLine nodes states hits) ≤ 31
+head-short : (nodes states hits : ℕ) → nodes ≤ chapterMost → states ≤ statesMost → hits ≤ chapterMost → length (headLine nodes states hits) ≤ 31
 unfolding headLine
 head-short nodes states hits n s h =
     let x = decimal-most 2 nodes (omega arith) in
@@ -54,7 +56,7 @@ head-short nodes states hits n s h =
     let z = decimal-most 2 hits (omega arith) in
     simp length-append (omega arith)
 
-hit-short : (a ch : List ℕ) (i : ℕ) → i < 256 → length (hitLine a ch i) ≤ 12
+hit-short : (a ch : List ℕ) (i : ℕ) → i < chapterMost → length (hitLine a ch i) ≤ 12
 unfolding hitLine
 hit-short a ch i h =
     let x = decimal-most 2 i (omega arith) in
@@ -62,7 +64,7 @@ hit-short a ch i h =
     let z = decimal-most 2 (i + 1 - startOf a ch i) (omega arith) in
     simp length-append (omega arith)
 
-hits-short : (a ch is : List ℕ) → AllBelow 256 is → length (hitLines a ch is) ≤ 12 * length is
+hits-short : (a ch is : List ℕ) → AllBelow chapterMost is → length (hitLines a ch is) ≤ 12 * length is
 unfolding hitLines
 hits-short a ch [] h = omega arith
 hits-short a ch (i ∷ is) h =
@@ -100,24 +102,24 @@ hits-few a e ch =
     let n = length-nodeSets a (compiledTable a e) ch in
     omega (arith, matches-few (compiled a e .final) (nodeSets a (compiledTable a e) ch) 0)
 
-hits-below : (a e ch : List ℕ) → length ch ≤ 256 → AllBelow 256 (hitsOf a e ch)
+hits-below : (a e ch : List ℕ) → length ch ≤ chapterMost → AllBelow chapterMost (hitsOf a e ch)
 unfolding hitsOf
 hits-below a e ch h =
     let n = length-nodeSets a (compiledTable a e) ch in
-    matches-below (compiled a e .final) (nodeSets a (compiledTable a e) ch) 0 256 (omega arith)
+    matches-below (compiled a e .final) (nodeSets a (compiledTable a e) ch) 0 chapterMost (omega arith)
 
 -- an accepted chapter has at most 256 elements
-pub accepted-few : (a e ch : List ℕ) → marklistFault a e ch ≡ 0 → length ch ≤ 256
+pub accepted-few : (a e ch : List ℕ) → marklistFault a e ch ≡ 0 → length ch ≤ chapterMost
 unfolding wrongChapter
 accepted-few a e ch f =
     let c : wrongChapter ch ≡ false = none-applies (marklistRefusals a e ch) refl f 9 in
-    ltb-false 256 (length ch) (or-false (eqb (length ch) 0) (ltb 256 (length ch)) c .1)
+    ltb-false chapterMost (length ch) (or-false (eqb (length ch) 0) (ltb chapterMost (length ch)) c .1)
 
-accepted-states : (a e ch : List ℕ) → marklistFault a e ch ≡ 0 → compiled a e .states ≤ 1024
+accepted-states : (a e ch : List ℕ) → marklistFault a e ch ≡ 0 → compiled a e .states ≤ statesMost
 unfolding tooManyStates
-accepted-states a e ch f = ltb-false 1024 (compiled a e .states) (none-applies (marklistRefusals a e ch) refl f 6)
+accepted-states a e ch f = ltb-false statesMost (compiled a e .states) (none-applies (marklistRefusals a e ch) refl f 6)
 
-marklist-short : (a e ch : List ℕ) → length (marklistOutput a e ch) ≤ 4096
+marklist-short : (a e ch : List ℕ) → length (marklistOutput a e ch) ≤ bufferLength
 unfolding marklistOutput
 marklist-short a e ch = go (eqb (marklistFault a e ch) 0) refl
   where
@@ -125,7 +127,7 @@ marklist-short a e ch = go (eqb (marklistFault a e ch) 0) refl
         → length
         (cond b (headLine (length ch) (compiled a e .states) (length (hitsOf a e ch)) ++ hitLines a ch (hitsOf a e ch))
         (refusedLine (marklistFault a e ch)))
-        ≤ 4096
+        ≤ bufferLength
     go true q =
         let f = eqb-true (marklistFault a e ch) 0 q in
         let few = accepted-few a e ch f in
@@ -134,11 +136,11 @@ marklist-short a e ch = go (eqb (marklistFault a e ch) 0) refl
         let y = hits-short a ch (hitsOf a e ch) (hits-below a e ch few) in
         simp length-append (omega arith)
     go false q =
-        let m = refusal-most 11 (marklistRefusals a e ch) refl in
+        let m = refusal-most 99 (marklistRefusals a e ch) refl in
         let x = refused-short (marklistFault a e ch) (omega arith) in
         omega arith
 
-pub output-short : (complete : Bool) (a e ch : List ℕ) → length (outputOf complete a e ch) ≤ 4096
+pub output-short : (complete : Bool) (a e ch : List ℕ) → length (outputOf complete a e ch) ≤ bufferLength
 unfolding outputOf
 output-short true a e ch = marklist-short a e ch
 output-short false a e ch = omega (arith, refused-short 0 (omega arith))

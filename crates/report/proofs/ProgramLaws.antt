@@ -13,6 +13,7 @@ use Rattle.report.specs.Output.{marklistOutput, outputOf}
 use Rattle.encoding.specs.Words.{wordsIn}
 use Rattle.report.specs.Input.{countIn, announced, complete, alphabetIn, ruleIn, chapterIn, programOutput}
 use Rattle.encoding.proofs.WordByteLaws.{length-wordsIn}
+use Rattle.report.specs.Stages.{alphabetKept, ruleKept, chapterKept}
 use Rattle.report.proofs.KeptLaws.{kept-output}
 
 -- ---- the whole program
@@ -71,6 +72,6 @@ module _ (input : List ℕ) where
         ∙ drop-at e (ch ++ rest) m rule)
         ∙ take-at ch rest k chapter)
 
-    pub program-complete : programOutput input ≡ outputOf true (take 65 a) (take 65 e) (take 257 ch)
+    pub program-complete : programOutput input ≡ outputOf true (take alphabetKept a) (take ruleKept e) (take chapterKept ch)
     unfolding programOutput outputOf
     program-complete = rw (all-there, alphabet-in, rule-in, chapter-in) (sym (kept-output a e ch))

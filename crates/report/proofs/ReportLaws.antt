@@ -6,6 +6,7 @@ use Prim.Native.Nat.{ℕ, _<_, _≤_}
 use native.Mathlib.Omega.{arith}
 use lib.ListN.{length, take, drop, replicate, length-replicate, length-take}
 use Rattle.automaton.specs.Transition.{automatonOf}
+use Rattle.words.specs.Limits.{tableMost}
 use Rattle.words.specs.Answer.{refused, accepted}
 use Rattle.operations.specs.Compile.{compiledTable, compileAnswer, compileExit}
 use Rattle.operations.specs.Run.{runAnswer, runExit}
@@ -22,8 +23,8 @@ use Rattle.matcher.specs.declared.Listed.the-variants.{Matches, Refused as List
 use Rattle.matcher.specs.MatcherAnswers.{answerInRan, answerInListed}
 use Rattle.operations.proofs.MatchLaws.{matchesOf-few}
 use Rattle.lines.specs.Line.{refusedLine, headLine, hitLines}
-use Rattle.report.specs.Output.{marklistOutput, outputOf}
-use Rattle.report.specs.Stages.{ChapterReportable, HitsReportable}
+use Rattle.report.specs.Output.{chapterMost, marklistOutput, outputOf}
+use Rattle.report.specs.Stages.{bufferLength, marksLength, ChapterReportable, HitsReportable}
 use Rattle.encoding.specs.ByteWriting.{BytesWritten}
 use Rattle.encoding.proofs.ByteWritingLaws.{bytes-written-same, bytes-written-whole}
 use Rattle.report.proofs.KeptLaws.{complete-output, early-output}
@@ -40,13 +41,13 @@ many n = length-replicate {A = ℕ} n 0
 
 -- ---- the whole output, in a slice that it fits
 
-whole : (bs out out′ : List ℕ) (r : ℕ) → length bs ≤ 4096 → 4096 ≤ length out → BytesWritten 0 bs out out′ r
+whole : (bs out out′ : List ℕ) (r : ℕ) → length bs ≤ bufferLength → bufferLength ≤ length out → BytesWritten 0 bs out out′ r
     → (r ≡ length bs) × (out′ ≡ bs ++ drop r out)
 whole bs out out′ r s fits w =
     let p = bytes-written-whole bs out out′ r w (omega arith) in
     (p .0, p .1 ∙ ap (λ (n : ℕ). bs ++ drop n out) (sym (p .0)))
 
-module _ (complete : Bool) (a e ch : List ℕ) {out out′ : List ℕ} {r : ℕ} (fits : 4096 ≤ length out) where
+module _ (complete : Bool) (a e ch : List ℕ) {out out′ : List ℕ} {r : ℕ} (fits : bufferLength ≤ length out) where
   pub complete-whole : complete ≡ true → BytesWritten 0 (marklistOutput a e ch) out out′ r
       → (r ≡ length (outputOf complete a e ch)) × (out′ ≡ outputOf complete a e ch ++ drop r out)
   complete-whole t w =
@@ -63,11 +64,11 @@ module _ (complete : Bool) (a e ch : List ℕ) {out out′ : List ℕ} {r : ℕ}
 
 module _ (a e ch : List ℕ) where
   pub refused-compiled : {n x : ℕ} {out out′ : List ℕ} (r : Compiled) → r ≡ Compiled·Refused n
-      → answerInCompiled r ≡ compileAnswer a e (zeros 2048)
+      → answerInCompiled r ≡ compileAnswer a e (zeros tableMost)
       → BytesWritten 0 (refusedLine n) out out′ x → BytesWritten 0 (marklistOutput a e ch) out out′ x
   refused-compiled {n} r q h w =
-      let g : refused n ≡ compileAnswer a e (zeros 2048) = rw q at h in
-      bytes-written-same w (sym (compile-refused a e ch (zeros 2048) n (many 2048) g))
+      let g : refused n ≡ compileAnswer a e (zeros tableMost) = rw q at h in
+      bytes-written-same w (sym (compile-refused a e ch (zeros tableMost) n (many tableMost) g))
 
 module _ (a e slice : List ℕ) {table : List ℕ} {k : ℕ} (r : Compiled) (told : r ≡ Table k)
     (h : answerInCompiled r ≡ compileAnswer a e slice) (exit : table ≡ compileExit a e slice) where
@@ -86,7 +87,7 @@ module _ (a e slice : List ℕ) {table : List ℕ} {k : ℕ} (r : Compiled) (tol
   pub table-fits : k ≤ length table
   table-fits = let l = length-take k table in omega (arith, table-counted)
 
-  pub chapter-reportable : length slice ≡ 2048 → ChapterReportable a e (take k table)
+  pub chapter-reportable : length slice ≡ tableMost → ChapterReportable a e (take k table)
   chapter-reportable long = record {
     slice = slice;
     long = long;
@@ -97,27 +98,27 @@ module _ (a e slice : List ℕ) {table : List ℕ} {k : ℕ} (r : Compiled) (tol
 -- ---- Run
 
 module _ {a e table : List ℕ} (t : ChapterReportable a e table) (ch : List ℕ) where
-  pub refused-over : {x : ℕ} {out out′ : List ℕ} → 256 < length ch → BytesWritten 0 (refusedLine 9) out out′ x
+  pub refused-over : {x : ℕ} {out out′ : List ℕ} → chapterMost < length ch → BytesWritten 0 (refusedLine 9) out out′ x
       → BytesWritten 0 (marklistOutput a e ch) out out′ x
   refused-over h w = bytes-written-same w (sym (chapter-over a e ch (t .slice) (length table) (t .long) (t .answer) h))
 
-  module _ (few : length ch ≤ 256) where
-    pub refused-ran : {n x : ℕ} {out out′ : List ℕ} (r : Ran) → r ≡ Ran·Refused n → answerInRan r ≡ runAnswer a table ch (zeros 8192)
+  module _ (few : length ch ≤ chapterMost) where
+    pub refused-ran : {n x : ℕ} {out out′ : List ℕ} (r : Ran) → r ≡ Ran·Refused n → answerInRan r ≡ runAnswer a table ch (zeros marksLength)
         → BytesWritten 0 (refusedLine n) out out′ x → BytesWritten 0 (marklistOutput a e ch) out out′ x
     refused-ran {n} r q h w =
-        let g : refused n ≡ runAnswer a table ch (zeros 8192) = rw q at h in
+        let g : refused n ≡ runAnswer a table ch (zeros marksLength) = rw q at h in
         bytes-written-same w
         (sym
-        (run-refusal a e ch (t .slice) (length table) (t .long) (t .answer) few (zeros 8192) n (many 8192)
-        (g ∙ ap (λ (l : List ℕ). runAnswer a l ch (zeros 8192)) (t .same))))
+        (run-refusal a e ch (t .slice) (length table) (t .long) (t .answer) few (zeros marksLength) n (many marksLength)
+        (g ∙ ap (λ (l : List ℕ). runAnswer a l ch (zeros marksLength)) (t .same))))
 
-    pub marked : {n cells : ℕ} {marks : List ℕ} (r : Ran) → r ≡ Marked n cells → answerInRan r ≡ runAnswer a table ch (zeros 8192)
-        → marks ≡ runExit a table ch (zeros 8192) → HitsReportable a e table ch marks
+    pub marked : {n cells : ℕ} {marks : List ℕ} (r : Ran) → r ≡ Marked n cells → answerInRan r ≡ runAnswer a table ch (zeros marksLength)
+        → marks ≡ runExit a table ch (zeros marksLength) → HitsReportable a e table ch marks
     marked {n} {cells} r q h exit = record {
       chapter = t;
       few = few;
-      slice = zeros 8192;
-      long = many 8192;
+      slice = zeros marksLength;
+      long = many marksLength;
       nodes = n;
       cells = cells;
       answer = rw q at h;
@@ -128,14 +129,14 @@ module _ {a e table : List ℕ} (t : ChapterReportable a e table) (ch : List ℕ
 
 -- an accepted List names at most as many elements as its slice has places
 pub hits-most : (a table : List ℕ) (n : ℕ) (marks : List ℕ) {k : ℕ} (q : Listed) → q ≡ Matches k
-    → answerInListed q ≡ listAnswer a table n marks (zeros 256) → k ≤ 256
+    → answerInListed q ≡ listAnswer a table n marks (zeros chapterMost) → k ≤ chapterMost
 unfolding listAnswer
 hits-most a table n marks {k} q e h =
-    let g : accepted (k ∷ []) ≡ listAnswer a table n marks (zeros 256) = rw e at h in
+    let g : accepted (k ∷ []) ≡ listAnswer a table n marks (zeros chapterMost) = rw e at h in
     let v =
-    accepted-values (listFault a table n (length marks) (length (zeros 256))) (length (matchesOf table n marks) ∷ []) (k ∷ []) (sym g) in
-    let fits = list-accepted a table n (length marks) (length (zeros 256)) (v .0) .list in
-    let long = many 256 in
+    accepted-values (listFault a table n (length marks) (length (zeros chapterMost))) (length (matchesOf table n marks) ∷ []) (k ∷ []) (sym g) in
+    let fits = list-accepted a table n (length marks) (length (zeros chapterMost)) (v .0) .list in
+    let long = many chapterMost in
     let few = matchesOf-few table marks n in
     let count : length (matchesOf table n marks) ≡ k = head-eq-of-cons-eq (v .1) in
     omega arith
@@ -154,34 +155,34 @@ module _ {a e table ch marks : List ℕ} (m : HitsReportable a e table ch marks)
   marks-are : marks ≡ left
   marks-are = m .same ∙ ap (λ (l : List ℕ). runExit a l ch (m .slice)) (t .same)
 
-  same-answer : listAnswer a table (length ch) marks (zeros 256) ≡ listAnswer a (compiledTable a e) (length ch) left (zeros 256)
-  same-answer = ap₂ (λ (l ms : List ℕ). listAnswer a l (length ch) ms (zeros 256)) (t .same) marks-are
+  same-answer : listAnswer a table (length ch) marks (zeros chapterMost) ≡ listAnswer a (compiledTable a e) (length ch) left (zeros chapterMost)
+  same-answer = ap₂ (λ (l ms : List ℕ). listAnswer a l (length ch) ms (zeros chapterMost)) (t .same) marks-are
 
-  pub never-refused : {f : ℕ} (q : Listed) → q ≡ Listed·Refused f → answerInListed q ≡ listAnswer a table (length ch) marks (zeros 256) → ⊥
+  pub never-refused : {f : ℕ} (q : Listed) → q ≡ Listed·Refused f → answerInListed q ≡ listAnswer a table (length ch) marks (zeros chapterMost) → ⊥
   never-refused {f} q told h =
-      let g : refused f ≡ listAnswer a table (length ch) marks (zeros 256) = rw told at h in
-      list-not-refused a e ch (t .slice) (length table) (t .long) (t .answer) (m .few) (m .slice) (zeros 256) (m .long) (many 256)
+      let g : refused f ≡ listAnswer a table (length ch) marks (zeros chapterMost) = rw told at h in
+      list-not-refused a e ch (t .slice) (length table) (t .long) (t .answer) (m .few) (m .slice) (zeros chapterMost) (m .long) (many chapterMost)
       (m .nodes) (m .cells) runs f
       (g ∙ same-answer)
 
   pub lines-written : {hits states x : ℕ} {out out′ list : List ℕ} (q : Listed) → q ≡ Matches hits
-      → answerInListed q ≡ listAnswer a table (length ch) marks (zeros 256) → list ≡ listExit a table (length ch) marks (zeros 256)
+      → answerInListed q ≡ listAnswer a table (length ch) marks (zeros chapterMost) → list ≡ listExit a table (length ch) marks (zeros chapterMost)
       → states ≡ automatonOf table .states
       → BytesWritten 0 (headLine (length ch) states (length (take hits list)) ++ hitLines a ch (take hits list)) out out′ x
       → BytesWritten 0 (marklistOutput a e ch) out out′ x
   lines-written {hits} {states} {list = list} q told h wrote s w =
-      let g : accepted (hits ∷ []) ≡ listAnswer a table (length ch) marks (zeros 256) = rw told at h in
-      let l : list ≡ listExit a (compiledTable a e) (length ch) left (zeros 256) =
-      wrote ∙ ap₂ (λ (l ms : List ℕ). listExit a l (length ch) ms (zeros 256)) (t .same) marks-are in
+      let g : accepted (hits ∷ []) ≡ listAnswer a table (length ch) marks (zeros chapterMost) = rw told at h in
+      let l : list ≡ listExit a (compiledTable a e) (length ch) left (zeros chapterMost) =
+      wrote ∙ ap₂ (λ (l ms : List ℕ). listExit a l (length ch) ms (zeros chapterMost)) (t .same) marks-are in
       let z : states ≡ automatonOf (compiledTable a e) .states = s ∙ ap (λ (l : List ℕ). automatonOf l .states) (t .same) in
       let n : hits ≡ length (take hits list) =
-      listed-long a e ch (t .slice) (length table) (t .long) (t .answer) (m .few) (m .slice) (zeros 256) (m .long) (many 256) (m .nodes)
+      listed-long a e ch (t .slice) (length table) (t .long) (t .answer) (m .few) (m .slice) (zeros chapterMost) (m .long) (many chapterMost) (m .nodes)
       (m .cells) runs hits
       (g ∙ same-answer)
       ∙ sym (ap (λ (ls : List ℕ). length (take hits ls)) l) in
       bytes-written-same w
       (sym
-      (listed-output a e ch (t .slice) (length table) (t .long) (t .answer) (m .few) (m .slice) (zeros 256) (m .long) (many 256) (m .nodes)
+      (listed-output a e ch (t .slice) (length table) (t .long) (t .answer) (m .few) (m .slice) (zeros chapterMost) (m .long) (many chapterMost) (m .nodes)
       (m .cells) runs hits
       (g ∙ same-answer)
       ∙ rw (← l, ← n, z)))

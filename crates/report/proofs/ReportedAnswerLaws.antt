@@ -1,7 +1,7 @@
--- What Compile, Run and List answer on slices of 2,048, 8,192 and 256 words is what the output is made of: 7, 8, 12 and 13
--- cannot arise.
+-- What Compile, Run and List answer on slices that are long enough is what the output is made of: no number of a short slice can
+-- arise.
 use mathlib.Core.Path.{_≡_, refl, ap, _∙_, sym}
-use mathlib.Core.Bool.{false}
+use mathlib.Core.Bool.{Bool, false}
 use mathlib.Core.List.{List, [], _∷_, _++_, head-eq-of-cons-eq}
 use Prim.Native.Nat.{ℕ, zero, suc, _*_, _<_, _≤_}
 use native.Mathlib.Omega.{arith}
@@ -9,8 +9,10 @@ use native.Mathlib.Nat.{mul-le-mul}
 use lib.ListN.{length, take, drop}
 use lib.Seq.{take-at}
 use borrow.Author.Tests.{lt-ltb, le-ltb, ne-eqb}
-use Rattle.words.specs.Refusal.{refusal}
-use Rattle.words.proofs.RefusalLaws.{none, next, found-refusal, refusal-found, refuses, passes}
+use Rattle.words.specs.Limits.{tableMost, nodesMost}
+use Rattle.words.specs.Refusal.{Refusals, refusal}
+use Rattle.words.specs.Chapter.{treeRefusals}
+use Rattle.words.proofs.RefusalLaws.{none, next, found-refusal, refusal-found, refuses, passes, first-passes, last-passes}
 use Rattle.automaton.specs.Transition.{Automaton, automatonOf}
 use Rattle.automaton.specs.StateSet.{sizeFor}
 use Rattle.automaton.specs.Numbering.{compiled}
@@ -18,38 +20,40 @@ use Rattle.automaton.proofs.CompiledTable.{table-most}
 use Rattle.words.specs.Answer.{refused, accepted}
 use Rattle.operations.specs.Compile.{compiledTable, tableTooLong, ruleRefusals, compileRefusals, compileFault, compileAnswer}
 use Rattle.operations.specs.Marks.{sizeOf, finalOf, nodeSets}
-use Rattle.operations.specs.Run.{wrongCount, marksTooShort, runFault, runMarks, runAnswer, runExit}
+use Rattle.operations.specs.Run.{wrongCount, marksTooShort, tableRefusals, runFault, runMarks, runAnswer, runExit}
 use Rattle.operations.specs.Listing.{listFault, matchesIn, matchesOf, listAnswer, listExit}
-use Rattle.operations.proofs.AcceptedLaws.{accepted-values, RuleAccepted, rule-accepted, rule-alphabet}
-use Rattle.operations.proofs.AcceptedLaws.{rule-expression, run-accepted, accepted-list}
+use Rattle.operations.proofs.AcceptedLaws.{accepted-values, RuleAccepted, rule-accepted}
+use Rattle.operations.proofs.AcceptedLaws.{accepted-table, run-accepted, accepted-list}
 use Rattle.operations.proofs.RunLaws.{run-exit, run-writes, run-length, matches-nodeSets}
 use Rattle.operations.proofs.CompileLaws.{CompileResult, compile-result}
 use Rattle.operations.proofs.Demand1.{refused-by}
 use Rattle.lines.specs.Line.{refusedLine, headLine, hitLines}
-use Rattle.report.specs.Output.{wrongChapter, chapterRefusals, marklistRefusals, marklistFault, hitsOf, marklistOutput}
+use Rattle.sets.specs.Size.{setMost}
+use Rattle.report.specs.Stages.{marksLength}
+use Rattle.report.specs.Output.{chapterMost, wrongChapter, chapterRefusals, marklistRefusals, marklistFault, hitsOf, marklistOutput}
 use Rattle.report.proofs.KeptLaws.{refused-output, accepted-output}
 
--- ---- Compile, with a table slice of 2,048 words
+-- ---- Compile, with a table slice for the longest table
 
 module _ (a e : List ℕ) where
   -- 7 cannot arise
-  table-enough : refusal (ruleRefusals a e) ≡ 0 → tableTooLong a e 2048 ≡ false
+  table-enough : refusal (ruleRefusals a e) ≡ 0 → tableTooLong a e tableMost ≡ false
   unfolding tableTooLong
   table-enough h =
       let f = rule-accepted a e h in
-      let l = table-most a e (rule-alphabet f) (rule-expression f) (f .states) in
-      le-ltb 2048 (length (compiledTable a e)) (omega arith)
+      let l = table-most a e (f .alphabet) (f .expression) (f .states) in
+      le-ltb tableMost (length (compiledTable a e)) (omega arith)
 
-  compile-rule : compileFault a e 2048 ≡ refusal (ruleRefusals a e)
+  compile-rule : compileFault a e tableMost ≡ refusal (ruleRefusals a e)
   compile-rule = go (refusal (ruleRefusals a e)) refl
     where
-      go : (n : ℕ) → refusal (ruleRefusals a e) ≡ n → compileFault a e 2048 ≡ refusal (ruleRefusals a e)
+      go : (n : ℕ) → refusal (ruleRefusals a e) ≡ n → compileFault a e tableMost ≡ refusal (ruleRefusals a e)
       go (suc n) h =
-          sym (found-refusal (compileRefusals a e 2048) (refuses (ruleRefusals a e) _ refl (λ z. omega arith)))
-      go zero h = sym (found-refusal (compileRefusals a e 2048) (passes (ruleRefusals a e) refl refl h (next (table-enough h) none))) ∙ sym h
+          sym (found-refusal (compileRefusals a e tableMost) (refuses (ruleRefusals a e) _ refl (λ z. omega arith)))
+      go zero h = sym (found-refusal (compileRefusals a e tableMost) (passes (ruleRefusals a e) refl refl h (next (table-enough h) none))) ∙ sym h
 
   -- a refused Compile: its number is printed
-  pub compile-refused : (ch slice : List ℕ) (n : ℕ) → length slice ≡ 2048 → refused n ≡ compileAnswer a e slice
+  pub compile-refused : (ch slice : List ℕ) (n : ℕ) → length slice ≡ tableMost → refused n ≡ compileAnswer a e slice
       → marklistOutput a e ch ≡ refusedLine n
   unfolding compileAnswer
   compile-refused ch slice n l h =
@@ -58,9 +62,9 @@ module _ (a e : List ℕ) where
       let some = q .0 in
       refused-output a e ch n (sym (found-refusal (marklistRefusals a e ch) (refuses (ruleRefusals a e) _ f (λ z. omega arith)))) (q .0)
 
-  -- ---- an accepted Compile, and Run with marks of 8,192 words
+  -- ---- an accepted Compile, and Run
 
-  module _ (ch slice : List ℕ) (k : ℕ) (l : length slice ≡ 2048) (h : accepted (k ∷ []) ≡ compileAnswer a e slice) where
+  module _ (ch slice : List ℕ) (k : ℕ) (l : length slice ≡ tableMost) (h : accepted (k ∷ []) ≡ compileAnswer a e slice) where
     rule-none : refusal (ruleRefusals a e) ≡ 0
     unfolding compileAnswer
     rule-none =
@@ -78,49 +82,53 @@ module _ (a e : List ℕ) where
     left-fault = sym (found-refusal (marklistRefusals a e ch) (passes (ruleRefusals a e) refl refl rule-none (refusal-found (chapterRefusals a ch) refl)))
 
     -- "Over 256 elements it says 9"
-    pub chapter-over : 256 < length ch → marklistOutput a e ch ≡ refusedLine 9
+    pub chapter-over : chapterMost < length ch → marklistOutput a e ch ≡ refusedLine 9
     unfolding wrongChapter
     chapter-over g =
-        refused-output a e ch 9 (left-fault ∙ rw (ne-eqb (length ch) 0 (λ z. omega arith), lt-ltb 256 (length ch) g)) (omega arith)
+        refused-output a e ch 9 (left-fault ∙ rw (ne-eqb (length ch) 0 (λ z. omega arith), lt-ltb chapterMost (length ch) g)) (omega arith)
 
     -- the state count of the head
     pub compiled-states : automatonOf (compiledTable a e) .states ≡ compiled a e .states
     compiled-states = ap (λ A. A .states) (known .automaton)
 
-    size-few : sizeOf (compiledTable a e) ≤ 32
+    size-few : sizeOf (compiledTable a e) ≤ setMost
     unfolding sizeOf sizeFor
     size-few = let s = rule .states in rw compiled-states (omega arith)
 
-    module _ (few : length ch ≤ 256) where
-      marks-enough : marksTooShort (compiledTable a e) (length ch) 8192 ≡ false
+    module _ (few : length ch ≤ chapterMost) where
+      marks-enough : marksTooShort (compiledTable a e) (length ch) marksLength ≡ false
       unfolding marksTooShort
       marks-enough =
-          let p : length ch * sizeOf (compiledTable a e) ≤ 256 * 32 = mul-le-mul few size-few in
-          le-ltb 8192 (length ch * sizeOf (compiledTable a e)) p
+          let p : length ch * sizeOf (compiledTable a e) ≤ marksLength = mul-le-mul few size-few in
+          le-ltb marksLength (length ch * sizeOf (compiledTable a e)) p
 
       -- 9 is judged alike
       same-count : wrongCount (length ch) ≡ wrongChapter ch
       unfolding wrongCount wrongChapter
-      same-count = rw (le-ltb 4096 (length ch) (omega arith), le-ltb 256 (length ch) few)
+      same-count = rw (le-ltb nodesMost (length ch) (omega arith), le-ltb chapterMost (length ch) few)
 
       -- 8 and 12 cannot arise
-      run-fault : runFault a (compiledTable a e) ch 8192 ≡ marklistFault a e ch
+      run-fault : runFault a (compiledTable a e) ch marksLength ≡ marklistFault a e ch
       run-fault =
-          let q : runFault a (compiledTable a e) ch 8192 ≡ refusal (chapterRefusals a ch) =
-          rw (rule .alphabet, rule .constants, known .passes, same-count, marks-enough) in
-          q ∙ sym left-fault
+          let T = compiledTable a e in
+          let shared : Refusals = (9, wrongCount (length ch)) ∷ treeRefusals a ch in
+          let last : Refusals = (12, marksTooShort T (length ch) marksLength) ∷ [] in
+          first-passes (tableRefusals a T) (shared ++ last) refl
+          (accepted-table a T (record { alphabet = rule .alphabet; automaton = known .checked }))
+          ∙ last-passes shared last (rw marks-enough)
+          ∙ ap (λ (b : Bool). refusal ((9, b) ∷ treeRefusals a ch)) same-count ∙ sym left-fault
 
       -- a refused Run: its number is printed
-      pub run-refusal : (marks : List ℕ) (n : ℕ) → length marks ≡ 8192 → refused n ≡ runAnswer a (compiledTable a e) ch marks
+      pub run-refusal : (marks : List ℕ) (n : ℕ) → length marks ≡ marksLength → refused n ≡ runAnswer a (compiledTable a e) ch marks
           → marklistOutput a e ch ≡ refusedLine n
       unfolding runAnswer
       run-refusal marks n m g =
           let q = refused-by _ (runFault a (compiledTable a e) ch (length marks)) n (sym g) in
           refused-output a e ch n (sym run-fault ∙ ap (runFault a (compiledTable a e) ch) (sym m) ∙ q .1) (q .0)
 
-      -- ---- an accepted Run, and List with a slice of 256 words
+      -- ---- an accepted Run, and List with a slice of a word an element
 
-      module _ (marks list : List ℕ) (m : length marks ≡ 8192) (r : length list ≡ 256) (n cells : ℕ)
+      module _ (marks list : List ℕ) (m : length marks ≡ marksLength) (r : length list ≡ chapterMost) (n cells : ℕ)
           (runs : accepted (n ∷ cells ∷ []) ≡ runAnswer a (compiledTable a e) ch marks) where
         abbrev left : List ℕ
         left = runExit a (compiledTable a e) ch marks
@@ -132,10 +140,10 @@ module _ (a e : List ℕ) where
         none-left : marklistFault a e ch ≡ 0
         none-left = sym run-fault ∙ ap (runFault a (compiledTable a e) ch) (sym m) ∙ run-none
 
-        left-long : length left ≡ 8192
+        left-long : length left ≡ marksLength
         left-long =
             ap length (run-exit a (compiledTable a e) ch marks run-none)
-            ∙ run-length a (compiledTable a e) ch marks (run-accepted a (compiledTable a e) ch (length marks) run-none .marks) ∙ m
+            ∙ run-length a (compiledTable a e) ch marks (run-accepted a (compiledTable a e) ch (length marks) run-none .marked .marks) ∙ m
 
         -- 13 cannot arise either
         list-none : listFault a (compiledTable a e) (length ch) (length left) (length list) ≡ 0
@@ -143,11 +151,9 @@ module _ (a e : List ℕ) where
             let g = run-accepted a (compiledTable a e) ch (length marks) run-none in
             accepted-list a (compiledTable a e) (length ch) (length left) (length list)
             (record {
-              alphabet = g .alphabet;
-              constants = g .constants;
-              automaton = g .automaton;
+              checked = g .checked;
               counted = g .counted;
-              marks = rw (left-long, ← m) (g .marks);
+              marks = rw (left-long, ← m) (g .marked .marks);
               list = rw r few;
             })
 

@@ -14,9 +14,13 @@ use Rattle.lines.specs.Line.{refusedLine, headLine, hitLines}
 
 -- ---- the whole output
 
+-- the most elements of a chapter here
+abbrev pub chapterMost : ℕ
+chapterMost = 256
+
 -- 9 in Run's place: "Over 256 elements it says 9", and a chapter of 0 elements
 unfoldable pub wrongChapter : List ℕ → Bool
-wrongChapter ch = eqb (length ch) 0 || ltb 256 (length ch)
+wrongChapter ch = eqb (length ch) 0 || ltb chapterMost (length ch)
 
 -- 9 10 11, of a chapter: Run's
 abbrev pub chapterRefusals : List ℕ → List ℕ → Refusals

@@ -4,7 +4,7 @@ ghost use mathlib.Core.List.{List, _++_};
 ghost use Prim.Native.Nat.{ℕ, _≤_};
 ghost use lib.ListN.{length, drop};
 ghost use Rattle.report.specs.Output.{marklistOutput, outputOf};
-ghost use Rattle.report.specs.Stages.{ChapterReportable, HitsReportable};
+ghost use Rattle.report.specs.Stages.{bufferLength, ChapterReportable, HitsReportable};
 ghost use Rattle.encoding.specs.ByteWriting.{BytesWritten};
 use compiler::Compiled;
 use compiler::compile;
@@ -14,18 +14,17 @@ use matcher::Listed;
 use matcher::Ran;
 use matcher::list;
 use matcher::run;
+use sets::state::SET_MOST;
 use tables::head::state_count;
+use words::limits::TABLE_MOST;
 
 pub mod input;
 
 // The most elements of a chapter here.
-const CHAPTER_MOST: usize = 256;
+pub const CHAPTER_MOST: usize = 256;
 
-// The words of the table and of the marks: a compiled table has at most 1,147 words, and the marks of an element have at
-// most 32.
-const TABLE_ROOM: usize = 2048;
-
-const MARKS_ROOM: usize = 8192;
+// The words of the marks.
+const MARKS_LENGTH: usize = CHAPTER_MOST * SET_MOST;
 
 // Lists the hits in the marks, and writes the head line and the lines of the hits.
 fn report_hits(
@@ -63,7 +62,7 @@ fn report_chapter(alphabet: &[u32], table: &[u32], chapter: &[u32], out: &mut [u
     if chapter.len() > CHAPTER_MOST {
         return write_refused(out, 9);
     }
-    let mut marks = [0u32; MARKS_ROOM];
+    let mut marks = [0u32; MARKS_LENGTH];
     match run(alphabet, table, chapter, &mut marks) {
         Ran::Marked(_, _) => report_hits(alphabet, table, chapter, &marks, out),
         Ran::Refused(number) => write_refused(out, number),
@@ -79,7 +78,7 @@ pub fn report(
     chapter: &[u32],
     out: &mut [u8],
 ) -> usize
-    requires { ⌜ 4096 ≤ length (now out) ⌝ }
+    requires { ⌜ bufferLength ≤ length (now out) ⌝ }
     ensures answer { λ r. ⌜ r ≡ length (outputOf complete (now (alphabet .entry)) (now (rule .entry)) (now (chapter .entry))) ⌝ }
     ensures out { λ r. ⌜
         now (out .exit)
@@ -89,7 +88,7 @@ pub fn report(
     if !complete {
         return write_refused(out, 0);
     }
-    let mut table = [0u32; TABLE_ROOM];
+    let mut table = [0u32; TABLE_MOST];
     match compile(alphabet, rule, &mut table) {
         Compiled::Table(size) => report_chapter(alphabet, &table[..size], chapter, out),
         Compiled::Refused(number) => write_refused(out, number),

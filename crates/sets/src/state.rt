@@ -3,13 +3,12 @@ ghost use mathlib.Core.Path.{_≡_};
 ghost use Prim.Native.Nat.{_^_, _<_};
 ghost use Rattle.words.specs.Word.{countRange};
 ghost use Rattle.automaton.specs.StateSet.{sizeFor, contains as StateSet·contains, insert as StateSet·insert};
-use words::limits::STATES_MOST;
 
 // The states of one word of a set.
 const WORD_BITS: usize = 32;
 
 // The most words of a set.
-pub const SET_MOST: usize = (STATES_MOST + 31) / WORD_BITS;
+pub const SET_MOST: usize = 32;
 
 // The word with bit b alone, for each b.
 const MASKS: [u32; 32] = [

@@ -8,6 +8,7 @@ use lib.ListN.{length}
 use lib.Dec.{ltb, leb, eqb}
 use borrow.Author.Tests.{leb-true, ltb-false, eqb-false, not-false}
 use Rattle.words.specs.Lists.{all}
+use Rattle.words.specs.Limits.{alphabetMost, constantsMost, rankMost}
 use Rattle.words.specs.Word.{entryKind, kindOf, isOf, lowByte}
 use Rattle.words.specs.Alphabet.{entryRank, isEntry, rankOf, constantsOf, noAlphabet, wrongConstants, alphabetRefusals, alphabetFault}
 use Rattle.words.specs.Postfix.{arity}
@@ -16,39 +17,41 @@ use Rattle.words.proofs.RefusalLaws.{conditionOf, none-applies}
 use Rattle.words.proofs.WordLaws.{arityAt-most}
 
 pub record AcceptedAlphabet (a : List ℕ) : Type 0 where
+  -- 1
   pub some : 0 < length a
-  pub few : length a ≤ 64
-  pub ranks : (s : ℕ) → rankOf a s ≤ 4
+  pub few : length a ≤ alphabetMost
+  pub ranks : (s : ℕ) → rankOf a s ≤ rankMost
+  -- 2
   pub someConstant : 0 < length (constantsOf a)
-  pub fewConstants : length (constantsOf a) ≤ 16
+  pub fewConstants : length (constantsOf a) ≤ constantsMost
 
 -- "rank, 0 to 4"
-rank-most : (a : List ℕ) → all isEntry a ≡ true → (s : ℕ) → rankOf a s ≤ 4
+rank-most : (a : List ℕ) → all isEntry a ≡ true → (s : ℕ) → rankOf a s ≤ rankMost
 unfolding rankOf isEntry
 rank-most [] h s = omega arith
 rank-most (w ∷ ws) h zero =
     let p = and-true (isEntry w) (all isEntry ws) h in
-    leb-true (entryRank w) 4 (and-true (isOf entryKind w) (leb (entryRank w) 4) (p .0) .1)
+    leb-true (entryRank w) rankMost (and-true (isOf entryKind w) (leb (entryRank w) rankMost) (p .0) .1)
 rank-most (w ∷ ws) h (suc s) = rank-most ws (and-true (isEntry w) (all isEntry ws) h .1) s
 
 pub alphabet-accepted : (a : List ℕ) → alphabetFault a ≡ 0 → AcceptedAlphabet a
 unfolding noAlphabet wrongConstants
 alphabet-accepted a h =
     let not-so : (n : ℕ) → conditionOf n (alphabetRefusals a) ≡ false = none-applies (alphabetRefusals a) refl h in
-    let p = or-false (eqb (length a) 0 || ltb 64 (length a)) (not (all isEntry a)) (not-so 1) in
-    let q = or-false (eqb (length a) 0) (ltb 64 (length a)) (p .0) in
-    let r = or-false (eqb (length (constantsOf a)) 0) (ltb 16 (length (constantsOf a))) (not-so 2) in
+    let p = or-false (eqb (length a) 0 || ltb alphabetMost (length a)) (not (all isEntry a)) (not-so 1) in
+    let q = or-false (eqb (length a) 0) (ltb alphabetMost (length a)) (p .0) in
+    let r = or-false (eqb (length (constantsOf a)) 0) (ltb constantsMost (length (constantsOf a))) (not-so 2) in
     let z = eqb-false (length a) 0 (q .0) in
     let c = eqb-false (length (constantsOf a)) 0 (r .0) in
     record {
       some = omega arith;
-      few = ltb-false 64 (length a) (q .1);
+      few = ltb-false alphabetMost (length a) (q .1);
       ranks = rank-most a (not-false (all isEntry a) (p .1));
       someConstant = omega arith;
-      fewConstants = ltb-false 16 (length (constantsOf a)) (r .1);
+      fewConstants = ltb-false constantsMost (length (constantsOf a)) (r .1);
     }
 
--- no word takes more than four children
-pub arity-most : {a : List ℕ} → AcceptedAlphabet a → (w : ℕ) → arity a w ≤ 4
+-- no word takes more children than the highest rank
+pub arity-most : {a : List ℕ} → AcceptedAlphabet a → (w : ℕ) → arity a w ≤ rankMost
 unfolding arity
-arity-most {a} h w = arityAt-most 4 (rankOf a (lowByte w)) (kindOf w) (omega arith) (h .ranks (lowByte w))
+arity-most {a} h w = arityAt-most rankMost (rankOf a (lowByte w)) (kindOf w) (omega arith) (h .ranks (lowByte w))

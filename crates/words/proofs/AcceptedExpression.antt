@@ -8,6 +8,7 @@ use lib.ListN.{length}
 use lib.Dec.{ltb, eqb}
 use borrow.Author.Tests.{ltb-false, eqb-false, not-false}
 use Rattle.words.specs.Lists.{all}
+use Rattle.words.specs.Limits.{expressionMost}
 use Rattle.words.specs.Postfix.{oneTree, notOneTree}
 use Rattle.words.specs.ExpressionWords.{isExpressionWord, wrongLength, notExpressionWords, expressionRefusals, expressionFault}
 use Rattle.words.proofs.TestLaws.{or-false}
@@ -16,7 +17,7 @@ use Rattle.words.proofs.RefusalLaws.{conditionOf, none-applies}
 pub record AcceptedExpression (a e : List ℕ) : Type 0 where
   -- 3
   pub some : 0 < length e
-  pub few : length e ≤ 64
+  pub few : length e ≤ expressionMost
   -- 4
   pub words : all (isExpressionWord a) e ≡ true
   -- 5
@@ -26,11 +27,11 @@ pub expression-passed : (a e : List ℕ) → expressionFault a e ≡ 0 → Accep
 unfolding wrongLength notExpressionWords notOneTree
 expression-passed a e h =
     let not-so : (n : ℕ) → conditionOf n (expressionRefusals a e) ≡ false = none-applies (expressionRefusals a e) refl h in
-    let p = or-false (eqb (length e) 0) (ltb 64 (length e)) (not-so 3) in
+    let p = or-false (eqb (length e) 0) (ltb expressionMost (length e)) (not-so 3) in
     let z = eqb-false (length e) 0 (p .0) in
     record {
       some = omega arith;
-      few = ltb-false 64 (length e) (p .1);
+      few = ltb-false expressionMost (length e) (p .1);
       words = not-false (all (isExpressionWord a) e) (not-so 4);
       shape = not-false (oneTree a e) (not-so 5);
     }

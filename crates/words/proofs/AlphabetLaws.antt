@@ -1,17 +1,15 @@
--- Laws of the alphabet: the list of constants holds exactly the symbols of rank 0, and there are at most 64 symbols.
-use Prim.Native.Nat.{ℕ, zero, suc, _+_, _<_, _≤_}
+-- Laws of the alphabet: the list of constants holds exactly the symbols of rank 0.
+use Prim.Native.Nat.{ℕ, zero, suc, _+_, _<_}
 use mathlib.Core.Path.{_≡_, refl}
 use mathlib.Core.Logic.{_↔_}
-use mathlib.Core.Bool.{Bool, true, false, not, cond, _||_, and-eq-true-iff}
+use mathlib.Core.Bool.{Bool, true, false, cond, and-eq-true-iff}
 use mathlib.Core.List.{List, [], _∷_, List·Memᴰ, List·Memᴰ·head, List·Memᴰ·tail}
 use native.Mathlib.Omega.{arith}
 use native.Mathlib.Nat.{add-zero}
 use lib.ListN.{length, getD}
-use lib.Dec.{ltb, eqb}
-use borrow.Author.Tests.{eq-eqb, eqb-true, lt-ltb, ltb-true, ltb-false}
-use Rattle.words.specs.Alphabet.{entryRank, rankOf, isSymbol, isConstant, constantsFrom, constantsOf, isEntry, noAlphabet}
-use Rattle.words.specs.Lists.{all}
-use Rattle.words.proofs.TestLaws.{or-false}
+use lib.Dec.{eqb}
+use borrow.Author.Tests.{eq-eqb, eqb-true, lt-ltb, ltb-true}
+use Rattle.words.specs.Alphabet.{entryRank, rankOf, isSymbol, isConstant, constantsFrom, constantsOf}
 
 -- the i-th of the entries has rank 0
 abbrev Zero : List ℕ → ℕ → Type 0
@@ -79,10 +77,3 @@ constantsOf-isConstant a c = (to, from)
     from h =
         let e : 0 + c ≡ c = omega arith in
         rw e at (from-zero a 0 c (isConstant-zero a c h))
-
--- an alphabet that 1 does not refuse has at most 64 symbols
-pub alphabet-most : (a : List ℕ) → noAlphabet a ≡ false → length a ≤ 64
-unfolding noAlphabet
-alphabet-most a h =
-    let p = or-false (eqb (length a) 0 || ltb 64 (length a)) (not (all isEntry a)) h in
-    ltb-false 64 (length a) (or-false (eqb (length a) 0) (ltb 64 (length a)) (p .0) .1)

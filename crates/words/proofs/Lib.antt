@@ -3,6 +3,7 @@ pub mod AlphabetLaws
 pub mod Ascending
 pub mod AcceptedAlphabet
 pub mod AcceptedExpression
+pub mod AcceptedTree
 pub mod DistinctLaws
 pub mod ConstantLaws
 pub mod ExpressionWordLaws

@@ -90,6 +90,17 @@ parts-pass [] ks p h = (refl, h)
 parts-pass ((n, true) ∷ rs) ks p h = let q = ltb-true 0 n (and-true (ltb 0 n) (positive rs) p .0) in absurd (omega arith)
 parts-pass ((n, false) ∷ rs) ks p h = parts-pass rs ks (and-true (ltb 0 n) (positive rs) p .1) h
 
+-- where one part does not refuse, the other decides
+pub first-passes : (rs ks : Refusals) → positive rs ≡ true → refusal rs ≡ 0 → refusal (rs ++ ks) ≡ refusal ks
+first-passes [] ks p h = refl
+first-passes ((n, true) ∷ rs) ks p h = let q = ltb-true 0 n (and-true (ltb 0 n) (positive rs) p .0) in absurd (omega arith)
+first-passes ((n, false) ∷ rs) ks p h = first-passes rs ks (and-true (ltb 0 n) (positive rs) p .1) h
+
+pub last-passes : (rs ks : Refusals) → refusal ks ≡ 0 → refusal (rs ++ ks) ≡ refusal rs
+last-passes [] ks h = h
+last-passes ((n, true) ∷ rs) ks h = refl
+last-passes ((n, false) ∷ rs) ks h = last-passes rs ks h
+
 -- ---- the first that applies: both ways
 
 pub refusal-is-first : (rs : Refusals) (n : ℕ) → 0 < n → refusal rs ≡ n → First n rs

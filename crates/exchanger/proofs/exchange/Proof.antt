@@ -1,11 +1,14 @@
 -- `exchanger::exchange` meets its contract: a refused call changes nothing, and an accepted one does what the definitions say.
-use Rattle.exchanger.proofs.ExchangeAnswerLaws.{call-refused, call-accepted, call-replaced}
+use Rattle.operations.specs.ExchangeCall.{ExchangeCall, exchangeCall}
+use Rattle.exchanger.proofs.ExchangeAnswerLaws.{call-refused, call-passes, call-replaced}
 use borrow.Author.Needs.{needs}
 use Rattle.exchanger.proofs.exchange.Statement.{statement}
 use Rattle.exchanger.proofs.exchange.Tie as tie
 
-abbrev start : tie.After-exchange-fault → tie.Start
-start c = c .before .before .before .before .before .before .before
+abbrev call : tie.After-exchange-fault → ExchangeCall
+call c =
+    let q = c .before .before .before .before .before .before .before .args in
+    exchangeCall (q .alphabet .now) (q .table .now) (q .chapter .now) (q .marks .now) (q .count) (q .element) (q .replacement .now)
 
 exchange-fault-requires : tie.Need-exchange-fault-requires
 exchange-fault-requires c κs = search needs
@@ -15,16 +18,12 @@ same-length c = search needs
 
 returns : tie.Need-returns
 returns c =
-    let q = start (c .before) .args in
-    call-refused (q .alphabet .now) (q .table .now) (q .chapter .now) (q .marks .now) (q .count) (q .element) (q .replacement .now)
-    _ (c .before .exchange-fault .ensures) (c .if1 .taken)
+    call-refused (call (c .before)) _ (c .before .exchange-fault .ensures) (c .if1 .taken)
 
 replace-subtree-requires : tie.Need-replace-subtree-requires
 replace-subtree-requires c κs =
     let d = c .before .before in
-    let q = start (d .before) .args in
-    call-accepted (q .alphabet .now) (q .table .now) (q .chapter .now) (q .marks .now) (q .count) (q .element) (q .replacement .now)
-    _ (d .before .exchange-fault .ensures) (d .if1 .left)
+    call-passes (call (d .before)) _ (d .before .exchange-fault .ensures) (d .if1 .left)
 
 same-length-2 : tie.Need-same-length-2
 same-length-2 c = search needs
@@ -36,10 +35,8 @@ returns-2 : tie.Need-returns-2
 returns-2 c =
     let r = c .before .before .before .before in
     let d = r .before .before .before in
-    let q = start (d .before) .args in
     let s = r .replace-subtree .ensures in
-    call-replaced (q .alphabet .now) (q .table .now) (q .chapter .now) (q .marks .now) (q .count) (q .element) (q .replacement .now)
-    _ (d .before .exchange-fault .ensures) (d .if1 .left) _ _ _ (s .0) (s .1 .0) (s .1 .1)
+    call-replaced (call (d .before)) _ (d .before .exchange-fault .ensures) (d .if1 .left) _ _ _ (s .0) (s .1 .0) (s .1 .1)
 
 pub exchange-spec : {M : Type 1} → statement M
 exchange-spec =

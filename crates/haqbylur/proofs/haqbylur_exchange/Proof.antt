@@ -15,13 +15,13 @@ enum-known-total c = search needs
 cast-elements : tie.Need-cast-elements
 cast-elements c =
     let call = c .before .before .before .before .before .before .before in
-    let small = exchange-small _ _ _ _ _ _ _ _ (c .before .total .given .1) (call .exchange .ensures .0) in
+    let small = exchange-small _ _ (c .before .total .given .1) (call .exchange .ensures .0) in
     omega (arith, small .0, small .1)
 
 cast-worked-out : tie.Need-cast-worked-out
 cast-worked-out c =
     let call = c .before .before .before .before .before .before .before in
-    let small = exchange-small _ _ _ _ _ _ _ _ (c .before .total .given .1) (call .exchange .ensures .0) in
+    let small = exchange-small _ _ (c .before .total .given .1) (call .exchange .ensures .0) in
     omega (arith, small .0, small .1)
 
 enum-known-number : tie.Need-enum-known-number

@@ -1,6 +1,7 @@
 -- `report::report` meets its contract: each return writes what the laws of Compile say of its answer, and the output fits the slice,
 -- so all of it is written.
 use borrow.Author.Tests.{not-true, not-false}
+use Rattle.words.specs.Limits.{tableMost}
 use Rattle.report.proofs.ReportLaws.{complete-whole, early-whole, refused-compiled, table-counted, table-fits}
 use Rattle.report.proofs.ReportLaws.{chapter-reportable, many}
 use borrow.Author.Needs.{needs}
@@ -57,7 +58,7 @@ returns-2 c =
     (not-false _ (c .before .before .before .before .before .before .before .before .before .before .before .if1 .left))
     (c .before .before .report-chapter .ensures _
     (chapter-reportable _ _ _ _ (c .before .before .before .before .before .before .size .given .1) (call .ensures .0) (call .ensures .1)
-    (many 2048)))
+    (many tableMost)))
 
 same-length-3 : tie.Need-same-length-3
 same-length-3 c = c .before .before .write-refused2 .kept .0

@@ -5,8 +5,9 @@ use mathlib.Core.List.{[], _∷_}
 use Prim.Native.Nat.{ℕ}
 use native.Mathlib.Omega.{arith}
 use Rattle.words.specs.Answer.{accepted}
-use Rattle.operations.specs.Exchange.{newTree}
-use Rattle.exchanger.proofs.CallNumberLaws.{CallNumbers, call-numbers, accepted-call, length-used, chapter-movable, marks-movable}
+use Rattle.operations.specs.ExchangeCall.{ExchangeCall, exchangeCall}
+use Rattle.operations.proofs.AcceptedLaws.{call-accepted}
+use Rattle.exchanger.proofs.CallNumberLaws.{CallNumbers, call-numbers, length-used, chapter-movable, marks-movable}
 use Rattle.exchanger.proofs.ReplaceLaws.{chapter-exit, chapter-count, call-updatable, marks-exit}
 use borrow.Author.Needs.{needs}
 use Rattle.exchanger.proofs.subtree.replace_subtree.Statement.{statement}
@@ -14,6 +15,11 @@ use Rattle.exchanger.proofs.subtree.replace_subtree.Tie as tie
 
 abbrev start : tie.After-set-size → tie.Start
 start c = c .before .before .before .before .before .before
+
+abbrev call : tie.After-set-size → ExchangeCall
+call c =
+    let q = start c .args in
+    exchangeCall (q .alphabet .now) (q .table .now) (q .chapter .now) (q .marks .now) (q .count) (q .element) (q .replacement .now)
 
 abbrev sized : tie.After-subtree-start → tie.After-set-size
 sized c = c .before .before
@@ -28,20 +34,17 @@ moved c = c .before .before .before .before
 abbrev filled : tie.After-move-tail2 → tie.After-copy-words
 filled c = c .before .before .before .before
 
-facts : (c : tie.After-subtree-start)
-    → CallNumbers (start (sized c) .args .alphabet .now) (start (sized c) .args .table .now) (start (sized c) .args .chapter .now)
-    (start (sized c) .args .marks .now) (start (sized c) .args .count) (start (sized c) .args .element)
-    (start (sized c) .args .replacement .now) (c .subtree-start .result) (sized c .set-size .result)
-facts c = call-numbers _ _ _ _ _ _ _ (start (sized c) .pre) _ (c .subtree-start .ensures) _ (sized c .set-size .ensures)
+facts : (c : tie.After-subtree-start) → CallNumbers (call (sized c)) (c .subtree-start .result) (sized c .set-size .result)
+facts c = call-numbers (call (sized c)) (start (sized c) .pre) _ (c .subtree-start .ensures) _ (sized c .set-size .ensures)
 
 set-size-requires : tie.Need-set-size-requires
 set-size-requires c κs = search needs
 
 slice-reshare-prefix-subtree-start : tie.Need-slice-reshare-prefix-subtree-start
-slice-reshare-prefix-subtree-start c = accepted-call _ _ _ _ _ _ _ (start c .pre) .within
+slice-reshare-prefix-subtree-start c = call-accepted (call c) (start c .pre) .count .within
 
 slice-aggregate-subtree-start : tie.Need-slice-aggregate-subtree-start
-slice-aggregate-subtree-start c = sym (length-used _ _ _ _ _ _ _ (start (c .before) .pre))
+slice-aggregate-subtree-start c = sym (length-used (call (c .before)) (start (c .before) .pre))
 
 subtree-start-requires : tie.Need-subtree-start-requires
 subtree-start-requires c κs = search needs
@@ -67,7 +70,7 @@ add-move-tail c = let f = facts (c .before) in omega arith
 move-tail-requires : tie.Need-move-tail-requires
 move-tail-requires c κs =
     let p = c .before in
-    chapter-movable _ _ _ _ _ _ _ (start (sized p) .pre) _ (p .subtree-start .ensures) _ (sized p .set-size .ensures)
+    chapter-movable (call (sized p)) (start (sized p) .pre) _ (p .subtree-start .ensures) _ (sized p .set-size .ensures)
 
 copy-words-requires : tie.Need-copy-words-requires
 copy-words-requires c κs =
@@ -88,7 +91,7 @@ mul-move-tail-3 c = let f = facts (placed (moved (c .before .before .before))) i
 move-tail-requires-2 : tie.Need-move-tail-requires-2
 move-tail-requires-2 c κs =
     let p = placed (moved (c .before .before .before)) in
-    marks-movable _ _ _ _ _ _ _ (start (sized p) .pre) _ (p .subtree-start .ensures) _ (sized p .set-size .ensures)
+    marks-movable (call (sized p)) (start (sized p) .pre) _ (p .subtree-start .ensures) _ (sized p .set-size .ensures)
 
 slice-reshare-prefix-update-marks : tie.Need-slice-reshare-prefix-update-marks
 slice-reshare-prefix-update-marks c =
@@ -104,7 +107,7 @@ slice-aggregate-update-marks c =
     let f = filled (c .before .before .before) in
     let t = moved f in
     let p = placed t in
-    chapter-count _ _ _ _ _ _ _ (start (sized p) .pre) _ (p .subtree-start .ensures) _ (sized p .set-size .ensures)
+    chapter-count (call (sized p)) (start (sized p) .pre) _ (p .subtree-start .ensures) _ (sized p .set-size .ensures)
     _ _ (t .move-tail .ensures) (f .copy-words .ensures)
 
 update-marks-requires : tie.Need-update-marks-requires
@@ -113,7 +116,7 @@ update-marks-requires c κs =
     let f = filled w in
     let t = moved f in
     let p = placed t in
-    call-updatable _ _ _ _ _ _ _ (start (sized p) .pre) _ (p .subtree-start .ensures) _ (sized p .set-size .ensures)
+    call-updatable (call (sized p)) (start (sized p) .pre) _ (p .subtree-start .ensures) _ (sized p .set-size .ensures)
     _ _ (t .move-tail .ensures) (f .copy-words .ensures) _ (w .move-tail2 .ensures) (w .move-tail2 .kept .0)
 
 same-length : tie.Need-same-length
@@ -123,27 +126,21 @@ same-length-2 : tie.Need-same-length-2
 same-length-2 c = search needs
 
 returns : tie.Need-returns
-unfolding newTree
 returns c =
     let k = c .before .before in
     let w = k .before .before .before .before .before in
     let f = filled w in
     let t = moved f in
     let p = placed t in
-    let q = start (sized p) .args in
+    let q = call (sized p) in
     let pre = start (sized p) .pre in
     let qs = p .subtree-start .ensures in
     let qz = sized p .set-size .ensures in
     let left =
-    marks-exit (q .alphabet .now) (q .table .now) (q .chapter .now) (q .marks .now) (q .count) (q .element)
-    (q .replacement .now) pre _ qs _ qz
-    _ _ (t .move-tail .ensures) (f .copy-words .ensures) _ (w .move-tail2 .ensures) (w .move-tail2 .kept .0) _ _
-    (k .update-marks .ensures) in (
+    marks-exit q pre _ qs _ qz _ _ (t .move-tail .ensures) (f .copy-words .ensures) _ (w .move-tail2 .ensures) (w .move-tail2 .kept .0)
+    _ _ (k .update-marks .ensures) in (
       ap₂ (λ (i j : ℕ). accepted (i ∷ j ∷ [])) (facts p .total) (left .count-is),
-      (
-        chapter-exit _ _ _ _ _ _ _ pre _ qs _ qz _ _ (t .move-tail .ensures) (f .copy-words .ensures),
-        left .words,
-      ),
+      (chapter-exit q pre _ qs _ qz _ _ (t .move-tail .ensures) (f .copy-words .ensures), left .words),
     )
 
 pub replace-subtree-spec : {M : Type 1} → statement M
