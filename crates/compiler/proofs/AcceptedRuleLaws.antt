@@ -1,21 +1,29 @@
--- The constants of an alphabet, and the states of a rule, that refusals 1 to 5 let pass.
-use mathlib.Core.Path.{_≡_, refl, ap, _∙_, sym}
+-- What refusals 1 to 6 leave of an alphabet and a rule: its constants, and the states of its words.
+use mathlib.Core.Path.{_≡_, ap, _∙_, sym}
 use mathlib.Core.List.{List, [], _∷_, _++_}
-use Prim.Native.Nat.{ℕ, zero, suc, _*_, _<_, _≤_}
+use Prim.Native.Nat.{ℕ, zero, suc, _*_, _≤_}
 use native.Mathlib.Omega.{arith}
 use lib.ListN.{length, take, drop, length-append}
 use lib.Seq.{sets, take-all, take-at}
-use Rattle.words.specs.Alphabet.{constantsOf, alphabetFault}
+use Rattle.words.specs.Limits.{alphabetMost, constantsMost, expressionMost}
+use Rattle.words.specs.Refusal.{refusal}
+use Rattle.words.specs.Alphabet.{constantsOf}
 use Rattle.words.proofs.ListLaws.{sets-whole}
-use Rattle.words.proofs.AcceptedAlphabet.{alphabet-accepted}
-use Rattle.compiler.specs.Compiling.{ConstantsCounted}
+use Rattle.words.proofs.AcceptedAlphabet.{AcceptedAlphabet, alphabet-accepted}
+use Rattle.words.proofs.AcceptedExpression.{AcceptedExpression, expression-passed}
+use Rattle.operations.specs.Compile.{ruleRefusals}
+use Rattle.operations.proofs.AcceptedLaws.{rule-accepted}
+use Rattle.compiler.specs.Compiling.{wordStatesMost, StatesCountable}
 
--- the number of the constants
-pub constants-counted : (a cs : List ℕ) → alphabetFault a ≡ 0 → cs ≡ constantsOf a → ConstantsCounted a (length cs)
-constants-counted a cs h known =
-    let l = ap length known in
-    let few = alphabet-accepted a h .fewConstants in
-    record { constants = l; few = omega arith }
+pub accepted-alphabet : (a e : List ℕ) → refusal (ruleRefusals a e) ≡ 0 → AcceptedAlphabet a
+accepted-alphabet a e h = alphabet-accepted a (rule-accepted a e h .alphabet)
+
+pub accepted-expression : (a e : List ℕ) → refusal (ruleRefusals a e) ≡ 0 → AcceptedExpression a e
+accepted-expression a e h = expression-passed a e (rule-accepted a e h .expression)
+
+-- the states of a word can be counted by the number of the constants
+pub states-countable : (a : List ℕ) (count : ℕ) → AcceptedAlphabet a → count ≡ length (constantsOf a) → StatesCountable a count
+states-countable a count h e = let few = h .fewConstants in record { constants = e; few = omega arith }
 
 pub length-take-most : (e : List ℕ) (n : ℕ) → length (take n e) ≤ length e
 length-take-most e zero = omega arith
@@ -23,17 +31,18 @@ length-take-most [] (suc n) = omega arith
 length-take-most (w ∷ e) (suc n) = omega (arith, length-take-most e n)
 
 -- the states of a rule's first words are few
-pub states-few : (e : List ℕ) (n x : ℕ) → length e ≤ 64 → x ≤ 17 * length (take n e) → x ≤ 1088
+pub states-few : (e : List ℕ) (n x : ℕ) → length e ≤ expressionMost → x ≤ wordStatesMost * length (take n e)
+    → x ≤ wordStatesMost * expressionMost
 states-few e n x few h = omega (arith, length-take-most e n)
 
--- the constants of an accepted alphabet in a list of 16 words: none is left out
-module _ (a l l′ : List ℕ) (r : ℕ) (accepted : alphabetFault a ≡ 0) (long : length l ≡ 16)
-    (count : r ≡ length (constantsOf (take 64 a))) (stored : l′ ≡ sets l 0 (constantsOf (take 64 a))) where
-  whole : take 64 a ≡ a
-  whole = take-all 64 a (alphabet-accepted a accepted .few)
+-- the constants of an accepted alphabet in a list of as many words as there can be constants: none is left out
+module _ (a l l′ : List ℕ) (r : ℕ) (accepted : AcceptedAlphabet a) (long : length l ≡ constantsMost)
+    (count : r ≡ length (constantsOf (take alphabetMost a))) (stored : l′ ≡ sets l 0 (constantsOf (take alphabetMost a))) where
+  whole : take alphabetMost a ≡ a
+  whole = take-all alphabetMost a (accepted .few)
 
   begins : l′ ≡ constantsOf a ++ drop (length (constantsOf a)) l
-  begins = stored ∙ rw whole (sets-whole (constantsOf a) l (omega (arith, alphabet-accepted a accepted .fewConstants)))
+  begins = stored ∙ rw whole (sets-whole (constantsOf a) l (let few = accepted .fewConstants in omega arith))
 
   number : r ≡ length (constantsOf a)
   number = count ∙ rw whole

@@ -10,11 +10,12 @@ use lib.ListN.{length, getD, take, drop, set, length-drop, length-set, length-ma
 use lib.Seq.{take-add, take-suc-set, length-take-le}
 use lib.Dec.{leb}
 use borrow.Author.Tests.{leb-true}
+use Rattle.words.specs.Limits.{expressionMost}
 use Rattle.words.specs.Lists.{all}
 use Rattle.words.specs.Alphabet.{constantsOf}
 use Rattle.words.specs.Shape.{treesBy}
 use Rattle.words.specs.Postfix.{arity, trees}
-use Rattle.words.specs.ExpressionWords.{isExpressionWord, expressionFault}
+use Rattle.words.specs.ExpressionWords.{isExpressionWord}
 use Rattle.words.proofs.TestLaws.{and-true, picked}
 use Rattle.words.proofs.ListLaws.{map-append}
 use Rattle.words.proofs.ReadingLaws.{take-pushed, drop-pushed}
@@ -23,11 +24,11 @@ use Rattle.words.proofs.AcceptedAlphabet.{AcceptedAlphabet, arity-most}
 use Rattle.automaton.specs.Transition.{Transition, transitionsWords}
 use Rattle.automaton.specs.Numbering.{Port, statesOf, portOf, ownTransitions, transitionsFrom, fullPort}
 use Rattle.automaton.proofs.TransitionLaws.{transitionsWords-append}
-use Rattle.words.proofs.AcceptedExpression.{expression-passed}
-use Rattle.emitter.specs.Writing.{WordsWritten}
 use Rattle.ports.specs.Ports.{portIn, portsIn}
-use Rattle.emitter.specs.Emission.{Emittable, OwnEmittable}
+use Rattle.emitter.specs.Writing.{WordsWritten, lastIndex}
+use Rattle.emitter.specs.Emission.{ownWordsMost, Emittable, OwnEmittable}
 use Rattle.emitter.proofs.WritingLaws.{words-written-none, words-written-more, words-written-same, words-written-next}
+use Rattle.compiler.specs.Compiling.{wordStatesMost, allOwnWordsMost}
 use Rattle.compiler.proofs.StateLaws.{portOf-full}
 use Rattle.compiler.proofs.KnownConstants.{constants-once, word-emittable}
 
@@ -85,15 +86,15 @@ pub record Emitted (a cs e : List ℕ) (at : ℕ) (out out′ stack : List ℕ) 
   pub words : all (isExpressionWord a) (drop i e) ≡ true
   pub shape : trees a height (drop i e) 1 ≡ true
   pub below : height ≤ i
-  pub stack-long : length stack ≡ 64
-  pub low : state ≤ 17 * i
+  pub stack-long : length stack ≡ expressionMost
+  pub low : state ≤ wordStatesMost * i
   pub long : length out′ ≡ length out
   pub done : List Transition
-  pub written : WordsWritten (85 * i) at (transitionsWords done) out out′ next
+  pub written : WordsWritten (ownWordsMost * i) at (transitionsWords done) out out′ next
   pub left : transitionsFrom a 0 e [] ≡ done ++ transitionsFrom a state (drop i e) (stackIn cs (take height stack))
 
 pub emitted-none : (a cs e : List ℕ) (at : ℕ) (out stack : List ℕ) → all (isExpressionWord a) e ≡ true → trees a 0 e 1 ≡ true
-    → length stack ≡ 64
+    → length stack ≡ expressionMost
     → Emitted a cs e at out out stack 0 0 at 0
 emitted-none a cs e at out stack h t l =
     record {
@@ -127,14 +128,15 @@ module _ {a cs e : List ℕ} {at : ℕ} {out out′ stack : List ℕ} {height st
   pub emitted-children : (r : ℕ) → i < length e → r ≡ arity a (getD e i 0) → r ≤ height
   emitted-children r h q = rw q (leb-true (arity a (getD e i 0)) height (step h .0))
 
-  pub emitted-height : i < length e → expressionFault a e ≡ 0 → height < 64
-  emitted-height h q = let b = m .below in let few = expression-passed a e q .few in omega arith
+  pub emitted-height : i < length e → length e ≤ expressionMost → height < expressionMost
+  emitted-height h few = let b = m .below in omega arith
 
   -- what the emitter asks at word i
-  pub emitted-emittable : (r base : ℕ) → cs ≡ constantsOf a → AcceptedAlphabet a → i < length e → length e ≤ 64 → at ≤ 1024
+  pub emitted-emittable : (r base : ℕ) → cs ≡ constantsOf a → AcceptedAlphabet a → i < length e → length e ≤ expressionMost
+      → at + allOwnWordsMost ≤ lastIndex
       → r ≡ arity a (getD e i 0)
-      → base ≡ height - r → Emittable cs (take (height - base) (drop base stack)) state next 85
-  emitted-emittable r base known h i< le early q b =
+      → base ≡ height - r → Emittable cs (take (height - base) (drop base stack)) state next ownWordsMost
+  emitted-emittable r base known h i< le fits q b =
       let few = m .below in
       let stack-long = m .stack-long in
       let low = m .low in
@@ -149,7 +151,7 @@ module _ {a cs e : List ℕ} {at : ℕ} {out out′ stack : List ℕ} {height st
         fits = omega arith;
       }
 
-  pub emitted-own-emittable : (r base : ℕ) → cs ≡ constantsOf a → i < length e → length e ≤ 64 → r ≡ arity a (getD e i 0)
+  pub emitted-own-emittable : (r base : ℕ) → cs ≡ constantsOf a → i < length e → length e ≤ expressionMost → r ≡ arity a (getD e i 0)
       → base ≡ height - r → OwnEmittable cs (take (height - base) (drop base stack)) (getD e i 0)
   emitted-own-emittable r base known h le q b =
       let few = m .below in
@@ -159,11 +161,11 @@ module _ {a cs e : List ℕ} {at : ℕ} {out out′ stack : List ℕ} {height st
       word-emittable a cs known (take (height - base) (drop base stack)) (getD e i 0) (emitted-word h)
       (length-part stack base height (omega arith) (omega arith) ∙ t ∙ q)
 
-  pub emitted-more : (r base p s n : ℕ) (out″ : List ℕ) → cs ≡ constantsOf a → i < length e → length e ≤ 64 → r ≡ arity a (getD e i 0)
-      → base ≡ height - r
-      → WordsWritten 85 next (transitionsWords (ownTransitions (getD e i 0) (fullPort cs state) (portsIn cs (take (height - base)
+  pub emitted-more : (r base p s n : ℕ) (out″ : List ℕ) → cs ≡ constantsOf a → i < length e → length e ≤ expressionMost
+      → r ≡ arity a (getD e i 0) → base ≡ height - r
+      → WordsWritten ownWordsMost next (transitionsWords (ownTransitions (getD e i 0) (fullPort cs state) (portsIn cs (take (height - base)
       (drop base stack))))) out′ out″ n
-      → length out″ ≡ length out′ → portIn cs p ≡ portOf a state (getD e i 0) → s ≡ statesOf a (getD e i 0) → s ≤ 17
+      → length out″ ≡ length out′ → portIn cs p ≡ portOf a state (getD e i 0) → s ≡ statesOf a (getD e i 0) → s ≤ wordStatesMost
       → Emitted a cs e at out out″ (set stack base p) (base + 1) (state + s) n (i + 1)
   emitted-more r base p s n out″ known h le q b w l ep es s≤ =
       let word = getD e i 0 in
@@ -189,8 +191,8 @@ module _ {a cs e : List ℕ} {at : ℕ} {out out′ stack : List ℕ} {height st
         long = l ∙ m .long;
         done = m .done ++ own;
         written =
-            words-written-same (85 * i + 85) (85 * (i + 1)) at n _ _ out out″
-            (words-written-more (85 * i) 85 at next n _ _ out out′ out″ (m .written) w)
+            words-written-same (ownWordsMost * i + ownWordsMost) (ownWordsMost * (i + 1)) at n _ _ out out″
+            (words-written-more (ownWordsMost * i) ownWordsMost at next n _ _ out out′ out″ (m .written) w)
             (omega arith)
             (sym (transitionsWords-append (m .done) own));
         left =
@@ -205,11 +207,12 @@ module _ {a cs e : List ℕ} {at : ℕ} {out out′ stack : List ℕ} {height st
             (sym new);
       }
 
-  pub emitted-end : length e ≤ i → length e ≤ 64 → WordsWritten 5440 at (transitionsWords (transitionsFrom a 0 e [])) out out′ next
+  pub emitted-end : length e ≤ i → length e ≤ expressionMost
+      → WordsWritten allOwnWordsMost at (transitionsWords (transitionsFrom a 0 e [])) out out′ next
   unfolding transitionsFrom
   emitted-end h few =
       let k = m .within in
-      words-written-same (85 * i) 5440 at next _ _ out out′ (m .written) (omega arith)
+      words-written-same (ownWordsMost * i) allOwnWordsMost at next _ _ out out′ (m .written) (omega arith)
       (ap transitionsWords
       (sym (m .left ∙ ap (λ (l : List ℕ). m .done ++ transitionsFrom a state l (stackIn cs (take height stack)))
       (drop-end e i h) ∙ append-nil (m .done))))

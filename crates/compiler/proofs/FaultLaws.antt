@@ -1,5 +1,5 @@
 -- Compile's conditions 6 and 7 of what the code counts, and the answer and the table slice of a call.
-use mathlib.Core.Path.{_≡_, _∙_, sym}
+use mathlib.Core.Path.{_≡_, refl, _∙_, sym}
 use mathlib.Core.Bool.{true, false}
 use mathlib.Core.List.{List, [], _∷_}
 use Prim.Native.Nat.{ℕ, _+_, _<_, _≤_}
@@ -7,23 +7,26 @@ use native.Mathlib.Omega.{arith}
 use lib.ListN.{length}
 use lib.Seq.{sets}
 use borrow.Author.Tests.{lt-ltb, le-ltb, eq-eqb, ne-eqb}
+use Rattle.words.specs.Limits.{statesMost}
+use Rattle.words.specs.Refusal.{refusal}
 use Rattle.words.proofs.ListLaws.{sets-whole}
+use Rattle.words.proofs.RefusalLaws.{parts-pass}
 use Rattle.automaton.specs.Numbering.{statesAfter, compiled}
 use Rattle.words.specs.Answer.{refused, accepted}
-use Rattle.operations.specs.Compile.{compiledTable, tooManyStates, tableTooLong, compileFault, compileAnswer, compileExit}
+use Rattle.operations.specs.Compile.{compiledTable, tooManyStates, tableTooLong, ruleRefusals, compileFault}
+use Rattle.operations.specs.Compile.{compileAnswer, compileExit}
 use Rattle.operations.proofs.AcceptedLaws.{CompileAccepted, compile-accepted}
-use Rattle.compiler.specs.Compiling.{Accepted}
 
 -- ---- 6 and 7
 
 module _ (a e : List ℕ) (s : ℕ) (q : s ≡ statesAfter a 0 e) where
-  pub states-above : 1024 < s → tooManyStates a e ≡ true
+  pub states-above : statesMost < s → tooManyStates a e ≡ true
   unfolding tooManyStates compiled
-  states-above l = lt-ltb 1024 (statesAfter a 0 e) (omega arith)
+  states-above l = lt-ltb statesMost (statesAfter a 0 e) (omega arith)
 
-  pub states-within : s ≤ 1024 → tooManyStates a e ≡ false
+  pub states-within : s ≤ statesMost → tooManyStates a e ≡ false
   unfolding tooManyStates compiled
-  states-within l = le-ltb 1024 (statesAfter a 0 e) (omega arith)
+  states-within l = le-ltb statesMost (statesAfter a 0 e) (omega arith)
 
 module _ (a e : List ℕ) (tableLength n : ℕ) (t : n ≡ 0 + length (compiledTable a e)) where
   pub table-over : tableLength < n → tableTooLong a e tableLength ≡ true
@@ -53,8 +56,8 @@ module _ (a e slice : List ℕ) (f : ℕ) (h : f ≡ compileFault a e (length sl
     passed : CompileAccepted a e (length slice)
     passed = compile-accepted a e (length slice) (sym h ∙ z)
 
-    pub accepted-parts : Accepted a e
-    accepted-parts = record { alphabet = passed .rule .alphabet; expression = passed .rule .expression }
+    pub accepted-rule : refusal (ruleRefusals a e) ≡ 0
+    accepted-rule = parts-pass (ruleRefusals a e) ((7, tableTooLong a e (length slice)) ∷ []) refl (sym h ∙ z) .0
 
     pub accepted-exit : (out : List ℕ) → out ≡ sets slice 0 (compiledTable a e) → out ≡ compileExit a e slice
     unfolding compileExit

@@ -8,7 +8,8 @@ use native.Mathlib.Omega.{arith}
 use native.Mathlib.Nat.{add-zero, add-suc, suc-add, le-refl}
 use lib.ListN.{length, getD}
 use borrow.Author.Tests.{eq-eqb, ne-eqb}
-use Rattle.words.specs.Word.{Kind, unionKind, productKind, closureKind, kindAt, kindNumber, kindOf, numberOf, lowByte}
+use Rattle.words.specs.Limits.{alphabetMost}
+use Rattle.words.specs.Word.{Kind, unionKind, productKind, closureKind, kindAt, kindNumber, kindOf, numberOf, lowByte, symbolRange}
 use Rattle.words.specs.Alphabet.{isConstant, constantsOf}
 use Rattle.words.specs.Postfix.{arity}
 use Rattle.words.specs.ExpressionWords.{isExpressionWord}
@@ -52,7 +53,7 @@ module _ (a cs : List ℕ) (known : cs ≡ constantsOf a) where
   pub constants-once : EachOnce cs
   constants-once = ascending-once ordered
 
-  pub constants-symbols : length a ≤ 64 → (k : ℕ) → k < length cs → getD cs k 0 < 256
+  pub constants-symbols : length a ≤ alphabetMost → (k : ℕ) → k < length cs → getD cs k 0 < symbolRange
   constants-symbols few k h = let p = ascending-at k h ordered .1 in omega arith
 
   -- ---- the c of a word is a constant

@@ -2,12 +2,13 @@
 use mathlib.Core.Path.{_≡_, refl, ap, ap₂, _∙_, sym, subst}
 use mathlib.Core.Bool.{true}
 use mathlib.Core.List.{List, [], _∷_, _++_}
-use Prim.Native.Nat.{ℕ, suc, _+_, _*_, _-_, _<_}
+use Prim.Native.Nat.{ℕ, suc, _+_, _-_, _<_}
 use native.Mathlib.Omega.{arith}
 use lib.ListN.{length, getD, take}
 use lib.Seq.{take-suc, take-all, length-take-le}
+use Rattle.words.specs.Limits.{constantsMost}
 use Rattle.words.specs.Lists.{all}
-use Rattle.words.specs.Word.{headKind, wordOf}
+use Rattle.words.specs.Word.{headKind, wordOf, aboveState}
 use Rattle.words.specs.Alphabet.{constantsOf}
 use Rattle.words.specs.ExpressionWords.{isExpressionWord}
 use Rattle.words.proofs.TestLaws.{and-true, all-right}
@@ -16,9 +17,10 @@ use Rattle.automaton.specs.Numbering.{Port, statesOf, portOf, childPort, portsF
 use Rattle.automaton.specs.Numbering.{constantTransitions}
 use Rattle.automaton.proofs.TransitionLaws.{transitionsWords-append}
 use Rattle.operations.specs.Compile.{compiledTable}
-use Rattle.emitter.specs.Writing.{WordsWritten}
 use Rattle.ports.specs.Ports.{portIn}
+use Rattle.emitter.specs.Writing.{WordsWritten}
 use Rattle.emitter.proofs.WritingLaws.{words-written-more, words-written-same}
+use Rattle.compiler.specs.Compiling.{allOwnWordsMost, compiledWordsMost}
 
 -- ---- the last word
 
@@ -64,12 +66,12 @@ module _ (a : List ℕ) where
 -- ---- the table in three parts
 
 pub table-parts : (a e : List ℕ)
-    → wordOf headKind (statesAfter a 0 e * 1024 + lastPort a e .exit)
+    → wordOf headKind (aboveState (statesAfter a 0 e) (lastPort a e .exit))
     ∷ (transitionsWords (constantTransitions (lastPort a e .entries)) ++ transitionsWords (transitionsFrom a 0 e []))
     ≡ compiledTable a e
 unfolding compiled
 table-parts a e =
-    ap (λ (l : List ℕ). wordOf headKind (statesAfter a 0 e * 1024 + lastPort a e .exit) ∷ l)
+    ap (λ (l : List ℕ). wordOf headKind (aboveState (statesAfter a 0 e) (lastPort a e .exit)) ∷ l)
     (sym (transitionsWords-append (constantTransitions (lastPort a e .entries)) (transitionsFrom a 0 e [])))
 
 portOf-exit : (a : List ℕ) (n w : ℕ) → portOf a n w .exit ≡ n
@@ -80,9 +82,10 @@ portOf-exit a n w = refl
 pub table-written : (a cs e : List ℕ) (some : 0 < length e) (x s p : ℕ) (out o₁ o₂ o₃ : List ℕ) (n₁ n₂ r : ℕ) → cs ≡ constantsOf a
     → x ≡ statesAfter a 0 (take (length e - 1) e) → s ≡ statesOf a (getD e (length e - 1) 0)
     → portIn (constantsOf a) p ≡ portOf a x (getD e (length e - 1) 0)
-    → WordsWritten 1 0 (wordOf headKind ((x + s) * 1024 + x) ∷ []) out o₁ n₁
-    → WordsWritten 16 n₁ (transitionsWords (constantTransitions (portIn cs p .entries))) o₁ o₂ n₂
-    → WordsWritten 5440 n₂ (transitionsWords (transitionsFrom a 0 e [])) o₂ o₃ r → WordsWritten 5457 0 (compiledTable a e) out o₃ r
+    → WordsWritten 1 0 (wordOf headKind (aboveState (x + s) x) ∷ []) out o₁ n₁
+    → WordsWritten constantsMost n₁ (transitionsWords (constantTransitions (portIn cs p .entries))) o₁ o₂ n₂
+    → WordsWritten allOwnWordsMost n₂ (transitionsWords (transitionsFrom a 0 e [])) o₂ o₃ r
+    → WordsWritten compiledWordsMost 0 (compiledTable a e) out o₃ r
 table-written a cs e some x s p out o₁ o₂ o₃ n₁ n₂ r known ex es ep h c w =
     let w₀ = getD e (length e - 1) 0 in
     let port : portIn cs p ≡ lastPort a e =
@@ -90,9 +93,10 @@ table-written a cs e some x s p out o₁ o₂ o₃ n₁ n₂ r known ex es ep h 
     let exit : x ≡ lastPort a e .exit = sym (portOf-exit a x w₀) ∙ ap (λ (P : Port). P .exit) (sym ep ∙ ap (λ (ds : List ℕ). portIn ds p)
     (sym known) ∙ port) in
     let states : x + s ≡ statesAfter a 0 e = ap₂ (λ (m n : ℕ). m + n) ex es ∙ sym (states-last a e some) in
-    words-written-same 5457 5457 0 r _ _ out o₃
-    (words-written-more 1 5456 0 n₁ r _ _ out o₁ o₃ h (words-written-more 16 5440 n₁ n₂ r _ _ o₁ o₂ o₃ c w)) (omega arith)
+    words-written-same compiledWordsMost compiledWordsMost 0 r _ _ out o₃
+    (words-written-more 1 (constantsMost + allOwnWordsMost) 0 n₁ r _ _ out o₁ o₃ h
+    (words-written-more constantsMost allOwnWordsMost n₁ n₂ r _ _ o₁ o₂ o₃ c w)) (omega arith)
     (ap₂ (λ (k : ℕ) (l : List ℕ). wordOf headKind k ∷ (l ++ transitionsWords (transitionsFrom a 0 e [])))
-    (ap₂ (λ (m n : ℕ). m * 1024 + n) states exit)
+    (ap₂ aboveState states exit)
     (ap (λ (P : Port). transitionsWords (constantTransitions (P .entries))) port)
     ∙ table-parts a e)

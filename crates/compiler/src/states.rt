@@ -2,12 +2,13 @@
 ghost use mathlib.Core.Path.{_≡_};
 ghost use Prim.Native.Nat.{_*_, _≤_};
 ghost use lib.ListN.{length};
+ghost use Rattle.words.specs.Limits.{expressionMost};
 ghost use Rattle.words.specs.Alphabet.{constantsOf};
 ghost use Rattle.automaton.specs.Numbering.{statesOf, statesAfter, portOf};
 ghost use Rattle.ports.specs.Ports.{portIn};
-ghost use Rattle.compiler.specs.Compiling.{ConstantsCounted, PortMakeable};
-use ports::port::EVERY;
-use ports::port::NONE;
+ghost use Rattle.compiler.specs.Compiling.{wordStatesMost, StatesCountable, PortMakeable};
+use ports::port::EVERY_ENTRY;
+use ports::port::NO_ENTRY;
 use ports::port::port_of;
 use syntax::postfix::arity;
 use words::word::Kind;
@@ -16,8 +17,8 @@ use words::word::kind_of;
 
 // How many states a word has, where `count` is the number of constants.
 pub(crate) fn states_of(alphabet: &[u32], count: usize, w: u32) -> u32
-    requires { ⌜ ConstantsCounted (now alphabet) count ⌝ }
-    ensures { λ r. ⌜ (r ≡ statesOf (now (alphabet .entry)) w) × (r ≤ 17) ⌝ }
+    requires { ⌜ StatesCountable (now alphabet) count ⌝ }
+    ensures { λ r. ⌜ (r ≡ statesOf (now (alphabet .entry)) w) × (r ≤ wordStatesMost) ⌝ }
 {
     if arity(alphabet, w) == 0 {
         return 1;
@@ -27,9 +28,12 @@ pub(crate) fn states_of(alphabet: &[u32], count: usize, w: u32) -> u32
 
 // The first state behind those of the words.
 pub(crate) fn states_after(alphabet: &[u32], count: usize, expression: &[u32]) -> u32
-    requires { ⌜ ConstantsCounted (now alphabet) count ⌝ }
-    requires { ⌜ length (now expression) ≤ 64 ⌝ }
-    ensures { λ r. ⌜ (r ≡ statesAfter (now (alphabet .entry)) 0 (now (expression .entry))) × (r ≤ 17 * length (now (expression .entry))) ⌝ }
+    requires { ⌜ StatesCountable (now alphabet) count ⌝ }
+    requires { ⌜ length (now expression) ≤ expressionMost ⌝ }
+    ensures { λ r. ⌜
+        (r ≡ statesAfter (now (alphabet .entry)) 0 (now (expression .entry)))
+        × (r ≤ wordStatesMost * length (now (expression .entry)))
+        ⌝ }
 {
     let mut state: u32 = 0;
     let mut i = 0;
@@ -46,11 +50,11 @@ pub(crate) fn word_port(alphabet: &[u32], exit: u32, w: u32) -> u32
     ensures { λ r. ⌜ portIn (constantsOf (now (alphabet .entry))) r ≡ portOf (now (alphabet .entry)) exit w ⌝ }
 {
     if arity(alphabet, w) != 0 {
-        return port_of(exit, EVERY);
+        return port_of(exit, EVERY_ENTRY);
     }
     let kind = kind_of(w);
     match kind {
         Kind::Symbol => port_of(exit, w % SYMBOL_RANGE),
-        _ => port_of(exit, NONE),
+        _ => port_of(exit, NO_ENTRY),
     }
 }

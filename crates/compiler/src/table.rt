@@ -1,10 +1,12 @@
 // The table of a rule: its head, the constants' symbol moves, and each word's own transitions.
+ghost use mathlib.Core.Path.{_≡_};
 ghost use mathlib.Core.List.{[]};
+ghost use Rattle.words.specs.Refusal.{refusal};
 ghost use Rattle.automaton.specs.Transition.{transitionsWords};
 ghost use Rattle.automaton.specs.Numbering.{transitionsFrom};
+ghost use Rattle.operations.specs.Compile.{compiledTable, ruleRefusals};
 ghost use Rattle.emitter.specs.Writing.{WordsWritten};
-ghost use Rattle.operations.specs.Compile.{compiledTable};
-ghost use Rattle.compiler.specs.Compiling.{Accepted, Compilable};
+ghost use Rattle.compiler.specs.Compiling.{allOwnWordsMost, compiledWordsMost, Compilable};
 use super::states::states_after;
 use super::states::states_of;
 use super::states::word_port;
@@ -13,6 +15,8 @@ use emitter::constants::push_constants;
 use emitter::own::push_own;
 use emitter::writer::push;
 use syntax::postfix::arity;
+use words::limits::CONSTANTS_MOST;
+use words::limits::EXPRESSION_MOST;
 use words::word::HEAD;
 use words::word::KIND_UNIT;
 use words::word::STATE_RANGE;
@@ -27,12 +31,12 @@ fn write_words(
 ) -> usize
     requires { ⌜ Compilable (now alphabet) (now constants) (now expression) at ⌝ }
     ensures { λ r. ⌜
-        WordsWritten 5440 at
+        WordsWritten allOwnWordsMost at
         (transitionsWords (transitionsFrom (now (alphabet .entry)) 0 (now (expression .entry)) []))
         (now (out .entry)) (now (out .exit)) r
         ⌝ }
 {
-    let mut stack = [0u32; 64];
+    let mut stack = [0u32; EXPRESSION_MOST];
     let mut height: usize = 0;
     let mut state: u32 = 0;
     let mut next = at;
@@ -53,7 +57,7 @@ fn write_words(
 fn write_parts(alphabet: &[u32], constants: &[u32], expression: &[u32], out: &mut [u32]) -> usize
     requires { ⌜ Compilable (now alphabet) (now constants) (now expression) 0 ⌝ }
     ensures { λ r. ⌜
-        WordsWritten 5457 0 (compiledTable (now (alphabet .entry)) (now (expression .entry)))
+        WordsWritten compiledWordsMost 0 (compiledTable (now (alphabet .entry)) (now (expression .entry)))
         (now (out .entry)) (now (out .exit)) r
         ⌝ }
 {
@@ -69,13 +73,13 @@ fn write_parts(alphabet: &[u32], constants: &[u32], expression: &[u32], out: &mu
 
 // Writes the table of a rule, as far as the slice reaches, and answers its word count in both cases.
 pub(crate) fn write_table(alphabet: &[u32], expression: &[u32], out: &mut [u32]) -> usize
-    requires { ⌜ Accepted (now alphabet) (now expression) ⌝ }
+    requires { ⌜ refusal (ruleRefusals (now alphabet) (now expression)) ≡ 0 ⌝ }
     ensures { λ r. ⌜
-        WordsWritten 5457 0 (compiledTable (now (alphabet .entry)) (now (expression .entry)))
+        WordsWritten compiledWordsMost 0 (compiledTable (now (alphabet .entry)) (now (expression .entry)))
         (now (out .entry)) (now (out .exit)) r
         ⌝ }
 {
-    let mut list = [0u32; 16];
+    let mut list = [0u32; CONSTANTS_MOST];
     let count = write_constants(alphabet, &mut list);
     write_parts(alphabet, &list[..count], expression, out)
 }

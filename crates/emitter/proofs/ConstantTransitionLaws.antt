@@ -1,17 +1,18 @@
 -- Laws of the constants' symbol moves into entries, and of the loop that writes them.
 use mathlib.Core.Path.{_≡_, refl, ap, _∙_, sym}
 use mathlib.Core.List.{List, [], _∷_, _++_}
-use Prim.Native.Nat.{ℕ, suc, _+_, _%_, _<_, _≤_}
+use Prim.Native.Nat.{ℕ, suc, _+_, _<_, _≤_}
 use native.Mathlib.Omega.{arith}
 use native.Mathlib.Numerals.{add-one}
 use lib.ListN.{length, getD, take}
 use lib.Seq.{take-suc, take-all, length-take-le}
+use Rattle.words.specs.Limits.{constantsMost}
 use Rattle.words.proofs.ListLaws.{map-append}
 use Rattle.automaton.specs.Transition.{onSymbol, transitionWords, transitionsWords}
 use Rattle.automaton.specs.Numbering.{numbered, constantTransitions}
 use Rattle.automaton.proofs.TransitionLaws.{transitionsWords-append, numbered-append}
 use Rattle.emitter.specs.Writing.{WordsWritten}
-use Rattle.ports.specs.Ports.{exitIn, portIn}
+use Rattle.ports.specs.Ports.{everyEntry, noEntry, exitIn, codeIn, portIn}
 use Rattle.emitter.proofs.WritingLaws.{words-written-none, words-written-more, words-written-same}
 use Rattle.ports.proofs.PortLaws.{entries-every, entries-none, entries-own}
 
@@ -53,23 +54,26 @@ module _ {cs : List ℕ} {x at : ℕ} {out out′ : List ℕ} {next k : ℕ} (w 
             (omega arith) (sym (everyWords-more x cs k h));
       }
 
-  pub moved-end : length cs ≤ k → length cs ≤ 16 → WordsWritten 16 at (everyWords x cs) out out′ next
+  pub moved-end : length cs ≤ k → length cs ≤ constantsMost → WordsWritten constantsMost at (everyWords x cs) out out′ next
   moved-end h few =
       let i = w .within in
-      words-written-same k 16 at next _ _ out out′ (w .written) (omega arith) (rw (take-all k cs h))
+      words-written-same k constantsMost at next _ _ out out′ (w .written) (omega arith) (rw (take-all k cs h))
 
 -- ---- the entries that a port has
 
 module _ (cs : List ℕ) (p x at : ℕ) (out out′ : List ℕ) (r : ℕ) (e : x ≡ exitIn p) where
-  pub port-every : p % 128 ≡ 64 → WordsWritten 16 at (everyWords x cs) out out′ r
-      → WordsWritten 16 at (transitionsWords (constantTransitions (portIn cs p .entries))) out out′ r
-  port-every t w = rw (entries-every cs (exitIn p) (p % 128) t, ← e) w
+  pub port-every : codeIn p ≡ everyEntry → WordsWritten constantsMost at (everyWords x cs) out out′ r
+      → WordsWritten constantsMost at (transitionsWords (constantTransitions (portIn cs p .entries))) out out′ r
+  port-every t w = rw (entries-every cs (exitIn p) (codeIn p) t, ← e) w
 
-  pub port-own : (p % 128 ≡ 64 → ⊥) → (p % 128 ≡ 65 → ⊥) → WordsWritten 1 at (transitionWords (onSymbol (p % 128) [] x)) out out′ r
-      → WordsWritten 16 at (transitionsWords (constantTransitions (portIn cs p .entries))) out out′ r
-  port-own n m w = rw (entries-own cs (exitIn p) (p % 128) n m, ← e) (words-written-same 1 16 at r _ _ out out′ w (omega arith) refl)
+  pub port-own : (codeIn p ≡ everyEntry → ⊥) → (codeIn p ≡ noEntry → ⊥)
+      → WordsWritten 1 at (transitionWords (onSymbol (codeIn p) [] x)) out out′ r
+      → WordsWritten constantsMost at (transitionsWords (constantTransitions (portIn cs p .entries))) out out′ r
+  port-own n m w =
+      rw (entries-own cs (exitIn p) (codeIn p) n m, ← e) (words-written-same 1 constantsMost at r _ _ out out′ w (omega arith) refl)
 
-pub port-none : (cs : List ℕ) (p at : ℕ) (out : List ℕ) → p % 128 ≡ 65
-    → WordsWritten 16 at (transitionsWords (constantTransitions (portIn cs p .entries))) out out at
+pub port-none : (cs : List ℕ) (p at : ℕ) (out : List ℕ) → codeIn p ≡ noEntry
+    → WordsWritten constantsMost at (transitionsWords (constantTransitions (portIn cs p .entries))) out out at
 port-none cs p at out t =
-    rw (entries-none cs (exitIn p) (p % 128) t) (words-written-same 0 16 at at [] [] out out (words-written-none at out) (omega arith) refl)
+    rw (entries-none cs (exitIn p) (codeIn p) t)
+    (words-written-same 0 constantsMost at at [] [] out out (words-written-none at out) (omega arith) refl)

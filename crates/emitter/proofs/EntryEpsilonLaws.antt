@@ -6,10 +6,12 @@ use native.Mathlib.Omega.{arith}
 use native.Mathlib.Numerals.{add-one}
 use lib.ListN.{length, getD, take}
 use lib.Seq.{take-suc, take-all, length-take-le}
+use Rattle.words.specs.Limits.{constantsMost}
 use Rattle.automaton.specs.Transition.{Transition, transitionsWords}
 use Rattle.automaton.specs.Numbering.{numbered, epsilons, entryEpsilons}
 use Rattle.automaton.proofs.TransitionLaws.{transitionsWords-append, numbered-append, entryEpsilons-append}
 use Rattle.emitter.specs.Writing.{WordsWritten, lastIndex}
+use Rattle.emitter.specs.Emission.{entryWordsMost, entriesWordsMost}
 use Rattle.emitter.proofs.WritingLaws.{words-written-none, words-written-more, words-written-same, words-written-next}
 
 -- the words of the transitions from the entries for the constants, where x is the word's exit
@@ -37,7 +39,7 @@ entryEpsilonWords-more x cs targets k h =
 pub record EntriesWritten (cs : List ℕ) (targets : ℕ → List ℕ) (x at : ℕ) (out out′ : List ℕ) (next k : ℕ) : Type 0 where
   pub within : k ≤ length cs
   pub long : length out′ ≡ length out
-  pub written : WordsWritten (5 * k) at (entryEpsilonWords x (take k cs) targets) out out′ next
+  pub written : WordsWritten (entryWordsMost * k) at (entryEpsilonWords x (take k cs) targets) out out′ next
 
 pub entriesWritten-none : (cs : List ℕ) (targets : ℕ → List ℕ) (x at : ℕ) (out : List ℕ) → EntriesWritten cs targets x at out out at 0
 entriesWritten-none cs targets x at out = record { within = omega arith; long = refl; written = words-written-none at out }
@@ -45,25 +47,26 @@ entriesWritten-none cs targets x at out = record { within = omega arith; long = 
 module _ {cs : List ℕ} {targets : ℕ → List ℕ} {x at : ℕ} {out out′ : List ℕ} {next k : ℕ}
     (w : EntriesWritten cs targets x at out out′ next k) where
   -- there is room for the next constant's transitions
-  pub entriesWritten-fits : k < length cs → length cs ≤ 16 → at + 80 ≤ lastIndex → next + 5 ≤ lastIndex
+  pub entriesWritten-fits : k < length cs → length cs ≤ constantsMost → at + entriesWordsMost ≤ lastIndex
+      → next + entryWordsMost ≤ lastIndex
   entriesWritten-fits h few fits = let n = words-written-next _ _ _ _ _ _ (w .written) in omega arith
 
-  pub entriesWritten-more : (m : ℕ) (out″ : List ℕ) (r : ℕ) → k < length cs → m ≤ 5 → length out″ ≡ length out′
-      → WordsWritten m next (transitionsWords (epsilons (x + 1 + k) (targets (getD cs k 0)))) out′ out″ r
-      → EntriesWritten cs targets x at out out″ r
-      (k + 1)
-  entriesWritten-more m out″ r h le l q =
+  pub entriesWritten-more : (out″ : List ℕ) (r : ℕ) → k < length cs → length out″ ≡ length out′
+      → WordsWritten entryWordsMost next (transitionsWords (epsilons (x + 1 + k) (targets (getD cs k 0)))) out′ out″ r
+      → EntriesWritten cs targets x at out out″ r (k + 1)
+  entriesWritten-more out″ r h l q =
       record {
         within = omega arith;
         long = l ∙ w .long;
         written =
-            words-written-same (5 * k + m) (5 * (k + 1)) at r _ _ out out″
-            (words-written-more (5 * k) m at next r _ _ out out′ out″ (w .written) q)
+            words-written-same (entryWordsMost * k + entryWordsMost) (entryWordsMost * (k + 1)) at r _ _ out out″
+            (words-written-more (entryWordsMost * k) entryWordsMost at next r _ _ out out′ out″ (w .written) q)
             (omega arith)
             (sym (entryEpsilonWords-more x cs targets k h));
       }
 
-  pub entriesWritten-end : length cs ≤ k → length cs ≤ 16 → WordsWritten 80 at (entryEpsilonWords x cs targets) out out′ next
+  pub entriesWritten-end : length cs ≤ k → length cs ≤ constantsMost
+      → WordsWritten entriesWordsMost at (entryEpsilonWords x cs targets) out out′ next
   entriesWritten-end h few =
       let i = w .within in
-      words-written-same (5 * k) 80 at next _ _ out out′ (w .written) (omega arith) (rw (take-all k cs h))
+      words-written-same (entryWordsMost * k) entriesWordsMost at next _ _ out out′ (w .written) (omega arith) (rw (take-all k cs h))

@@ -1,24 +1,20 @@
 -- Laws of epsilon transitions to the entries of a word's children: one entry more, and the loop over the children.
 use mathlib.Core.Path.{_≡_, refl, ap, _∙_, sym}
 use mathlib.Core.List.{List, [], _∷_, _++_, map, flatMap, append-assoc, append-nil}
-use Prim.Native.Nat.{ℕ, suc, _+_, _-_, _<_, _≤_}
+use Prim.Native.Nat.{ℕ, suc, _+_, _<_, _≤_}
 use native.Mathlib.Omega.{arith}
 use native.Mathlib.Numerals.{add-one}
-use lib.ListN.{length, getD, take, drop, length-drop}
+use lib.ListN.{length, getD, take}
 use lib.Seq.{take-suc, take-all}
-use borrow.Author.Tests.{eq-eqb, ne-eqb}
+use Rattle.words.specs.Limits.{rankMost}
 use Rattle.words.proofs.ListLaws.{map-append}
-use Rattle.words.proofs.ScanLaws.{drop-part}
 use Rattle.automaton.specs.Transition.{epsilon, transitionWords, transitionsWords}
 use Rattle.automaton.specs.Numbering.{entryFor, epsilons, symbolTargets}
 use Rattle.automaton.proofs.TransitionLaws.{transitionsWords-append}
-use Rattle.emitter.specs.Writing.{WordsWritten}
-use Rattle.emitter.specs.declared.entries.Targets.{Targets}
-use Rattle.emitter.specs.declared.entries.Targets.the-variants.{Children, Product, Closure}
 use Rattle.ports.specs.declared.port.Entry.{Entry}
 use Rattle.ports.specs.declared.port.Entry.the-variants.{Missing, State}
-use Rattle.ports.specs.Ports.{portIn, portsIn, statesOfEntry, Low, EntryOf}
-use Rattle.emitter.specs.Emission.{Emittable, productEntries, closureEntries, targetsIn}
+use Rattle.ports.specs.Ports.{portIn, portsIn, childIn, statesOfEntry, entryRange, Low, EntryRead}
+use Rattle.emitter.specs.Writing.{WordsWritten}
 use Rattle.emitter.proofs.WritingLaws.{words-written-none, words-written-more, words-written-same}
 
 -- the words of the epsilon transitions from a state to states
@@ -39,11 +35,11 @@ module _ (to : Entry) (from at : ℕ) (out : List ℕ) where
       → WordsWritten 1 at (epsilonWords from (statesOfEntry to)) out out′ r
   to-state s e out′ r w = rw e w
 
-pub low-state : (to : Entry) (s : ℕ) → to ≡ State s → Low to → s < 4096
+pub low-state : (to : Entry) (s : ℕ) → to ≡ State s → Low to → s < entryRange
 low-state to s e h = rw e at h
 
 -- the entry of a port for the constant c
-pub to-entry : (cs : List ℕ) (p b c from at : ℕ) (to : Entry) (out out′ : List ℕ) (r : ℕ) → EntryOf cs p b to → b ≡ c
+pub to-entry : (cs : List ℕ) (p b c from at : ℕ) (to : Entry) (out out′ : List ℕ) (r : ℕ) → EntryRead cs p b to → b ≡ c
     → WordsWritten 1 at (epsilonWords from (statesOfEntry to)) out out′ r
     → WordsWritten 1 at (epsilonWords from (entryFor (portIn cs p) c)) out out′ r
 to-entry cs p b c from at to out out′ r h e w =
@@ -57,13 +53,13 @@ flatMap-append f [] k = refl
 flatMap-append f (x ∷ l) k = ap (λ (t : List ℕ). f x ++ t) (flatMap-append f l k) ∙ sym (append-assoc (f x) (flatMap f l) (flatMap f k))
 
 pub children-entries : (cs ps : List ℕ) (b i : ℕ) → i < length ps
-    → symbolTargets (portsIn cs (take (suc i) ps)) b ≡ symbolTargets (portsIn cs (take i ps)) b ++ entryFor (portIn cs (getD ps i 0)) b
+    → symbolTargets (portsIn cs (take (suc i) ps)) b ≡ symbolTargets (portsIn cs (take i ps)) b ++ entryFor (childIn cs ps i) b
 unfolding flatMap
 children-entries cs ps b i h =
     ap (λ (l : List ℕ). symbolTargets (portsIn cs l) b) (take-suc ps i 0 h)
     ∙ ap (flatMap (λ P. entryFor P b)) (map-append (portIn cs) (take i ps) (getD ps i 0 ∷ []))
-    ∙ flatMap-append (λ P. entryFor P b) (map (portIn cs) (take i ps)) (portIn cs (getD ps i 0) ∷ [])
-    ∙ ap (λ (l : List ℕ). symbolTargets (portsIn cs (take i ps)) b ++ l) (append-nil (entryFor (portIn cs (getD ps i 0)) b))
+    ∙ flatMap-append (λ P. entryFor P b) (map (portIn cs) (take i ps)) (childIn cs ps i ∷ [])
+    ∙ ap (λ (l : List ℕ). symbolTargets (portsIn cs (take i ps)) b ++ l) (append-nil (entryFor (childIn cs ps i) b))
 
 -- the loop after i children
 pub record ToChildren (cs ps : List ℕ) (from b at : ℕ) (out out′ : List ℕ) (next i : ℕ) : Type 0 where
@@ -76,7 +72,7 @@ unfolding flatMap
 children-none cs ps from b at out = record { within = omega arith; long = refl; written = words-written-none at out }
 
 module _ {cs ps : List ℕ} {from b at : ℕ} {out out′ : List ℕ} {next i : ℕ} (w : ToChildren cs ps from b at out out′ next i) where
-  pub children-more : (to : Entry) (out″ : List ℕ) (r : ℕ) → i < length ps → EntryOf cs (getD ps i 0) b to → length out″ ≡ length out′
+  pub children-more : (to : Entry) (out″ : List ℕ) (r : ℕ) → i < length ps → EntryRead cs (getD ps i 0) b to → length out″ ≡ length out′
       → WordsWritten 1 next (epsilonWords from (statesOfEntry to)) out′ out″ r → ToChildren cs ps from b at out out″ r (i + 1)
   children-more to out″ r h e l q =
       record {
@@ -89,65 +85,8 @@ module _ {cs ps : List ℕ} {from b at : ℕ} {out out′ : List ℕ} {next i : 
             (statesOfEntry to))));
       }
 
-  pub children-end : length ps ≤ i → length ps ≤ 4 → WordsWritten 4 at (epsilonWords from (symbolTargets (portsIn cs ps) b)) out out′ next
+  pub children-end : length ps ≤ i → length ps ≤ rankMost
+      → WordsWritten rankMost at (epsilonWords from (symbolTargets (portsIn cs ps) b)) out out′ next
   children-end h few =
       let k = w .within in
-      words-written-same i 4 at next _ _ out out′ (w .written) (omega arith) (rw (take-all i ps h))
-
--- ---- the same for a product and for a closure over c
-
--- the part of a slice from its second word on
-abbrev pub behindFirst : List ℕ → List ℕ
-behindFirst ps = take (length ps - 1) (drop 1 ps)
-
-pub behindFirst-drop : (ps : List ℕ) → behindFirst ps ≡ drop 1 ps
-behindFirst-drop ps = drop-part ps 1
-
-pub emittable-behind : (cs ps : List ℕ) (x at n : ℕ) → Emittable cs ps x at n → Emittable cs (behindFirst ps) x at n
-emittable-behind cs ps x at n p =
-    let l = p .children in
-    record {
-      once = p .once;
-      few = p .few;
-      children = rw (behindFirst-drop ps, length-drop 1 ps) (omega arith);
-      low = p .low;
-      fits = p .fits;
-    }
-
-module _ (cs ps : List ℕ) (from b c at : ℕ) (out out′ : List ℕ) (r : ℕ) where
-  pub product-here : b ≡ c → WordsWritten 4 at (epsilonWords from (symbolTargets (portsIn cs (behindFirst ps)) b)) out out′ r
-      → WordsWritten 5 at (epsilonWords from (productEntries cs ps c b)) out out′ r
-  product-here e w = words-written-same 4 5 at r _ _ out out′ w (omega arith) (rw (eq-eqb b c e, behindFirst-drop ps))
-
-  pub product-other : (b ≡ c → ⊥) → WordsWritten 4 at (epsilonWords from (symbolTargets (portsIn cs ps) b)) out out′ r
-      → WordsWritten 5 at (epsilonWords from (productEntries cs ps c b)) out out′ r
-  product-other n w = words-written-same 4 5 at r _ _ out out′ w (omega arith) (rw (ne-eqb b c n))
-
-  pub closure-here : (x : ℕ) (out″ : List ℕ) (s : ℕ) → b ≡ c
-      → WordsWritten 4 at (epsilonWords from (symbolTargets (portsIn cs ps) b)) out out′ r
-      → WordsWritten 1 r (transitionWords (epsilon from x)) out′ out″ s
-      → WordsWritten 5 at (epsilonWords from (closureEntries cs ps c x b)) out out″ s
-  closure-here x out″ s e w v =
-      words-written-same 5 5 at s _ _ out out″ (words-written-more 4 1 at r s _ _ out out′ out″ w v) (omega arith)
-      (rw (eq-eqb b c e) (sym (epsilonWords-append from (symbolTargets (portsIn cs ps) b) (x ∷ []))))
-
-  pub closure-other : (x : ℕ) → (b ≡ c → ⊥) → WordsWritten 4 at (epsilonWords from (symbolTargets (portsIn cs ps) b)) out out′ r
-      → WordsWritten 5 at (epsilonWords from (closureEntries cs ps c x b)) out out′ r
-  closure-other x n w =
-      words-written-same 4 5 at r _ _ out out′ w (omega arith) (rw (ne-eqb b c n) (ap (epsilonWords from) (sym (append-nil
-      (symbolTargets (portsIn cs ps) b)))))
-
--- ---- any of the three
-
-module _ (cs ps : List ℕ) (x from b at : ℕ) (out out′ : List ℕ) (r : ℕ) (targets : Targets) where
-  pub targets-children : targets ≡ Children → WordsWritten 4 at (epsilonWords from (symbolTargets (portsIn cs ps) b)) out out′ r
-      → WordsWritten 5 at (epsilonWords from (targetsIn cs ps x targets b)) out out′ r
-  targets-children e w = rw e (words-written-same 4 5 at r _ _ out out′ w (omega arith) refl)
-
-  pub targets-product : (c : ℕ) → targets ≡ Product c → WordsWritten 5 at (epsilonWords from (productEntries cs ps c b)) out out′ r
-      → WordsWritten 5 at (epsilonWords from (targetsIn cs ps x targets b)) out out′ r
-  targets-product c e w = rw e w
-
-  pub targets-closure : (c : ℕ) → targets ≡ Closure c → WordsWritten 5 at (epsilonWords from (closureEntries cs ps c x b)) out out′ r
-      → WordsWritten 5 at (epsilonWords from (targetsIn cs ps x targets b)) out out′ r
-  targets-closure c e w = rw e w
+      words-written-same i rankMost at next _ _ out out′ (w .written) (omega arith) (rw (take-all i ps h))

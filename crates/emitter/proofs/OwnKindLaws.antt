@@ -1,5 +1,5 @@
 -- Which own transitions a word has, told by the number of its kind.
-use mathlib.Core.Path.{_≡_, refl, ap, _∙_, sym}
+use mathlib.Core.Path.{_≡_, refl, ap, _∙_}
 use mathlib.Core.List.{List, [], _∷_}
 use Prim.Native.Nat.{ℕ}
 use native.Mathlib.Omega.{arith}
@@ -9,9 +9,9 @@ use Rattle.words.specs.Word.{numberOf, lowByte, closureKind, productKind, symbo
 use Rattle.automaton.specs.Transition.{Transition, transitionsWords}
 use Rattle.automaton.specs.Numbering.{Port, symbolTransitions, unionTransitions, productTransitions, closureTransitions, ownTransitions}
 use Rattle.emitter.specs.Writing.{WordsWritten}
-use Rattle.ports.specs.Ports.{portsIn}
+use Rattle.ports.specs.Ports.{portsIn, childIn}
 use Rattle.emitter.proofs.WritingLaws.{words-written-none, words-written-same}
-use Rattle.emitter.proofs.OwnLaws.{both, single, F, G}
+use Rattle.emitter.proofs.TargetLaws.{both, single}
 
 module _ (w : ℕ) (E : Port) (cs : List ℕ) where
   abbrev own : List ℕ → List Transition
@@ -29,13 +29,14 @@ module _ (w : ℕ) (E : Port) (cs : List ℕ) where
   own-symbol [] n e = absurd (n refl)
   own-symbol (p ∷ ps) n e = rw (eq-eqb (numberOf w) (kindNumber symbolKind) e)
 
-  pub own-union : (ps : List ℕ) → length ps ≡ 2 → numberOf w ≡ kindNumber unionKind → own ps ≡ unionTransitions E (F cs ps) (G cs ps)
+  pub own-union : (ps : List ℕ) → length ps ≡ 2 → numberOf w ≡ kindNumber unionKind
+      → own ps ≡ unionTransitions E (childIn cs ps 0) (childIn cs ps 1)
   unfolding ownTransitions
   own-union ps h e =
       ap own (both ps h) ∙ rw (ne-eqb (numberOf w) (kindNumber symbolKind) (λ z. omega arith), eq-eqb (numberOf w) (kindNumber unionKind) e)
 
   pub own-product : (ps : List ℕ) → length ps ≡ 2 → numberOf w ≡ kindNumber productKind
-      → own ps ≡ productTransitions (lowByte w) E (F cs ps) (G cs ps)
+      → own ps ≡ productTransitions (lowByte w) E (childIn cs ps 0) (childIn cs ps 1)
   unfolding ownTransitions
   own-product ps h e =
       ap own (both ps h)
@@ -46,7 +47,7 @@ module _ (w : ℕ) (E : Port) (cs : List ℕ) where
       )
 
   pub own-closure : (ps : List ℕ) → length ps ≡ 1 → numberOf w ≡ kindNumber closureKind
-      → own ps ≡ closureTransitions (lowByte w) E (F cs ps)
+      → own ps ≡ closureTransitions (lowByte w) E (childIn cs ps 0)
   unfolding ownTransitions
   own-closure ps h e =
       ap own (single ps h)

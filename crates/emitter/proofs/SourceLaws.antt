@@ -6,6 +6,7 @@ use native.Mathlib.Omega.{arith}
 use native.Mathlib.Numerals.{add-one}
 use lib.ListN.{length, getD, take}
 use lib.Seq.{take-suc, take-all}
+use Rattle.words.specs.Limits.{rankMost}
 use Rattle.words.specs.Word.{sourceKind, wordOf}
 use Rattle.words.proofs.ListLaws.{map-append}
 use Rattle.automaton.specs.Transition.{sourceWords}
@@ -41,7 +42,7 @@ module _ {ps : List ℕ} {at : ℕ} {out out′ : List ℕ} {next i : ℕ} (w : 
             ∙ map-append (λ p. wordOf sourceKind p) (exitsIn (take i ps)) (exitIn (getD ps i 0) ∷ []))));
       }
 
-  pub sourced-end : length ps ≤ i → length ps ≤ 4 → WordsWritten 4 at (sourceWords (exitsIn ps)) out out′ next
+  pub sourced-end : length ps ≤ i → length ps ≤ rankMost → WordsWritten rankMost at (sourceWords (exitsIn ps)) out out′ next
   sourced-end h few =
       let k = w .within in
-      words-written-same i 4 at next _ _ out out′ (w .written) (omega arith) (rw (take-all i ps h))
+      words-written-same i rankMost at next _ _ out out′ (w .written) (omega arith) (rw (take-all i ps h))

@@ -1,39 +1,47 @@
--- What the emitter's inner functions write for one constant, and what they are given. It serves these functions.
-use Prim.Native.Nat.{ℕ, _+_, _<_, _≤_}
+-- What the emitter's inner functions write, how many words at most, and what they are given. It serves these functions.
+use Prim.Native.Nat.{ℕ, _+_, _*_, _<_, _≤_}
 use mathlib.Core.Path.{_≡_}
-use mathlib.Core.List.{List, [], _∷_, _++_}
-use mathlib.Core.Bool.{cond}
-use lib.ListN.{length, getD, drop}
-use lib.Dec.{eqb}
-use Rattle.words.specs.Word.{numberOf, lowByte, closureKind, productKind, unionKind, kindNumber}
-use Rattle.automaton.specs.Numbering.{symbolTargets}
+use mathlib.Core.List.{List}
+use lib.ListN.{length, getD}
+use Rattle.words.specs.Limits.{constantsMost, rankMost}
+use Rattle.words.specs.Word.{numberOf, lowByte, closureKind, productKind, unionKind, kindNumber, symbolRange}
+use Rattle.automaton.specs.Numbering.{symbolTargets, productTargets, closureTargets}
 use Rattle.emitter.specs.Writing.{lastIndex}
 use Rattle.emitter.specs.declared.entries.Targets.{Targets}
 use Rattle.emitter.specs.declared.entries.Targets.the-variants.{Children, Product, Closure}
-use Rattle.ports.specs.Ports.{EachOnce, portsIn}
+use Rattle.ports.specs.Ports.{exitRange, EachOnce, portsIn, childIn}
 
--- The entry of a product over c for a constant leads to the children's entries, at c not to the first child's. This and the
--- next are over a list of children, as the code has them; automaton's `productTargets` and `closureTargets` are over two
--- and one.
-abbrev pub productEntries : List ℕ → List ℕ → ℕ → ℕ → List ℕ
-productEntries cs ps c b = cond (eqb b c) (symbolTargets (portsIn cs (drop 1 ps)) b) (symbolTargets (portsIn cs ps) b)
+-- the most words of the transitions from one entry: to the entry of each child, and to the word's own exit
+abbrev pub entryWordsMost : ℕ
+entryWordsMost = rankMost + 1
 
--- that of a closure over c with exit x, which is added at c
-abbrev pub closureEntries : List ℕ → List ℕ → ℕ → ℕ → ℕ → List ℕ
-closureEntries cs ps c x b = symbolTargets (portsIn cs ps) b ++ cond (eqb b c) (x ∷ []) []
+-- the most words of the transitions from all entries of a word
+abbrev pub entriesWordsMost : ℕ
+entriesWordsMost = constantsMost * entryWordsMost
 
--- where the entry for a constant leads, by what is said of the word with exit x
+-- the most words of the own transitions of a word: a symbol move with its part states, where the other kinds have fewer
+-- words, and the transitions from its entries
+abbrev pub ownWordsMost : ℕ
+ownWordsMost = 1 + rankMost + entriesWordsMost
+
+-- where the entry for a constant leads, by what is said of the word, which has exit x and children with ports ps
 abbrev pub targetsIn : List ℕ → List ℕ → ℕ → Targets → ℕ → List ℕ
 targetsIn cs ps x Children b = symbolTargets (portsIn cs ps) b
-targetsIn cs ps x (Product c) b = productEntries cs ps c b
-targetsIn cs ps x (Closure c) b = closureEntries cs ps c x b
+targetsIn cs ps x (Product c) b = productTargets c (childIn cs ps 0) (childIn cs ps 1) b
+targetsIn cs ps x (Closure c) b = closureTargets c x (childIn cs ps 0) b
+
+-- a word with these targets has as many children as ps has ports
+abbrev pub Targetable : Targets → List ℕ → Type 0
+Targetable Children ps = Unit {0}
+Targetable (Product c) ps = length ps ≡ 2
+Targetable (Closure c) ps = length ps ≡ 1
 
 -- the constants cs, a word's children with ports ps, its exit x, and an index from which on n words may be written
 pub record Emittable (cs ps : List ℕ) (x at n : ℕ) : Type 0 where
   pub once : EachOnce cs
-  pub few : length cs ≤ 16
-  pub children : length ps ≤ 4
-  pub low : x < 2048
+  pub few : length cs ≤ constantsMost
+  pub children : length ps ≤ rankMost
+  pub low : x < exitRange
   pub fits : at + n ≤ lastIndex
 
 -- c is one of the constants
@@ -48,6 +56,6 @@ pub record OwnEmittable (cs ps : List ℕ) (w : ℕ) : Type 0 where
 
 -- the constants are few and symbols, and their moves may be written from index `at` on
 pub record ConstantsEmittable (cs : List ℕ) (at : ℕ) : Type 0 where
-  pub few : length cs ≤ 16
-  pub symbols : (k : ℕ) → k < length cs → getD cs k 0 < 256
-  pub fits : at + 16 ≤ lastIndex
+  pub few : length cs ≤ constantsMost
+  pub symbols : (k : ℕ) → k < length cs → getD cs k 0 < symbolRange
+  pub fits : at + constantsMost ≤ lastIndex

@@ -1,11 +1,13 @@
 // Epsilon transitions from a word's entries, in the order of the constants.
-ghost use Prim.Native.Nat.{suc, _+_, _≤_, _<_};
+ghost use mathlib.Core.Path.{_≡_};
+ghost use Prim.Native.Nat.{suc, _+_, _<_};
 ghost use lib.ListN.{length, getD};
+ghost use Rattle.words.specs.Limits.{rankMost};
 ghost use Rattle.automaton.specs.Transition.{transitionsWords};
-ghost use Rattle.automaton.specs.Numbering.{numbered, epsilons, entryEpsilons, symbolTargets};
+ghost use Rattle.automaton.specs.Numbering.{numbered, epsilons, entryEpsilons, symbolTargets, productTargets, closureTargets};
+ghost use Rattle.ports.specs.Ports.{Low, entryRange, statesOfEntry, portsIn, childIn};
 ghost use Rattle.emitter.specs.Writing.{WordsWritten, lastIndex};
-ghost use Rattle.ports.specs.Ports.{Low, statesOfEntry, portsIn};
-ghost use Rattle.emitter.specs.Emission.{Emittable, productEntries, closureEntries, targetsIn};
+ghost use Rattle.emitter.specs.Emission.{entryWordsMost, entriesWordsMost, targetsIn, Targetable, Emittable};
 use super::writer::push_epsilon;
 use ports::port::Entry;
 use ports::port::entry_at;
@@ -20,7 +22,7 @@ pub(crate) enum Targets {
 
 // "A move that names a missing entry is omitted."
 pub(crate) fn push_to(out: &mut [u32], at: usize, from: u32, to: Entry) -> usize
-    requires { ⌜ (at < lastIndex) × ((from < 4096) × Low to) ⌝ }
+    requires { ⌜ (at < lastIndex) × ((from < entryRange) × Low to) ⌝ }
     ensures { λ r. ⌜ WordsWritten 1 at (transitionsWords (epsilons from (statesOfEntry to))) (now (out .entry)) (now (out .exit)) r ⌝ }
 {
     match to {
@@ -38,10 +40,10 @@ fn push_to_children(
     exit: u32,
     k: usize,
 ) -> usize
-    requires { ⌜ Emittable (now constants) (now ports) exit at 5 ⌝ }
+    requires { ⌜ Emittable (now constants) (now ports) exit at entryWordsMost ⌝ }
     requires { ⌜ k < length (now constants) ⌝ }
     ensures { λ r. ⌜
-        WordsWritten 4 at
+        WordsWritten rankMost at
         (transitionsWords (epsilons (exit + 1 + k)
         (symbolTargets (portsIn (now (constants .entry)) (now (ports .entry))) (getD (now (constants .entry)) k 0))))
         (now (out .entry)) (now (out .exit)) r
@@ -68,12 +70,13 @@ fn push_product_entry(
     c: u32,
     k: usize,
 ) -> usize
-    requires { ⌜ Emittable (now constants) (now ports) exit at 5 ⌝ }
-    requires { ⌜ (k < length (now constants)) × (1 ≤ length (now ports)) ⌝ }
+    requires { ⌜ Emittable (now constants) (now ports) exit at entryWordsMost ⌝ }
+    requires { ⌜ (k < length (now constants)) × (length (now ports) ≡ 2) ⌝ }
     ensures { λ r. ⌜
-        WordsWritten 5 at
+        WordsWritten entryWordsMost at
         (transitionsWords (epsilons (exit + 1 + k)
-        (productEntries (now (constants .entry)) (now (ports .entry)) c (getD (now (constants .entry)) k 0))))
+        (productTargets c (childIn (now (constants .entry)) (now (ports .entry)) 0)
+        (childIn (now (constants .entry)) (now (ports .entry)) 1) (getD (now (constants .entry)) k 0))))
         (now (out .entry)) (now (out .exit)) r
         ⌝ }
 {
@@ -93,12 +96,12 @@ fn push_closure_entry(
     c: u32,
     k: usize,
 ) -> usize
-    requires { ⌜ Emittable (now constants) (now ports) exit at 5 ⌝ }
-    requires { ⌜ k < length (now constants) ⌝ }
+    requires { ⌜ Emittable (now constants) (now ports) exit at entryWordsMost ⌝ }
+    requires { ⌜ (k < length (now constants)) × (length (now ports) ≡ 1) ⌝ }
     ensures { λ r. ⌜
-        WordsWritten 5 at
+        WordsWritten entryWordsMost at
         (transitionsWords (epsilons (exit + 1 + k)
-        (closureEntries (now (constants .entry)) (now (ports .entry)) c exit (getD (now (constants .entry)) k 0))))
+        (closureTargets c exit (childIn (now (constants .entry)) (now (ports .entry)) 0) (getD (now (constants .entry)) k 0))))
         (now (out .entry)) (now (out .exit)) r
         ⌝ }
 {
@@ -119,10 +122,10 @@ fn push_entry(
     targets: Targets,
     k: usize,
 ) -> usize
-    requires { ⌜ Emittable (now constants) (now ports) exit at 5 ⌝ }
-    requires { ⌜ (k < length (now constants)) × (1 ≤ length (now ports)) ⌝ }
+    requires { ⌜ Emittable (now constants) (now ports) exit at entryWordsMost ⌝ }
+    requires { ⌜ (k < length (now constants)) × Targetable targets (now ports) ⌝ }
     ensures { λ r. ⌜
-        WordsWritten 5 at
+        WordsWritten entryWordsMost at
         (transitionsWords (epsilons (exit + 1 + k)
         (targetsIn (now (constants .entry)) (now (ports .entry)) exit targets (getD (now (constants .entry)) k 0))))
         (now (out .entry)) (now (out .exit)) r
@@ -144,10 +147,10 @@ pub(crate) fn push_entries(
     exit: u32,
     targets: Targets,
 ) -> usize
-    requires { ⌜ Emittable (now constants) (now ports) exit at 80 ⌝ }
-    requires { ⌜ 1 ≤ length (now ports) ⌝ }
+    requires { ⌜ Emittable (now constants) (now ports) exit at entriesWordsMost ⌝ }
+    requires { ⌜ Targetable targets (now ports) ⌝ }
     ensures { λ r. ⌜
-        WordsWritten 80 at
+        WordsWritten entriesWordsMost at
         (transitionsWords (entryEpsilons (numbered (suc exit) (now (constants .entry)))
         (targetsIn (now (constants .entry)) (now (ports .entry)) exit targets)))
         (now (out .entry)) (now (out .exit)) r

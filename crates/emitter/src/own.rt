@@ -3,12 +3,14 @@ ghost use mathlib.Core.Path.{_≡_};
 ghost use mathlib.Core.List.{[], _∷_};
 ghost use Prim.Native.Nat.{_+_, _≤_, _<_};
 ghost use lib.ListN.{length, getD};
+ghost use Rattle.words.specs.Limits.{rankMost};
+ghost use Rattle.words.specs.Word.{symbolRange};
 ghost use Rattle.automaton.specs.Transition.{epsilon, sourceWords, transitionsWords};
 ghost use Rattle.automaton.specs.Numbering.{symbolTransitions, unionTransitions, productTransitions};
 ghost use Rattle.automaton.specs.Numbering.{closureTransitions, ownTransitions, fullPort};
+ghost use Rattle.ports.specs.Ports.{entryRange, exitsIn, portsIn, childIn};
 ghost use Rattle.emitter.specs.Writing.{WordsWritten, lastIndex};
-ghost use Rattle.ports.specs.Ports.{exitsIn, portIn, portsIn};
-ghost use Rattle.emitter.specs.Emission.{Emittable, ListedConstant, OwnEmittable};
+ghost use Rattle.emitter.specs.Emission.{ownWordsMost, Emittable, ListedConstant, OwnEmittable};
 use super::entries::Targets;
 use super::entries::push_entries;
 use super::entries::push_to;
@@ -40,8 +42,8 @@ fn constant_index(constants: &[u32], c: u32) -> usize
 
 // The part states of a symbol move: the children's exits.
 fn push_sources(ports: &[u32], out: &mut [u32], at: usize) -> usize
-    requires { ⌜ (length (now ports) ≤ 4) × (at + 4 ≤ lastIndex) ⌝ }
-    ensures { λ r. ⌜ WordsWritten 4 at (sourceWords (exitsIn (now (ports .entry)))) (now (out .entry)) (now (out .exit)) r ⌝ }
+    requires { ⌜ (length (now ports) ≤ rankMost) × (at + rankMost ≤ lastIndex) ⌝ }
+    ensures { λ r. ⌜ WordsWritten rankMost at (sourceWords (exitsIn (now (ports .entry)))) (now (out .entry)) (now (out .exit)) r ⌝ }
 {
     let mut next = at;
     let mut i = 0;
@@ -61,10 +63,10 @@ fn push_symbol(
     exit: u32,
     symbol: u32,
 ) -> usize
-    requires { ⌜ Emittable (now constants) (now ports) exit at 85 ⌝ }
-    requires { ⌜ (symbol < 256) × (1 ≤ length (now ports)) ⌝ }
+    requires { ⌜ Emittable (now constants) (now ports) exit at ownWordsMost ⌝ }
+    requires { ⌜ symbol < symbolRange ⌝ }
     ensures { λ r. ⌜
-        WordsWritten 85 at
+        WordsWritten ownWordsMost at
         (transitionsWords (symbolTransitions symbol (fullPort (now (constants .entry)) exit)
         (portsIn (now (constants .entry)) (now (ports .entry)))))
         (now (out .entry)) (now (out .exit)) r
@@ -77,7 +79,7 @@ fn push_symbol(
 
 // From two states to one.
 fn push_both(out: &mut [u32], at: usize, first: u32, second: u32, to: u32) -> usize
-    requires { ⌜ (at + 2 ≤ lastIndex) × ((first < 4096) × ((second < 4096) × (to < 4096))) ⌝ }
+    requires { ⌜ (at + 2 ≤ lastIndex) × ((first < entryRange) × ((second < entryRange) × (to < entryRange))) ⌝ }
     ensures { λ r. ⌜
         WordsWritten 2 at
         (transitionsWords (epsilon first to ∷ epsilon second to ∷ []))
@@ -90,13 +92,13 @@ fn push_both(out: &mut [u32], at: usize, first: u32, second: u32, to: u32) -> us
 
 // A union of two children.
 fn push_union(constants: &[u32], ports: &[u32], out: &mut [u32], at: usize, exit: u32) -> usize
-    requires { ⌜ Emittable (now constants) (now ports) exit at 85 ⌝ }
+    requires { ⌜ Emittable (now constants) (now ports) exit at ownWordsMost ⌝ }
     requires { ⌜ length (now ports) ≡ 2 ⌝ }
     ensures { λ r. ⌜
-        WordsWritten 85 at
+        WordsWritten ownWordsMost at
         (transitionsWords (unionTransitions (fullPort (now (constants .entry)) exit)
-        (portIn (now (constants .entry)) (getD (now (ports .entry)) 0 0))
-        (portIn (now (constants .entry)) (getD (now (ports .entry)) 1 0))))
+        (childIn (now (constants .entry)) (now (ports .entry)) 0)
+        (childIn (now (constants .entry)) (now (ports .entry)) 1)))
         (now (out .entry)) (now (out .exit)) r
         ⌝ }
 {
@@ -115,13 +117,13 @@ fn push_product(
     exit: u32,
     c: u32,
 ) -> usize
-    requires { ⌜ Emittable (now constants) (now ports) exit at 85 ⌝ }
+    requires { ⌜ Emittable (now constants) (now ports) exit at ownWordsMost ⌝ }
     requires { ⌜ (length (now ports) ≡ 2) × ListedConstant (now constants) c ⌝ }
     ensures { λ r. ⌜
-        WordsWritten 85 at
+        WordsWritten ownWordsMost at
         (transitionsWords (productTransitions c (fullPort (now (constants .entry)) exit)
-        (portIn (now (constants .entry)) (getD (now (ports .entry)) 0 0))
-        (portIn (now (constants .entry)) (getD (now (ports .entry)) 1 0))))
+        (childIn (now (constants .entry)) (now (ports .entry)) 0)
+        (childIn (now (constants .entry)) (now (ports .entry)) 1)))
         (now (out .entry)) (now (out .exit)) r
         ⌝ }
 {
@@ -140,12 +142,12 @@ fn push_closure(
     exit: u32,
     c: u32,
 ) -> usize
-    requires { ⌜ Emittable (now constants) (now ports) exit at 85 ⌝ }
+    requires { ⌜ Emittable (now constants) (now ports) exit at ownWordsMost ⌝ }
     requires { ⌜ (length (now ports) ≡ 1) × ListedConstant (now constants) c ⌝ }
     ensures { λ r. ⌜
-        WordsWritten 85 at
+        WordsWritten ownWordsMost at
         (transitionsWords (closureTransitions c (fullPort (now (constants .entry)) exit)
-        (portIn (now (constants .entry)) (getD (now (ports .entry)) 0 0))))
+        (childIn (now (constants .entry)) (now (ports .entry)) 0)))
         (now (out .entry)) (now (out .exit)) r
         ⌝ }
 {
@@ -164,10 +166,10 @@ pub fn push_own(
     exit: u32,
     w: u32,
 ) -> usize
-    requires { ⌜ Emittable (now constants) (now ports) exit at 85 ⌝ }
+    requires { ⌜ Emittable (now constants) (now ports) exit at ownWordsMost ⌝ }
     requires { ⌜ OwnEmittable (now constants) (now ports) w ⌝ }
     ensures { λ r. ⌜
-        WordsWritten 85 at
+        WordsWritten ownWordsMost at
         (transitionsWords (ownTransitions w (fullPort (now (constants .entry)) exit)
         (portsIn (now (constants .entry)) (now (ports .entry)))))
         (now (out .entry)) (now (out .exit)) r

@@ -2,7 +2,9 @@
 // out, so that a run over an empty slice counts.
 ghost use mathlib.Core.List.{[], _∷_};
 ghost use Prim.Native.Nat.{_+_, _*_, _<_};
+ghost use Rattle.words.specs.Word.{symbolRange};
 ghost use Rattle.automaton.specs.Transition.{transitionWords, onSymbol, epsilon};
+ghost use Rattle.ports.specs.Ports.{entryRange};
 ghost use Rattle.emitter.specs.Writing.{WordsWritten, lastIndex};
 use words::word::EPSILON;
 use words::word::KIND_UNIT;
@@ -22,7 +24,7 @@ pub fn push(out: &mut [u32], at: usize, w: u32) -> usize
 
 // An empty move.
 pub(crate) fn push_epsilon(out: &mut [u32], at: usize, from: u32, to: u32) -> usize
-    requires { ⌜ (at < lastIndex) × ((from < 4096) × (to < 4096)) ⌝ }
+    requires { ⌜ (at < lastIndex) × ((from < entryRange) × (to < entryRange)) ⌝ }
     ensures { λ r. ⌜ WordsWritten 1 at (transitionWords (epsilon from to)) (now (out .entry)) (now (out .exit)) r ⌝ }
 {
     push(out, at, EPSILON * KIND_UNIT + (from * STATE_RANGE + to))
@@ -30,7 +32,7 @@ pub(crate) fn push_epsilon(out: &mut [u32], at: usize, from: u32, to: u32) -> us
 
 // A symbol move without its part states.
 pub(crate) fn push_transition(out: &mut [u32], at: usize, symbol: u32, to: u32) -> usize
-    requires { ⌜ (at < lastIndex) × ((symbol < 256) × (to < 4096)) ⌝ }
+    requires { ⌜ (at < lastIndex) × ((symbol < symbolRange) × (to < entryRange)) ⌝ }
     ensures { λ r. ⌜ WordsWritten 1 at (transitionWords (onSymbol symbol [] to)) (now (out .entry)) (now (out .exit)) r ⌝ }
 {
     push(

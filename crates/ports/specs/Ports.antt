@@ -1,25 +1,44 @@
 -- Ports (a word's exit and entries) as numbers, and an entry that may be missing. It serves the inner functions of Compile.
-use Prim.Native.Nat.{ℕ, suc, _+_, _/_, _%_, _<_}
+use Prim.Native.Nat.{ℕ, suc, _+_, _*_, _/_, _%_, _<_}
 use mathlib.Core.Path.{_≡_}
 use mathlib.Core.List.{List, [], _∷_, map}
 use mathlib.Core.Bool.{cond}
 use lib.ListN.{length, getD}
 use lib.Dec.{eqb}
+use Rattle.words.specs.Limits.{alphabetMost}
+use Rattle.words.specs.Word.{countRange}
 use Rattle.automaton.specs.Numbering.{Port, numbered, lookup, entryFor}
 use Rattle.ports.specs.declared.port.Entry.{Entry}
 use Rattle.ports.specs.declared.port.Entry.the-variants.{Missing, State}
 
--- the entries that a number below 128 says, for a word with exit x: 64 one for each constant behind the exit, 65 none, and
--- any other number the exit as entry for this constant
-unfoldable pub entriesIn : List ℕ → ℕ → ℕ → List (ℕ × ℕ)
-entriesIn cs x t = cond (eqb t 64) (numbered (suc x) cs) (cond (eqb t 65) [] ((t, x) ∷ []))
+-- A code says which entries a word has: `everyEntry` one for each constant, in states behind the exit, `noEntry` none, and a
+-- constant's symbol, which is below them, the exit as the entry for this constant.
+abbrev pub everyEntry : ℕ
+everyEntry = alphabetMost
 
--- bits 17..7 are the exit, bits 6..0 say the entries
+abbrev pub noEntry : ℕ
+noEntry = everyEntry + 1
+
+-- In a port's number the exit stands above the code, which has one bit more than a symbol needs.
+abbrev pub exitUnit : ℕ
+exitUnit = 2 * alphabetMost
+
+-- an exit has as many bits as a state count
+abbrev pub exitRange : ℕ
+exitRange = countRange
+
+-- the entries that code t says, for a word with exit x
+unfoldable pub entriesIn : List ℕ → ℕ → ℕ → List (ℕ × ℕ)
+entriesIn cs x t = cond (eqb t everyEntry) (numbered (suc x) cs) (cond (eqb t noEntry) [] ((t, x) ∷ []))
+
 abbrev pub exitIn : ℕ → ℕ
-exitIn p = p / 128 % 2048
+exitIn p = p / exitUnit % exitRange
+
+abbrev pub codeIn : ℕ → ℕ
+codeIn p = p % exitUnit
 
 abbrev pub portIn : List ℕ → ℕ → Port
-portIn cs p = record { exit = exitIn p; entries = entriesIn cs (exitIn p) (p % 128) }
+portIn cs p = record { exit = exitIn p; entries = entriesIn cs (exitIn p) (codeIn p) }
 
 -- the exits of a word's children, from left to right, and their ports
 abbrev pub exitsIn : List ℕ → List ℕ
@@ -27,6 +46,10 @@ exitsIn ps = map (λ p. exitIn p) ps
 
 abbrev pub portsIn : List ℕ → List ℕ → List Port
 portsIn cs ps = map (portIn cs) ps
+
+-- the port of the child with index i
+abbrev pub childIn : List ℕ → List ℕ → ℕ → Port
+childIn cs ps i = portIn cs (getD ps i 0)
 
 -- each constant is found at its own index: none stands twice
 abbrev pub EachOnce : List ℕ → Type 0
@@ -37,12 +60,15 @@ abbrev pub statesOfEntry : Entry → List ℕ
 statesOfEntry Missing = []
 statesOfEntry (State s) = s ∷ []
 
--- a state that fits the fields of a word with room to spare
+-- the states of a port, its exit and the few entries behind it, stay below this number
+abbrev pub entryRange : ℕ
+entryRange = 2 * exitRange
+
 abbrev pub Low : Entry → Type 0
 Low Missing = Unit {0}
-Low (State s) = s < 4096
+Low (State s) = s < entryRange
 
 -- the entry of port p for a constant
-pub record EntryOf (cs : List ℕ) (p c : ℕ) (r : Entry) : Type 0 where
+pub record EntryRead (cs : List ℕ) (p c : ℕ) (r : Entry) : Type 0 where
   pub states : statesOfEntry r ≡ entryFor (portIn cs p) c
   pub low : Low r

@@ -1,20 +1,24 @@
-// A word's states as one number: bits 17..7 are its exit, bits 6..0 say which entries it has.
+// A word's states as one number: its exit above a code, which says its entries.
 ghost use mathlib.Core.Path.{_≡_};
 ghost use Prim.Native.Nat.{_+_, _*_, _≤_, _<_};
 ghost use lib.ListN.{length, getD};
-ghost use Rattle.ports.specs.Ports.{EachOnce, EntryOf, exitIn};
+ghost use Rattle.words.specs.Limits.{constantsMost};
+ghost use Rattle.ports.specs.Ports.{exitUnit, exitRange, exitIn, EachOnce, EntryRead};
+use words::limits::ALPHABET_MOST;
+use words::word::COUNT_RANGE;
 
-// An entry for each constant, in states behind the exit.
-pub const EVERY: u32 = 64;
+// The code of an entry for each constant, in states behind the exit. A code below this is the constant whose entry is the
+// exit.
+pub const EVERY_ENTRY: u32 = ALPHABET_MOST as u32;
 
-// No entry. Any other number is the constant whose entry is the exit.
-pub const NONE: u32 = 65;
+// The code of no entry.
+pub const NO_ENTRY: u32 = EVERY_ENTRY + 1;
 
-// The exit stands above bits 6..0.
-pub const EXIT_UNIT: u32 = 128;
+// The exit stands above the code.
+pub const EXIT_UNIT: u32 = 2 * ALPHABET_MOST as u32;
 
-// An exit has 11 bits.
-const EXIT_RANGE: u32 = 2048;
+// An exit has as many bits as a state count.
+const EXIT_RANGE: u32 = COUNT_RANGE;
 
 // A port's entry for a constant.
 pub enum Entry {
@@ -22,35 +26,35 @@ pub enum Entry {
     State(u32),
 }
 
-// The port with this exit and these entries.
-pub fn port_of(exit: u32, entries: u32) -> u32
-    requires { ⌜ (exit < 2048) × (entries < 128) ⌝ }
-    ensures { λ r. ⌜ r ≡ exit * 128 + entries ⌝ }
+// The port with this exit and the entries of this code.
+pub fn port_of(exit: u32, code: u32) -> u32
+    requires { ⌜ (exit < exitRange) × (code < exitUnit) ⌝ }
+    ensures { λ r. ⌜ r ≡ exit * exitUnit + code ⌝ }
 {
-    exit * EXIT_UNIT + entries
+    exit * EXIT_UNIT + code
 }
 
 // The exit of a port.
 pub fn exit_of(port: u32) -> u32
-    ensures { λ r. ⌜ (r ≡ exitIn port) × (r < 2048) ⌝ }
+    ensures { λ r. ⌜ (r ≡ exitIn port) × (r < exitRange) ⌝ }
 {
     port / EXIT_UNIT % EXIT_RANGE
 }
 
 // The entry for the constant with index k.
 pub fn entry_at(constants: &[u32], port: u32, k: usize) -> Entry
-    requires { ⌜ EachOnce (now constants) × ((k < length (now constants)) × (length (now constants) ≤ 16)) ⌝ }
-    ensures { λ r. ⌜ EntryOf (now (constants .entry)) port (getD (now (constants .entry)) k 0) r ⌝ }
+    requires { ⌜ EachOnce (now constants) × ((k < length (now constants)) × (length (now constants) ≤ constantsMost)) ⌝ }
+    ensures { λ r. ⌜ EntryRead (now (constants .entry)) port (getD (now (constants .entry)) k 0) r ⌝ }
 {
     let exit = exit_of(port);
-    let entries = port % EXIT_UNIT;
-    if entries == EVERY {
+    let code = port % EXIT_UNIT;
+    if code == EVERY_ENTRY {
         return Entry::State(exit + 1 + k as u32);
     }
-    if entries == NONE {
+    if code == NO_ENTRY {
         return Entry::Missing;
     }
-    if entries == constants[k] {
+    if code == constants[k] {
         return Entry::State(exit);
     }
     Entry::Missing

@@ -1,6 +1,6 @@
 -- `compiler::compile` meets its contract: where no refusal applies the table fits the slice, and the words behind it stay.
 use borrow.Author.Needs.{needs}
-use Rattle.compiler.proofs.FaultLaws.{refused-answer, refused-exit, accepted-answer, accepted-parts, accepted-exit}
+use Rattle.compiler.proofs.FaultLaws.{refused-answer, refused-exit, accepted-answer, accepted-rule, accepted-exit}
 use Rattle.compiler.proofs.compile.Statement.{statement}
 use Rattle.compiler.proofs.compile.Tie as tie
 
@@ -14,7 +14,7 @@ returns c =
 
 write-table-requires : tie.Need-write-table-requires
 write-table-requires c κs =
-    accepted-parts _ _ (c .before .before .before .before .before .before .args .table .now) _ (c .before .before .compile-fault .ensures)
+    accepted-rule _ _ (c .before .before .before .before .before .before .args .table .now) _ (c .before .before .compile-fault .ensures)
     (c .before .if1 .left)
 
 same-length : tie.Need-same-length

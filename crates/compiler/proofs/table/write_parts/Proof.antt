@@ -1,22 +1,23 @@
 -- `compiler::table::write_parts` meets its contract: its three writers leave the three parts of the table.
 use native.Mathlib.Omega.{arith}
-use mathlib.Core.Path.{sym}
-use Prim.Native.Nat.{_-_}
+use mathlib.Core.Path.{ap, sym}
+use Prim.Native.Nat.{_-_, _*_, _≤_}
 use lib.ListN.{length}
 use lib.Seq.{length-take-le}
 use borrow.Author.Needs.{needs}
-use Rattle.words.proofs.AcceptedAlphabet.{alphabet-accepted}
+use Rattle.words.specs.Limits.{expressionMost}
 use Rattle.emitter.proofs.WritingLaws.{words-written-next}
+use Rattle.compiler.specs.Compiling.{wordStatesMost}
 use Rattle.compiler.proofs.KnownConstants.{constants-symbols}
-use Rattle.words.proofs.AcceptedExpression.{expression-passed}
-use Rattle.compiler.proofs.AcceptedRuleLaws.{constants-counted, length-take-most, states-few}
+use Rattle.compiler.proofs.AcceptedRuleLaws.{accepted-alphabet, accepted-expression, states-countable}
+use Rattle.compiler.proofs.AcceptedRuleLaws.{length-take-most, states-few}
 use Rattle.compiler.proofs.TablePartLaws.{word-last, table-written}
 use Rattle.compiler.proofs.table.write_parts.Statement.{statement}
 use Rattle.compiler.proofs.table.write_parts.Tie as tie
 
 sub-last : tie.Need-sub-last
 sub-last c =
-    let some = expression-passed _ _ (c .before .before .before .before .pre .accepted .expression) .some in
+    let some = accepted-expression _ _ (c .before .before .before .before .pre .accepted) .some in
     omega arith
 
 mul-w : tie.Need-mul-w
@@ -24,7 +25,7 @@ mul-w c = search needs
 
 shared-slice-read-w : tie.Need-shared-slice-read-w
 shared-slice-read-w c =
-    let some = expression-passed _ _ (c .before .before .before .before .before .pre .accepted .expression) .some in
+    let some = accepted-expression _ _ (c .before .before .before .before .before .pre .accepted) .some in
     omega arith
 
 slice-aggregate-states-after : tie.Need-slice-aggregate-states-after
@@ -36,32 +37,36 @@ states-after-requires : tie.Need-states-after-requires
 states-after-requires c κs =
     let p = c .before .before .before .before .before .before .pre in
     let l = c .before .before .before .before .before .before .args .expression .now in
-    let few = expression-passed _ _ (p .accepted .expression) .few in
+    let few = accepted-expression _ _ (p .accepted) .few in
     let t = length-take-most l (length l - 1) in
-    (constants-counted _ _ (p .accepted .alphabet) (p .constants), omega arith)
+    (states-countable _ _ (accepted-alphabet _ _ (p .accepted)) (ap length (p .constants)), omega arith)
 
 states-of-requires : tie.Need-states-of-requires
 states-of-requires c κs =
     let p = c .before .before .before .before .before .before .before .pre in
-    constants-counted _ _ (p .accepted .alphabet) (p .constants)
+    states-countable _ _ (accepted-alphabet _ _ (p .accepted)) (ap length (p .constants))
+
+-- the last word's exit is low
+exit-low : (c : tie.After-states-after) → c .states-after .result ≤ wordStatesMost * expressionMost
+exit-low c =
+    let start = c .before .before .before .before .before .before .before in
+    let l = start .args .expression .now in
+    states-few l (length l - 1) _ (accepted-expression _ _ (start .pre .accepted) .few) (c .states-after .ensures .1)
 
 add-states : tie.Need-add-states
 add-states c =
-    let e = expression-passed _ _ (c .before .before .before .before .before .before .before .before .pre .accepted .expression) in
-    let l = c .before .before .before .before .before .before .before .before .args .expression .now in
-    let x = states-few l (length l - 1) _ (e .few) (c .before .states-after .ensures .1) in
+    let x = exit-low (c .before) in
     let s = c .states-of .ensures .1 in
     omega arith
 
 word-port-requires : tie.Need-word-port-requires
 word-port-requires c κs =
-    let p = c .before .before .before .before .before .before .before .before .pre in
-    let e = expression-passed _ _ (c .before .before .before .before .before .before .before .before .pre .accepted .expression) in
-    let l = c .before .before .before .before .before .before .before .before .args .expression .now in
-    let x = states-few l (length l - 1) _ (e .few) (c .before .states-after .ensures .1) in
+    let start = c .before .before .before .before .before .before .before .before in
+    let e = accepted-expression _ _ (start .pre .accepted) in
+    let x = exit-low (c .before) in
     record {
-      symbols = alphabet-accepted _ (p .accepted .alphabet) .few;
-      word = word-last _ l (e .some) (e .words);
+      symbols = accepted-alphabet _ _ (start .pre .accepted) .few;
+      word = word-last _ (start .args .expression .now) (e .some) (e .words);
       low = omega arith;
     }
 
@@ -70,28 +75,19 @@ mul-push c = search needs
 
 mul-push-2 : tie.Need-mul-push-2
 mul-push-2 c =
-    let e = expression-passed _ _
-    (c .before .before .before .before .before .before .before .before .before .before .pre .accepted .expression) in
-    let l = c .before .before .before .before .before .before .before .before .before .before .args .expression .now in
-    let x = states-few l (length l - 1) _ (e .few) (c .before .before .before .states-after .ensures .1) in
+    let x = exit-low (c .before .before .before) in
     let s = c .before .before .states-of .ensures .1 in
     omega arith
 
 add-push : tie.Need-add-push
 add-push c =
-    let e = expression-passed _ _
-    (c .before .before .before .before .before .before .before .before .before .before .pre .accepted .expression) in
-    let l = c .before .before .before .before .before .before .before .before .before .before .args .expression .now in
-    let x = states-few l (length l - 1) _ (e .few) (c .before .before .before .states-after .ensures .1) in
+    let x = exit-low (c .before .before .before) in
     let s = c .before .before .states-of .ensures .1 in
     omega arith
 
 add-push-2 : tie.Need-add-push-2
 add-push-2 c =
-    let e = expression-passed _ _
-    (c .before .before .before .before .before .before .before .before .before .before .pre .accepted .expression) in
-    let l = c .before .before .before .before .before .before .before .before .before .before .args .expression .now in
-    let x = states-few l (length l - 1) _ (e .few) (c .before .before .before .states-after .ensures .1) in
+    let x = exit-low (c .before .before .before) in
     let s = c .before .before .states-of .ensures .1 in
     omega arith
 
@@ -101,7 +97,7 @@ push-requires c κs = search needs
 push-constants-requires : tie.Need-push-constants-requires
 push-constants-requires c κs =
     let p = c .before .before .before .before .before .before .before .before .before .before .before .before .before .before .pre in
-    let h = alphabet-accepted _ (p .accepted .alphabet) in
+    let h = accepted-alphabet _ _ (p .accepted) in
     let n = words-written-next _ _ _ _ _ _ (c .before .before .before .push .ensures) in
     record {
       few = rw (p .constants) (h .fewConstants);
@@ -116,7 +112,7 @@ write-words-requires c κs =
     .before .before .pre in
     let m = words-written-next _ _ _ _ _ _ (c .before .before .before .before .before .before .before .push .ensures) in
     let n = words-written-next _ _ _ _ _ _ (c .before .before .before .push-constants .ensures) in
-    record { accepted = p .accepted; constants = p .constants; early = omega arith }
+    record { accepted = p .accepted; constants = p .constants; fits = omega arith }
 
 same-length : tie.Need-same-length
 same-length c = search needs
@@ -129,7 +125,7 @@ returns c =
     let a =
     c .before .before .before .before .before .before .before .before .before .before .before .before .before .before .before .before
     .before .before .before .before .before .args in
-    let e = expression-passed _ _ (p .accepted .expression) in
+    let e = accepted-expression _ _ (p .accepted) in
     table-written (a .alphabet .now) (a .constants .now) (a .expression .now) (e .some) _ _ _ _ _ _ _ _ _ _ (p .constants)
     (c .before .before .before .before .before .before .before .before .before .before .before .before .before .before .states-after
     .ensures .0)

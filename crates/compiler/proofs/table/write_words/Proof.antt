@@ -1,12 +1,12 @@
 -- `compiler::table::write_words` meets its contract: before each turn the transitions of the first i words are written, and those of
 -- the words from i on follow from the next state and the stack.
-use Prim.Native.Nat.{_-_}
+use Prim.Native.Nat.{_-_, _<_}
 use mathlib.Core.Path.{refl, ap}
 use native.Mathlib.Omega.{arith}
 use lib.ListN.{length}
 use borrow.Author.Needs.{needs}
-use Rattle.words.proofs.AcceptedAlphabet.{alphabet-accepted}
-use Rattle.words.proofs.AcceptedExpression.{expression-passed}
+use Rattle.words.specs.Limits.{expressionMost}
+use Rattle.compiler.proofs.AcceptedRuleLaws.{accepted-alphabet, accepted-expression, states-countable}
 use Rattle.compiler.proofs.EmittedLaws.{Emitted, emitted-none, emitted-word, emitted-children, emitted-height}
 use Rattle.compiler.proofs.EmittedLaws.{emitted-emittable, emitted-own-emittable, emitted-more, emitted-end}
 use Rattle.compiler.proofs.table.write_words.Statement.{statement}
@@ -21,7 +21,7 @@ abbrev μ-loop : tie.MeasureT-loop
 
 loop-holds : tie.Need-loop-holds Inv-loop μ-loop
 loop-holds c =
-    let e = expression-passed _ _ (c .before .before .before .before .pre .accepted .expression) in
+    let e = accepted-expression _ _ (c .before .before .before .before .pre .accepted) in
     emitted-none _ _ _ _ _ _ (e .words) (e .shape) refl
 
 mul-w : tie.Need-mul-w Inv-loop μ-loop
@@ -36,11 +36,14 @@ arity-requires c κs = search needs
 sub-base : tie.Need-sub-base Inv-loop μ-loop
 sub-base c = emitted-children (c .before .before .before .loop .inv) _ (c .before .before .loop-test .taken) (c .arity .ensures)
 
+-- the stack has room for one port more
+height-low : (c : tie.After-arity Inv-loop μ-loop) → c .before .before .before .loop .height < expressionMost
+height-low c =
+    emitted-height (c .before .before .before .loop .inv) (c .before .before .loop-test .taken)
+    (accepted-expression _ _ (c .before .before .before .before .before .before .before .before .pre .accepted) .few)
+
 mul-push-own : tie.Need-mul-push-own Inv-loop μ-loop
-mul-push-own c =
-    let h = emitted-height (c .before .before .before .loop .inv) (c .before .before .loop-test .taken)
-    (c .before .before .before .before .before .before .before .before .pre .accepted .expression) in
-    omega arith
+mul-push-own c = let h = height-low c in omega arith
 
 sub-push-own : tie.Need-sub-push-own Inv-loop μ-loop
 sub-push-own c = omega arith
@@ -51,18 +54,17 @@ part-push-own-start c = omega arith
 part-push-own-end : tie.Need-part-push-own-end Inv-loop μ-loop
 part-push-own-end c =
     let stack-long = c .before .before .before .before .loop .inv .stack-long in
-    let h = emitted-height (c .before .before .before .before .loop .inv) (c .before .before .before .loop-test .taken)
-    (c .before .before .before .before .before .before .before .before .before .pre .accepted .expression) in
+    let h = height-low (c .before) in
     omega arith
 
 push-own-requires : tie.Need-push-own-requires Inv-loop μ-loop
 push-own-requires c κs =
     let p = c .before .before .before .before .before .before .before .before .before .before .before .pre in
     let m = c .before .before .before .before .before .before .loop .inv in
-    let e = expression-passed _ _ (p .accepted .expression) in
+    let e = accepted-expression _ _ (p .accepted) in
     let h = c .before .before .before .before .before .loop-test .taken in
     let r = c .before .before .before .arity .ensures in (
-      emitted-emittable m _ _ (p .constants) (alphabet-accepted _ (p .accepted .alphabet)) h (e .few) (p .early) r refl,
+      emitted-emittable m _ _ (p .constants) (accepted-alphabet _ _ (p .accepted)) h (e .few) (p .fits) r refl,
       emitted-own-emittable m _ _ (p .constants) h (e .few) r refl,
     )
 
@@ -71,42 +73,25 @@ word-port-requires c κs =
     let p = c .before .before .before .before .before .before .before .before .before .before .before .before .before .before .pre in
     let m = c .before .before .before .before .before .before .before .before .before .loop .inv in
     let h = c .before .before .before .before .before .before .before .before .loop-test .taken in
-    let e = expression-passed _ _ (p .accepted .expression) in
+    let e = accepted-expression _ _ (p .accepted) in
     let few = e .few in
     let low = m .low in
-    record { symbols = alphabet-accepted _ (p .accepted .alphabet) .few; word = emitted-word m h; low = omega arith }
+    record { symbols = accepted-alphabet _ _ (p .accepted) .few; word = emitted-word m h; low = omega arith }
 
 mul-stack : tie.Need-mul-stack Inv-loop μ-loop
-mul-stack c =
-    let h = emitted-height (c .before .before .before .before .before .before .before .before .before .before .loop .inv)
-    (c .before .before .before .before .before .before .before .before .before .loop-test .taken)
-    (c .before .before .before .before .before .before .before .before .before .before .before .before .before .before .before .pre
-    .accepted .expression) in
-    omega arith
+mul-stack c = let h = height-low (c .before .before .before .before .before .before .before) in omega arith
 
 array-write-stack : tie.Need-array-write-stack Inv-loop μ-loop
-array-write-stack c =
-    let h = emitted-height (c .before .before .before .before .before .before .before .before .before .before .loop .inv)
-    (c .before .before .before .before .before .before .before .before .before .loop-test .taken)
-    (c .before .before .before .before .before .before .before .before .before .before .before .before .before .before .before .pre
-    .accepted .expression) in
-    omega arith
+array-write-stack c = let h = height-low (c .before .before .before .before .before .before .before) in omega arith
 
 add-height : tie.Need-add-height Inv-loop μ-loop
-add-height c =
-    let h = emitted-height (c .before .before .before .before .before .before .before .before .before .before .loop .inv)
-    (c .before .before .before .before .before .before .before .before .before .loop-test .taken)
-    (c .before .before .before .before .before .before .before .before .before .before .before .before .before .before .before .pre
-    .accepted .expression) in
-    omega arith
+add-height c = let h = height-low (c .before .before .before .before .before .before .before) in omega arith
 
 states-of-requires : tie.Need-states-of-requires Inv-loop μ-loop
 states-of-requires c κs =
     let p =
     c .before .before .before .before .before .before .before .before .before .before .before .before .before .before .before .pre in
-    let l = ap length (p .constants) in
-    let few = alphabet-accepted _ (p .accepted .alphabet) .fewConstants in
-    record { constants = l; few = omega arith }
+    states-countable _ _ (accepted-alphabet _ _ (p .accepted)) (ap length (p .constants))
 
 add-state : tie.Need-add-state Inv-loop μ-loop
 add-state c =
@@ -115,7 +100,7 @@ add-state c =
     .before .pre in
     let low = c .before .before .before .before .before .before .before .before .before .before .before .loop .inv .low in
     let h = c .before .before .before .before .before .before .before .before .before .before .loop-test .taken in
-    let few = expression-passed _ _ (p .accepted .expression) .few in
+    let few = accepted-expression _ _ (p .accepted) .few in
     let s = c .states-of .ensures .1 in
     omega arith
 
@@ -131,7 +116,7 @@ loop-again c =
     c .before .before .before .before .before .before .before .before .before .before .before .before .before .before .before
     .before .pre in
     let m = c .before .before .before .before .before .before .before .before .before .before .before .loop .inv in
-    let e = expression-passed _ _ (p .accepted .expression) in
+    let e = accepted-expression _ _ (p .accepted) in
     emitted-more m _ _ _ _ _ _ (p .constants)
     (c .before .before .before .before .before .before .before .before .before .before .loop-test .taken) (e .few)
     (c .before .before .before .before .before .before .before .before .arity .ensures) refl
@@ -143,8 +128,8 @@ same-length c = c .before .loop .inv .long
 
 returns : tie.Need-returns Inv-loop μ-loop
 returns c =
-    emitted-end (c .before .loop .inv) (c .loop-test .left) (expression-passed _ _
-    (c .before .before .before .before .before .before .pre .accepted .expression) .few)
+    emitted-end (c .before .loop .inv) (c .loop-test .left) (accepted-expression _ _
+    (c .before .before .before .before .before .before .pre .accepted) .few)
 
 pub write-words-spec : {M : Type 1} → statement M
 write-words-spec =

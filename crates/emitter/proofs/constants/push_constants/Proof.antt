@@ -1,4 +1,4 @@
--- `emitter::constants::push_constants` meets its contract: the entries number says which of the laws applies.
+-- `emitter::constants::push_constants` meets its contract: the code says which of the laws applies.
 use borrow.Author.Needs.{needs}
 use Rattle.emitter.proofs.ConstantTransitionLaws.{port-every, port-none, port-own}
 use Rattle.emitter.proofs.constants.push_constants.Statement.{statement}

@@ -1,7 +1,7 @@
 -- `emitter::entries::push_closure_entry` meets its contract: at c the exit stands behind the children's entries.
 use Prim.Native.Nat.{_+_}
 use borrow.Author.Needs.{needs}
-use Rattle.emitter.proofs.EntryLaws.{closure-here, closure-other}
+use Rattle.emitter.proofs.TargetLaws.{closure-here, closure-other}
 use Rattle.emitter.proofs.entries.push_closure_entry.Statement.{statement}
 use Rattle.emitter.proofs.entries.push_closure_entry.Tie as tie
 
@@ -31,8 +31,9 @@ same-length c = search needs
 
 returns : tie.Need-returns
 returns c =
-    let a = c .before .before .before .before .before .before .before .before .before .before .before .before .before .args in
-    closure-here (a .constants .now) (a .ports .now) (a .exit + 1 + a .k) _ _ _ _ _ _ (a .exit) _ _
+    let start = c .before .before .before .before .before .before .before .before .before .before .before .before .before in
+    let a = start .args in
+    closure-here (a .constants .now) (a .ports .now) (a .exit + 1 + a .k) _ _ _ _ _ _ (start .pre .1 .1) (a .exit) _ _
     (c .before .before .before .before .if1 .taken)
     (c .before .before .before .before .before .before .before .before .push-to-children .ensures)
     (c .before .before .push-epsilon .ensures)
@@ -42,8 +43,9 @@ same-length-2 c = search needs
 
 returns-2 : tie.Need-returns-2
 returns-2 c =
-    let a = c .before .before .before .before .before .before .before .before .before .args in
-    closure-other (a .constants .now) (a .ports .now) (a .exit + 1 + a .k) _ _ _ _ _ _ (a .exit) (c .if1 .left)
+    let start = c .before .before .before .before .before .before .before .before .before in
+    let a = start .args in
+    closure-other (a .constants .now) (a .ports .now) (a .exit + 1 + a .k) _ _ _ _ _ _ (start .pre .1 .1) (a .exit) (c .if1 .left)
     (c .before .before .before .before .push-to-children .ensures)
 
 pub push-closure-entry-spec : {M : Type 1} → statement M

@@ -1,6 +1,5 @@
 -- `emitter::entries::push_entries` meets its contract: before each turn the transitions for the first k constants are written.
 use Prim.Native.Nat.{_-_}
-use native.Mathlib.Omega.{arith}
 use lib.ListN.{length}
 use borrow.Author.Needs.{needs}
 use Rattle.emitter.specs.Emission.{targetsIn}
@@ -41,8 +40,7 @@ loop-less c = search needs
 
 loop-again : tie.Need-loop-again Inv-loop μ-loop
 loop-again c =
-    entriesWritten-more (c .before .before .before .before .before .loop .inv) 5 _ _ (c .before .before .before .before .loop-test .taken)
-    (omega arith)
+    entriesWritten-more (c .before .before .before .before .before .loop .inv) _ _ (c .before .before .before .before .loop-test .taken)
     (c .before .before .push-entry .kept .1 .1 .0) (c .before .before .push-entry .ensures)
 
 same-length : tie.Need-same-length Inv-loop μ-loop

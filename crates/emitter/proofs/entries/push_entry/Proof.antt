@@ -1,7 +1,10 @@
 -- `emitter::entries::push_entry` meets its contract: the writer of each case leaves what is said of it.
 use Prim.Native.Nat.{_+_}
+use native.Mathlib.Omega.{arith}
 use borrow.Author.Needs.{needs}
-use Rattle.emitter.proofs.EntryLaws.{targets-children, targets-product, targets-closure}
+use Rattle.words.specs.Limits.{rankMost}
+use Rattle.emitter.specs.Emission.{entryWordsMost}
+use Rattle.emitter.proofs.TargetLaws.{targetable-said, targets-said}
 use Rattle.emitter.proofs.entries.push_entry.Statement.{statement}
 use Rattle.emitter.proofs.entries.push_entry.Tie as tie
 
@@ -15,13 +18,17 @@ enum-known-targets : tie.Need-enum-known-targets
 enum-known-targets c = search needs
 
 push-product-entry-requires : tie.Need-push-product-entry-requires
-push-product-entry-requires c κs = search needs
+push-product-entry-requires c κs =
+    let p = c .before .before .before .before .before .before .before .pre in
+    (p .0, (p .1 .0, targetable-said _ _ _ (c .before .before .targets .given .1) (p .1 .1)))
 
 enum-known-targets-2 : tie.Need-enum-known-targets-2
 enum-known-targets-2 c = search needs
 
 push-closure-entry-requires : tie.Need-push-closure-entry-requires
-push-closure-entry-requires c κs = search needs
+push-closure-entry-requires c κs =
+    let p = c .before .before .before .before .before .before .before .pre in
+    (p .0, (p .1 .0, targetable-said _ _ _ (c .before .before .targets2 .given .1) (p .1 .1)))
 
 same-length : tie.Need-same-length
 same-length c = search needs
@@ -29,7 +36,7 @@ same-length c = search needs
 returns : tie.Need-returns
 returns c =
     let a = c .before .before .before .before .before .before .before .before .before .args in
-    targets-children (a .constants .now) (a .ports .now) (a .exit) (a .exit + 1 + a .k) _ _ _ _ _ _
+    targets-said (a .constants .now) (a .ports .now) (a .exit) (a .exit + 1 + a .k) _ _ _ _ _ _ _ rankMost (omega arith)
     (c .before .before .before .before .enum-told .given .1)
     (c .before .before .push-to-children .ensures)
 
@@ -39,7 +46,7 @@ same-length-2 c = search needs
 returns-2 : tie.Need-returns-2
 returns-2 c =
     let a = c .before .before .before .before .before .before .before .before .before .before .args in
-    targets-product (a .constants .now) (a .ports .now) (a .exit) (a .exit + 1 + a .k) _ _ _ _ _ _ _
+    targets-said (a .constants .now) (a .ports .now) (a .exit) (a .exit + 1 + a .k) _ _ _ _ _ _ _ entryWordsMost (omega arith)
     (c .before .before .before .before .before .targets .given .1)
     (c .before .before .push-product-entry .ensures)
 
@@ -49,7 +56,7 @@ same-length-3 c = search needs
 returns-3 : tie.Need-returns-3
 returns-3 c =
     let a = c .before .before .before .before .before .before .before .before .before .before .args in
-    targets-closure (a .constants .now) (a .ports .now) (a .exit) (a .exit + 1 + a .k) _ _ _ _ _ _ _
+    targets-said (a .constants .now) (a .ports .now) (a .exit) (a .exit + 1 + a .k) _ _ _ _ _ _ _ entryWordsMost (omega arith)
     (c .before .before .before .before .before .targets2 .given .1)
     (c .before .before .push-closure-entry .ensures)
 

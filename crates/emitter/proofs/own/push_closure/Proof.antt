@@ -38,12 +38,11 @@ push-epsilon-requires c κs = search needs
 push-entries-requires : tie.Need-push-entries-requires
 push-entries-requires c κs =
     let p = c .before .before .before .before .before .before .before .before .before .before .before .before .before .before .before
-    .before .before .before .before .pre in
-    let one = p .1 .0 in (
+    .before .before .before .before .pre in (
       emittable-later _ _ _ _ _ (p .0) (let m = words-written-next _ _ _ _ _ _
           (c .before .before .before .before .before .before .before .before .before .push-to .ensures) in
           let n = words-written-next _ _ _ _ _ _ (c .before .before .before .push-epsilon .ensures) in omega arith),
-      omega arith,
+      p .1 .0,
     )
 
 same-length : tie.Need-same-length
@@ -53,12 +52,10 @@ returns : tie.Need-returns
 returns c =
     let a = c .before .before .before .before .before .before .before .before .before .before .before .before .before .before .before
     .before .before .before .before .before .before .before .args in
-    let p = c .before .before .before .before .before .before .before .before .before .before .before .before .before .before .before
-    .before .before .before .before .before .before .before .pre in
     let x =
     c .before .before .before .before .before .before .before .before .before .before .before .before .before .exit-of .ensures .0 in
     let y = c .before .before .before .before .before .before .before .exit-of2 .ensures .0 in
-    closure-own (a .constants .now) (a .ports .now) _ _ _ _ _ _ _ _ _ _ _ (p .1 .0) x
+    closure-own (a .constants .now) (a .ports .now) _ _ _ _ _ _ _ _ _ _ _ x
     (to-entry (a .constants .now) (getD (a .ports .now) 0 0) _ (a .c) _ _ _ _ _ _
     (c .before .before .before .before .before .before .before .before .before .before .before .before .before .before .before
     .before .entry-at .ensures)

@@ -44,13 +44,12 @@ push-to-requires c κs =
 push-entries-requires : tie.Need-push-entries-requires
 push-entries-requires c κs =
     let p = c .before .before .before .before .before .before .before .before .before .before .before .before .before .before .before
-    .before .before .before .before .pre in
-    let two = p .1 .0 in (
+    .before .before .before .before .pre in (
       emittable-later _ _ _ _ _ (p .0) (let m = words-written-next _ _ _ _ _ _
           (c .before .before .before .before .before .before .before .before .before .push-epsilon .ensures) in
           let n = words-written-next _ _ _ _ _ _
           (c .before .before .before .push-to .ensures) in omega arith),
-      omega arith,
+      p .1 .0,
     )
 
 same-length : tie.Need-same-length
@@ -60,9 +59,7 @@ returns : tie.Need-returns
 returns c =
     let a = c .before .before .before .before .before .before .before .before .before .before .before .before .before .before .before
     .before .before .before .before .before .before .before .args in
-    let p = c .before .before .before .before .before .before .before .before .before .before .before .before .before .before .before
-    .before .before .before .before .before .before .before .pre in
-    product-own (a .constants .now) (a .ports .now) _ _ _ _ _ _ _ _ _ _ _ _ (p .1 .0)
+    product-own (a .constants .now) (a .ports .now) _ _ _ _ _ _ _ _ _ _ _ _
     (c .before .before .before .before .before .before .before .before .before .before .before .before .before .exit-of .ensures .0)
     (c .before .before .before .before .before .before .before .exit-of2 .ensures .0)
     (c .before .before .before .before .before .before .before .before .before .before .before .before .push-epsilon .ensures)

@@ -18,7 +18,7 @@ push-entries-requires c κs =
       emittable-later _ _ _ _ _ (p .0) (let m = words-written-next _ _ _ _ _ _
           (c .before .before .before .before .before .before .before .push-transition .ensures) in
           let n = words-written-next _ _ _ _ _ _ (c .before .before .before .push-sources .ensures) in omega arith),
-      p .1 .1,
+      tt,
     )
 
 same-length : tie.Need-same-length

@@ -26,7 +26,7 @@ push-entries-requires c κs =
     let p = c .before .before .before .before .before .before .before .before .before .before .before .before .pre in (
       emittable-later _ _ _ _ _ (p .0)
           (let n = words-written-next _ _ _ _ _ _ (c .before .before .before .push-both .ensures) in omega arith),
-      omega (arith, p .1),
+      tt,
     )
 
 same-length : tie.Need-same-length

@@ -1,4 +1,4 @@
--- `ports::port::entry_at` meets its contract: the entries number says which of the laws applies.
+-- `ports::port::entry_at` meets its contract: the code says which of the laws applies.
 use borrow.Author.Needs.{needs}
 use Rattle.ports.proofs.PortLaws.{entry-every, entry-none, entry-own, entry-other}
 use Rattle.ports.proofs.port.entry_at.Statement.{statement}
