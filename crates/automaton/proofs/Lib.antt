@@ -1,6 +1,7 @@
 pub mod CompiledExample
 pub mod BitLaws
 pub mod KeepLaws
+pub mod EntryStates
 pub mod PortStates
 pub mod OwnTransitions
 pub mod PortReading

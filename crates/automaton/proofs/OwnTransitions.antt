@@ -1,23 +1,22 @@
 -- The own transitions of an expression word, by its kind, with what holds of its states: a view to branch on.
 use Prim.Native.Nat.{ℕ, suc, _+_, _<_, _≤_}
-use mathlib.Core.Path.{_≡_, ap, _∙_, sym}
+use mathlib.Core.Path.{_≡_, _∙_, sym}
 use mathlib.Core.Bool.{Bool, true, false, cond}
 use mathlib.Core.List.{List, [], _∷_}
 use native.Mathlib.Omega.{arith}
 use native.Mathlib.Nat.{suc-add, add-suc}
 use native.Mathlib.Numerals.{add-one}
 use lib.ListN.{length}
-use borrow.Author.Tests.{ne-eqb}
-use Rattle.words.specs.Word.{Kind, symbolKind, unionKind, productKind, closureKind, kindNumber, kindOf, hasKind, lowByte}
+use Rattle.words.specs.Word.{symbolKind, unionKind, productKind, closureKind, hasKind, lowByte}
 use Rattle.words.specs.Alphabet.{constantsOf, rankOf}
 use Rattle.words.specs.Postfix.{arity}
 use Rattle.words.specs.ExpressionWords.{isExpressionWord}
-use Rattle.words.proofs.KindLaws.{kindOf-hasKind, kindOf-hasNot}
 use Rattle.words.proofs.Ascending.{Ascending}
 use Rattle.words.proofs.ExpressionWordLaws.{ExpressionWord, symbolWord, emptyWord, unionWord, productWord, closureWord, expressionWord}
 use Rattle.automaton.specs.Transition.{Transition}
 use Rattle.automaton.specs.Numbering.{Port, hasEntries, statesOf, portOf, symbolTransitions, unionTransitions}
-use Rattle.automaton.specs.Numbering.{productTransitions, closureTransitions, childPort, ownTransitions}
+use Rattle.automaton.specs.Numbering.{productTransitions, closureTransitions, ownTransitions}
+use Rattle.automaton.proofs.EntryStates.{entries-some, entries-none, port-full, port-leaf, states-full, states-leaf, own-kind}
 use Rattle.automaton.proofs.PortStates.{constantsIn, statesIn, numbered-constants, numbered-states, length-numbered}
 
 -- a constant or the empty language, with all its states below hi
@@ -40,34 +39,6 @@ pub data Own (a : List ℕ) (hi w : ℕ) (E : Port) : List Port → List Transit
   ofProduct : {F G : Port} → Inner a hi E → Own a hi w E (F ∷ G ∷ []) (productTransitions (lowByte w) E F G)
   ofClosure : {F : Port} → Inner a hi E → Own a hi w E (F ∷ []) (closureTransitions (lowByte w) E F)
 
--- the choice among the kinds
-module _ (w : ℕ) where
-  is : (k : Kind) → (kindNumber k ≡ 0 → ⊥) → kindOf w ≡ k → hasKind k w ≡ true
-  is k d e = kindOf-hasKind k w (λ z. d (ap kindNumber z)) e
-
-  isNot : (k j : Kind) → (kindNumber j ≡ kindNumber k → ⊥) → kindOf w ≡ j → hasKind k w ≡ false
-  isNot k j d e = kindOf-hasNot k w j e (λ z. d (ap kindNumber z))
-
-  module _ (E P : Port) (Ps : List Port) where
-    own-symbol : kindOf w ≡ symbolKind → ownTransitions w E (P ∷ Ps) ≡ symbolTransitions (lowByte w) E (P ∷ Ps)
-    unfolding ownTransitions
-    own-symbol e = rw (is symbolKind (omega arith) e)
-
-    own-union : kindOf w ≡ unionKind → ownTransitions w E (P ∷ Ps) ≡ unionTransitions E P (childPort Ps 0)
-    unfolding ownTransitions
-    own-union e = rw (isNot symbolKind unionKind (omega arith) e, is unionKind (omega arith) e)
-
-    own-product : kindOf w ≡ productKind → ownTransitions w E (P ∷ Ps) ≡ productTransitions (lowByte w) E P (childPort Ps 0)
-    unfolding ownTransitions
-    own-product e =
-        rw (isNot symbolKind productKind (omega arith) e, isNot unionKind productKind (omega arith) e, is productKind (omega arith) e)
-
-    own-closure : kindOf w ≡ closureKind → ownTransitions w E (P ∷ Ps) ≡ closureTransitions (lowByte w) E P
-    unfolding ownTransitions
-    own-closure e =
-        rw (isNot symbolKind closureKind (omega arith) e, isNot unionKind closureKind (omega arith) e)
-        (rw (isNot productKind closureKind (omega arith) e, is closureKind (omega arith) e))
-
 module _ (a : List ℕ) (n w : ℕ) where
   abbrev hi : ℕ
   hi = n + statesOf a w
@@ -76,17 +47,15 @@ module _ (a : List ℕ) (n w : ℕ) where
   E = portOf a n w
 
   leaf-of : hasEntries a w ≡ false → Leaf hi E
-  unfolding portOf statesOf
-  leaf-of h = rw h (record { states = add-one n; entries = one (hasKind symbolKind w) })
+  leaf-of h = rw (port-leaf a w n h, states-leaf a w h) (record { states = add-one n; entries = one (hasKind symbolKind w) })
     where
       one : (b : Bool) → length (cond {A = List (ℕ × ℕ)} b ((lowByte w, n) ∷ []) []) ≤ 1
       one true = omega arith
       one false = omega arith
 
   inner : hasEntries a w ≡ true → Inner a hi E
-  unfolding portOf statesOf
   inner h =
-      rw h
+      rw (port-full a w n h, states-full a w h)
       (record {
         constants = numbered-constants (constantsOf a) (suc n);
         states = rw (suc-add, ← add-suc) at (numbered-states (constantsOf a) (suc n));
@@ -94,21 +63,21 @@ module _ (a : List ℕ) (n w : ℕ) where
       })
 
   pub own : (Ps : List Port) → isExpressionWord a w ≡ true → length Ps ≡ arity a w → Own a hi w E Ps (ownTransitions w E Ps)
-  unfolding ownTransitions hasEntries
-  own [] h r = leaf (leaf-of (rw (sym r)))
+  unfolding ownTransitions
+  own [] h r = leaf (leaf-of (entries-none a w (sym r)))
   own (P ∷ Ps) h r = go Ps r (expressionWord a w h)
     where
       i : Inner a hi E
-      i = inner (rw (ne-eqb (arity a w) 0 (omega arith)))
+      i = inner (entries-some a w (length Ps) (sym r))
 
       go : (Ps : List Port) → length (P ∷ Ps) ≡ arity a w → ExpressionWord a w → Own a hi w E (P ∷ Ps) (ownTransitions w E (P ∷ Ps))
-      go Ps r (symbolWord e l q) = rw (own-symbol w E P Ps e) (ofSymbol i l (sym q ∙ sym r))
+      go Ps r (symbolWord e l q) = rw (own-kind w symbolKind E P Ps e) (ofSymbol i l (sym q ∙ sym r))
       go Ps r (emptyWord e q) = absurd (omega arith)
       go [] r (unionWord e q) = absurd (omega arith)
-      go (G ∷ []) r (unionWord e q) = rw (own-union w E P (G ∷ []) e) (ofUnion i)
+      go (G ∷ []) r (unionWord e q) = rw (own-kind w unionKind E P (G ∷ []) e) (ofUnion i)
       go (G ∷ Q ∷ Ps) r (unionWord e q) = absurd (omega arith)
       go [] r (productWord e c q) = absurd (omega arith)
-      go (G ∷ []) r (productWord e c q) = rw (own-product w E P (G ∷ []) e) (ofProduct i)
+      go (G ∷ []) r (productWord e c q) = rw (own-kind w productKind E P (G ∷ []) e) (ofProduct i)
       go (G ∷ Q ∷ Ps) r (productWord e c q) = absurd (omega arith)
-      go [] r (closureWord e c q) = rw (own-closure w E P [] e) (ofClosure i)
+      go [] r (closureWord e c q) = rw (own-kind w closureKind E P [] e) (ofClosure i)
       go (Q ∷ Ps) r (closureWord e c q) = absurd (omega arith)

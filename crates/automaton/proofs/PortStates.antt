@@ -7,8 +7,7 @@ use mathlib.Core.List.{List, [], _∷_, map, reverseAux}
 use native.Mathlib.Omega.{arith}
 use native.Mathlib.Nat.{le-refl, le-trans, suc-add, add-suc}
 use lib.ListN.{length, take, drop}
-use lib.Dec.{eqb}
-use borrow.Author.Tests.{eqb-true, ltb-true, not-false}
+use borrow.Author.Tests.{ltb-true}
 use Rattle.words.specs.Word.{symbolKind, hasKind, lowByte}
 use Rattle.words.specs.Alphabet.{constantsOf, isConstant}
 use Rattle.words.specs.Postfix.{arity}
@@ -18,7 +17,9 @@ use Rattle.words.proofs.AlphabetLaws.{isConstant-zero, zero-isConstant}
 use Rattle.words.proofs.ConstantLaws.{constants-ascending}
 use Rattle.words.proofs.WordLaws.{arity-kind, isExpressionWord-facts}
 use Rattle.words.proofs.KindLaws.{hasKind-kindOf}
-use Rattle.automaton.specs.Numbering.{Port, numbered, hasEntries, statesOf, ownEntry, portOf}
+use Rattle.words.proofs.TestLaws.{Tested, holds, fails, tested}
+use Rattle.automaton.specs.Numbering.{Port, numbered, hasEntries, statesOf, fullPort, portOf}
+use Rattle.automaton.proofs.EntryStates.{none-taken, port-full, port-leaf, states-full, states-leaf}
 
 -- the constants and the states of a word's entries
 abbrev pub constantsIn : List (ℕ × ℕ) → List ℕ
@@ -56,12 +57,7 @@ numbered-states [] n = let h : n ≤ n + 0 = omega arith in end h
 numbered-states (c ∷ cs) n = next (le-refl n) (rw (suc-add, ← add-suc) at (numbered-states cs (suc n)))
 
 module _ (a : List ℕ) (n w : ℕ) where
-  -- a word with children has an entry for each constant
-  pub hasEntries-arity : hasEntries a w ≡ false → arity a w ≡ 0
-  unfolding hasEntries
-  hasEntries-arity h = eqb-true (arity a w) 0 (not-false (eqb (arity a w) 0) h)
-
-  every-in : PortIn a n (n + suc (length (constantsOf a))) (record { exit = n; entries = numbered (suc n) (constantsOf a) })
+  every-in : PortIn a n (n + suc (length (constantsOf a))) (fullPort (constantsOf a) n)
   every-in =
       record {
         from = le-refl n;
@@ -95,14 +91,11 @@ module _ (a : List ℕ) (n w : ℕ) where
       zero-isConstant a (lowByte w) known (sym (arity-kind a w symbolKind e) ∙ z)
 
   pub portOf-in : isExpressionWord a w ≡ true → PortIn a n (n + statesOf a w) (portOf a n w)
-  unfolding portOf statesOf
-  portOf-in h = go (hasEntries a w) refl
+  portOf-in h = go (tested (hasEntries a w))
     where
-      go : (b : Bool) → hasEntries a w ≡ b
-          → PortIn a n (n + suc (cond b (length (constantsOf a)) 0))
-          (record { exit = n; entries = cond b (numbered (suc n) (constantsOf a)) (ownEntry n w) })
-      go true e = every-in
-      go false e = own-in (hasKind symbolKind w) (own-constant h (hasEntries-arity e))
+      go : Tested (hasEntries a w) → PortIn a n (n + statesOf a w) (portOf a n w)
+      go (holds e) = rw (port-full a w n e, states-full a w e) every-in
+      go (fails e) = rw (port-leaf a w n e, states-leaf a w e) (own-in (hasKind symbolKind w) (own-constant h (none-taken a w e)))
 
 pub portIn-from : {a : List ℕ} {lo lo′ hi : ℕ} {P : Port} → lo′ ≤ lo → PortIn a lo hi P → PortIn a lo′ hi P
 portIn-from l p =

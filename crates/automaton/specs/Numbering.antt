@@ -5,7 +5,8 @@ use mathlib.Core.List.{List, [], _∷_, _++_, map, flatMap, reverse}
 use mathlib.Core.Bool.{Bool, not, cond}
 use lib.ListN.{length, getD, take, drop}
 use lib.Dec.{eqb}
-use Rattle.words.specs.Word.{symbolKind, unionKind, productKind, closureKind, hasKind, lowByte}
+use Rattle.words.specs.Word.{Kind, entryKind, symbolKind, emptyKind, unionKind, productKind, closureKind, nodeKind}
+use Rattle.words.specs.Word.{headKind, transitionKind, epsilonKind, sourceKind, noKind, kindOf, hasKind, lowByte}
 use Rattle.words.specs.Alphabet.{constantsOf}
 use Rattle.words.specs.Postfix.{arity}
 use Rattle.automaton.specs.Transition.{Transition, Automaton, onSymbol, epsilon}
@@ -97,15 +98,25 @@ closureTransitions c E F =
 abbrev pub childPort : List Port → ℕ → Port
 childPort Ps i = getD Ps i (record { exit = 0; entries = [] })
 
+-- the own transitions of a word of a kind, with its symbol, over its children P, ..
+abbrev pub ownAt : Kind → ℕ → Port → Port → List Port → List Transition
+ownAt symbolKind s E P Ps = symbolTransitions s E (P ∷ Ps)
+ownAt unionKind s E P Ps = unionTransitions E P (childPort Ps 0)
+ownAt productKind s E P Ps = productTransitions s E P (childPort Ps 0)
+ownAt closureKind s E P Ps = closureTransitions s E P
+ownAt emptyKind s E P Ps = []
+ownAt nodeKind s E P Ps = []
+ownAt entryKind s E P Ps = []
+ownAt headKind s E P Ps = []
+ownAt transitionKind s E P Ps = []
+ownAt epsilonKind s E P Ps = []
+ownAt sourceKind s E P Ps = []
+ownAt noKind s E P Ps = []
+
 -- the own transitions of word w; a constant and the empty language have none
 unfoldable pub ownTransitions : ℕ → Port → List Port → List Transition
 ownTransitions w E [] = []
-ownTransitions w E (P ∷ Ps) =
-    cond (hasKind symbolKind w) (symbolTransitions (lowByte w) E (P ∷ Ps))
-    (cond (hasKind unionKind w) (unionTransitions E P (childPort Ps 0))
-    (cond (hasKind productKind w) (productTransitions (lowByte w) E P (childPort Ps 0))
-    (cond (hasKind closureKind w) (closureTransitions (lowByte w) E P)
-    [])))
+ownTransitions w E (P ∷ Ps) = ownAt (kindOf w) (lowByte w) E P Ps
 
 -- "Rule words in order get consecutive states from 0": the states of the words, from state n on
 unfoldable pub portsFrom : List ℕ → ℕ → List ℕ → List Port
