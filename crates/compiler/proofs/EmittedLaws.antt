@@ -29,7 +29,7 @@ use Rattle.emitter.specs.Writing.{WordsWritten, lastIndex}
 use Rattle.emitter.specs.Emission.{ownWordsMost, Emittable, OwnEmittable}
 use Rattle.emitter.proofs.WritingLaws.{words-written-none, words-written-more, words-written-same, words-written-next}
 use Rattle.compiler.specs.Compiling.{wordStatesMost, allOwnWordsMost}
-use Rattle.compiler.proofs.StateLaws.{portOf-full}
+use Rattle.automaton.proofs.EntryStates.{entries-some, port-full}
 use Rattle.compiler.proofs.KnownConstants.{constants-once, word-emittable}
 
 -- ---- a stack of ports in an array
@@ -61,7 +61,7 @@ module _ (a cs : List ℕ) (known : cs ≡ constantsOf a) where
   own-full n w [] r = refl
   own-full n w (p ∷ ps) r =
       ap (λ (E : Port). ownTransitions w E (portsIn cs (p ∷ ps)))
-      (portOf-full a n w (λ z. omega arith) ∙ ap (λ (ds : List ℕ). fullPort ds n) (sym known))
+      (port-full a w n (entries-some a w (length ps) (sym r)) ∙ ap (λ (ds : List ℕ). fullPort ds n) (sym known))
 
   pub transitions-more : (n w : ℕ) (ws f k : List ℕ) (p : ℕ) → length k ≡ arity a w → portIn cs p ≡ portOf a n w
       → transitionsFrom a n (w ∷ ws) (stackIn cs (f ++ k))

@@ -1,6 +1,6 @@
 -- What the emitter asks of the constants holds of an accepted alphabet's: each stands once, and the c of a rule word is one
 -- of them.
-use mathlib.Core.Path.{_≡_, refl, ap, _∙_, sym}
+use mathlib.Core.Path.{_≡_, refl, _∙_, sym}
 use mathlib.Core.Bool.{true}
 use mathlib.Core.List.{List, [], _∷_, List·Memᴰ, List·Memᴰ·head, List·Memᴰ·tail}
 use Prim.Native.Nat.{ℕ, zero, suc, _<_, _≤_}
@@ -9,12 +9,11 @@ use native.Mathlib.Nat.{add-zero, add-suc, suc-add, le-refl}
 use lib.ListN.{length, getD}
 use borrow.Author.Tests.{eq-eqb, ne-eqb}
 use Rattle.words.specs.Limits.{alphabetMost}
-use Rattle.words.specs.Word.{Kind, unionKind, productKind, closureKind, kindAt, kindNumber, kindOf, numberOf, lowByte, symbolRange}
+use Rattle.words.specs.Word.{unionKind, productKind, closureKind, lowByte, symbolRange}
 use Rattle.words.specs.Alphabet.{isConstant, constantsOf}
 use Rattle.words.specs.Postfix.{arity}
 use Rattle.words.specs.ExpressionWords.{isExpressionWord}
-use Rattle.words.proofs.KindLaws.{kindAt-number}
-use Rattle.words.proofs.Ascending.{Ascending, end, next}
+use Rattle.words.proofs.Ascending.{Ascending, end, next, ascending-le}
 use Rattle.words.proofs.AlphabetLaws.{constantsOf-isConstant}
 use Rattle.words.proofs.ConstantLaws.{constants-ascending}
 use Rattle.words.proofs.WordLaws.{arity-kind, isExpressionWord-facts}
@@ -31,11 +30,7 @@ lookup-behind n c h (next {x = x} l s) = rw (ne-eqb x c (λ e. omega arith)) (lo
 -- the member at an index lies in the range
 pub ascending-at : {lo hi : ℕ} {cs : List ℕ} (k : ℕ) → k < length cs → Ascending lo hi cs → (lo ≤ getD cs k 0) × (getD cs k 0 < hi)
 ascending-at k h (end l) = absurd (omega arith)
-ascending-at zero h (next {x = x} {xs = xs} l s) = (l, below s)
-  where
-    below : {lo′ hi : ℕ} {ys : List ℕ} → Ascending lo′ hi ys → lo′ ≤ hi
-    below (end q) = q
-    below (next q r) = let z = below r in omega arith
+ascending-at zero h (next {x = x} {xs = xs} l s) = (l, ascending-le s)
 ascending-at (suc k) h (next {x = x} {xs = xs} l s) = let p = ascending-at k (omega arith) s in (omega (arith, p .0), p .1)
 
 pub ascending-once : {lo hi : ℕ} {cs : List ℕ} → Ascending lo hi cs → EachOnce cs
@@ -68,14 +63,13 @@ module _ (a cs : List ℕ) (known : cs ≡ constantsOf a) where
   pub word-emittable : (ps : List ℕ) (w : ℕ) → isExpressionWord a w ≡ true → length ps ≡ arity a w → OwnEmittable cs ps w
   word-emittable ps w h r =
       record {
-        union = λ e. r ∙ arity-kind a w unionKind (told unionKind e);
-        product =
-            λ e. let t = told productKind e in
-            (r ∙ arity-kind a w productKind t, constant-listed (lowByte w) (isExpressionWord-facts a w productKind t h .names));
-        closure =
-            λ e. let t = told closureKind e in
-            (r ∙ arity-kind a w closureKind t, constant-listed (lowByte w) (isExpressionWord-facts a w closureKind t h .names));
+        union = λ t. r ∙ arity-kind a w unionKind t;
+        product = λ t. (
+          r ∙ arity-kind a w productKind t,
+          constant-listed (lowByte w) (isExpressionWord-facts a w productKind t h .names),
+        );
+        closure = λ t. (
+          r ∙ arity-kind a w closureKind t,
+          constant-listed (lowByte w) (isExpressionWord-facts a w closureKind t h .names),
+        );
       }
-    where
-      told : (k : Kind) → numberOf w ≡ kindNumber k → kindOf w ≡ k
-      told k e = ap kindAt e ∙ kindAt-number k

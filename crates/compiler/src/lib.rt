@@ -1,6 +1,7 @@
 // Compile: turns an alphabet and a rule into the table of the numbered Thompson tree automaton, or refuses.
 ghost use mathlib.Core.Path.{_≡_};
-ghost use Rattle.operations.specs.Compile.{compileFault, compileAnswer, compileExit};
+ghost use Rattle.words.specs.Refusal.{refusal};
+ghost use Rattle.operations.specs.Compile.{ruleRefusals, compileFault, compileAnswer, compileExit};
 ghost use Rattle.compiler.specs.CompileAnswer.{answerInCompiled};
 use alphabet::alphabet_fault;
 use alphabet::count_constants;
@@ -18,10 +19,9 @@ pub enum Compiled {
     Refused(u32),
 }
 
-// Document 01's number from 1 to 7, the first that applies, or 0, for a table slice of this length. The table's
-// words are counted by writing them into a slice of one word; those past its end are left out.
-fn compile_fault(alphabet: &[u32], expression: &[u32], table_length: usize) -> u32
-    ensures { λ r. ⌜ r ≡ compileFault (now (alphabet .entry)) (now (expression .entry)) «table_length» ⌝ }
+// Of an alphabet and a rule: the first number that applies, or 0.
+fn rule_fault(alphabet: &[u32], expression: &[u32]) -> u32
+    ensures { λ r. ⌜ r ≡ refusal (ruleRefusals (now (alphabet .entry)) (now (expression .entry))) ⌝ }
 {
     let wrong_alphabet = alphabet_fault(alphabet);
     if wrong_alphabet != 0 {
@@ -35,6 +35,18 @@ fn compile_fault(alphabet: &[u32], expression: &[u32], table_length: usize) -> u
     let states = states_after(alphabet, count, expression);
     if states > STATES_MOST as u32 {
         return 6;
+    }
+    0
+}
+
+// Document 01's number of the first refusal that applies, or 0, for a table slice of this length. The table's words are counted by
+// writing them into a slice of one word; those past its end are left out.
+fn compile_fault(alphabet: &[u32], expression: &[u32], table_length: usize) -> u32
+    ensures { λ r. ⌜ r ≡ compileFault (now (alphabet .entry)) (now (expression .entry)) «table_length» ⌝ }
+{
+    let fault = rule_fault(alphabet, expression);
+    if fault != 0 {
+        return fault;
     }
     let mut small = [0u32; 1];
     let size = write_table(alphabet, expression, &mut small);

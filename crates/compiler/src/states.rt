@@ -4,7 +4,7 @@ ghost use Prim.Native.Nat.{_*_, _≤_};
 ghost use lib.ListN.{length};
 ghost use Rattle.words.specs.Limits.{expressionMost};
 ghost use Rattle.words.specs.Alphabet.{constantsOf};
-ghost use Rattle.automaton.specs.Numbering.{statesOf, statesAfter, portOf};
+ghost use Rattle.automaton.specs.Numbering.{hasEntries, statesOf, statesAfter, portOf};
 ghost use Rattle.ports.specs.Ports.{portIn};
 ghost use Rattle.compiler.specs.Compiling.{wordStatesMost, StatesCountable, PortMakeable};
 use ports::port::EVERY_ENTRY;
@@ -15,15 +15,22 @@ use words::word::Kind;
 use words::word::SYMBOL_RANGE;
 use words::word::kind_of;
 
+// Whether a word has an entry for each constant.
+fn has_entries(alphabet: &[u32], w: u32) -> bool
+    ensures { λ r. ⌜ r ≡ hasEntries (now (alphabet .entry)) w ⌝ }
+{
+    arity(alphabet, w) != 0
+}
+
 // How many states a word has, where `count` is the number of constants.
 pub(crate) fn states_of(alphabet: &[u32], count: usize, w: u32) -> u32
     requires { ⌜ StatesCountable (now alphabet) count ⌝ }
     ensures { λ r. ⌜ (r ≡ statesOf (now (alphabet .entry)) w) × (r ≤ wordStatesMost) ⌝ }
 {
-    if arity(alphabet, w) == 0 {
-        return 1;
+    if has_entries(alphabet, w) {
+        return count as u32 + 1;
     }
-    count as u32 + 1
+    1
 }
 
 // The first state behind those of the words.
@@ -49,7 +56,7 @@ pub(crate) fn word_port(alphabet: &[u32], exit: u32, w: u32) -> u32
     requires { ⌜ PortMakeable (now alphabet) exit w ⌝ }
     ensures { λ r. ⌜ portIn (constantsOf (now (alphabet .entry))) r ≡ portOf (now (alphabet .entry)) exit w ⌝ }
 {
-    if arity(alphabet, w) != 0 {
+    if has_entries(alphabet, w) {
         return port_of(exit, EVERY_ENTRY);
     }
     let kind = kind_of(w);

@@ -1,17 +1,28 @@
--- Which own transitions a word has, told by the number of its kind.
-use mathlib.Core.Path.{_≡_, refl, ap, _∙_}
+-- Which own transitions a word has, told by its kind.
+use mathlib.Core.Path.{_≡_, refl, ap, _∙_, sym}
 use mathlib.Core.List.{List, [], _∷_}
 use Prim.Native.Nat.{ℕ}
 use native.Mathlib.Omega.{arith}
 use lib.ListN.{length}
-use borrow.Author.Tests.{eq-eqb, ne-eqb}
-use Rattle.words.specs.Word.{numberOf, lowByte, closureKind, productKind, symbolKind, unionKind, kindNumber}
+use lib.Dec.{eqb}
+use borrow.Author.Tests.{eqb-true}
+use Rattle.words.specs.Word.{Kind, kindOf, lowByte, closureKind, productKind, symbolKind, unionKind}
+use Rattle.words.specs.Decoded.{kindIn}
+use Rattle.words.specs.declared.word.Kind.{Kind as Case}
+use Rattle.words.specs.declared.word.Kind.the-variants.{Symbol, Union, Product, Closure}
+use Rattle.words.proofs.DecodedLaws.{Left, left-all}
 use Rattle.automaton.specs.Transition.{Transition, transitionsWords}
-use Rattle.automaton.specs.Numbering.{Port, symbolTransitions, unionTransitions, productTransitions, closureTransitions, ownTransitions}
+use Rattle.automaton.specs.Numbering.{Port, symbolTransitions, unionTransitions, productTransitions, closureTransitions}
+use Rattle.automaton.specs.Numbering.{ownAt, ownTransitions}
+use Rattle.automaton.proofs.EntryStates.{own-kind}
 use Rattle.emitter.specs.Writing.{WordsWritten}
-use Rattle.ports.specs.Ports.{portsIn, childIn}
+use Rattle.ports.specs.Ports.{portIn, portsIn, childIn}
 use Rattle.emitter.proofs.WritingLaws.{words-written-none, words-written-same}
 use Rattle.emitter.proofs.TargetLaws.{both, single}
+
+no-members : (ts : List Transition) → length ts ≡ 0 → ts ≡ []
+no-members [] h = refl
+no-members (t ∷ ts) h = absurd (omega arith)
 
 module _ (w : ℕ) (E : Port) (cs : List ℕ) where
   abbrev own : List ℕ → List Transition
@@ -23,54 +34,31 @@ module _ (w : ℕ) (E : Port) (cs : List ℕ) where
   own-none [] h = refl
   own-none (p ∷ ps) h = absurd (omega arith)
 
-  pub own-symbol : (ps : List ℕ) → (length ps ≡ 0 → ⊥) → numberOf w ≡ kindNumber symbolKind
-      → own ps ≡ symbolTransitions (lowByte w) E (portsIn cs ps)
-  unfolding ownTransitions
+  pub own-symbol : (ps : List ℕ) → (length ps ≡ 0 → ⊥) → kindOf w ≡ symbolKind → own ps ≡ symbolTransitions (lowByte w) E (portsIn cs ps)
   own-symbol [] n e = absurd (n refl)
-  own-symbol (p ∷ ps) n e = rw (eq-eqb (numberOf w) (kindNumber symbolKind) e)
+  own-symbol (p ∷ ps) n e = own-kind w symbolKind E (portIn cs p) (portsIn cs ps) e
 
-  pub own-union : (ps : List ℕ) → length ps ≡ 2 → numberOf w ≡ kindNumber unionKind
-      → own ps ≡ unionTransitions E (childIn cs ps 0) (childIn cs ps 1)
-  unfolding ownTransitions
-  own-union ps h e =
-      ap own (both ps h) ∙ rw (ne-eqb (numberOf w) (kindNumber symbolKind) (λ z. omega arith), eq-eqb (numberOf w) (kindNumber unionKind) e)
+  pub own-union : (ps : List ℕ) → length ps ≡ 2 → kindOf w ≡ unionKind → own ps ≡ unionTransitions E (childIn cs ps 0) (childIn cs ps 1)
+  own-union ps h e = ap own (both ps h) ∙ own-kind w unionKind E (childIn cs ps 0) (childIn cs ps 1 ∷ []) e
 
-  pub own-product : (ps : List ℕ) → length ps ≡ 2 → numberOf w ≡ kindNumber productKind
+  pub own-product : (ps : List ℕ) → length ps ≡ 2 → kindOf w ≡ productKind
       → own ps ≡ productTransitions (lowByte w) E (childIn cs ps 0) (childIn cs ps 1)
-  unfolding ownTransitions
-  own-product ps h e =
-      ap own (both ps h)
-      ∙ rw (
-        ne-eqb (numberOf w) (kindNumber symbolKind) (λ z. omega arith),
-        ne-eqb (numberOf w) (kindNumber unionKind) (λ z. omega arith),
-        eq-eqb (numberOf w) (kindNumber productKind) e,
-      )
+  own-product ps h e = ap own (both ps h) ∙ own-kind w productKind E (childIn cs ps 0) (childIn cs ps 1 ∷ []) e
 
-  pub own-closure : (ps : List ℕ) → length ps ≡ 1 → numberOf w ≡ kindNumber closureKind
-      → own ps ≡ closureTransitions (lowByte w) E (childIn cs ps 0)
-  unfolding ownTransitions
-  own-closure ps h e =
-      ap own (single ps h)
-      ∙ rw (
-        ne-eqb (numberOf w) (kindNumber symbolKind) (λ z. omega arith),
-        ne-eqb (numberOf w) (kindNumber unionKind) (λ z. omega arith),
-        ne-eqb (numberOf w) (kindNumber productKind)
-            (λ z. omega arith),
-        eq-eqb (numberOf w) (kindNumber closureKind) e,
-      )
+  pub own-closure : (ps : List ℕ) → length ps ≡ 1 → kindOf w ≡ closureKind → own ps ≡ closureTransitions (lowByte w) E (childIn cs ps 0)
+  own-closure ps h e = ap own (single ps h) ∙ own-kind w closureKind E (childIn cs ps 0) [] e
 
   -- a word of any other kind has none
-  pub own-other : (ps : List ℕ) → (numberOf w ≡ kindNumber symbolKind → ⊥) → (numberOf w ≡ kindNumber unionKind → ⊥)
-      → (numberOf w ≡ kindNumber productKind → ⊥) → (numberOf w ≡ kindNumber closureKind → ⊥) → own ps ≡ []
+  pub own-other : (ps : List ℕ) (k : Case) → kindIn k ≡ kindOf w → Left (Symbol ∷ Union ∷ Product ∷ Closure ∷ []) k → own ps ≡ []
   unfolding ownTransitions
-  own-other [] n₂ n₄ n₅ n₆ = refl
-  own-other (p ∷ ps) n₂ n₄ n₅ n₆ =
-      rw (
-        ne-eqb (numberOf w) (kindNumber symbolKind) n₂,
-        ne-eqb (numberOf w) (kindNumber unionKind) n₄,
-        ne-eqb (numberOf w) (kindNumber productKind) n₅,
-        ne-eqb (numberOf w) (kindNumber closureKind) n₆,
-      )
+  own-other [] k decoded left = refl
+  own-other (p ∷ ps) k decoded left =
+      let P = portIn cs p in
+      let Ps = portsIn cs ps in
+      own-kind w (kindIn k) E P Ps (sym decoded)
+      ∙ no-members (ownAt (kindIn k) (lowByte w) E P Ps)
+      (eqb-true (length (ownAt (kindIn k) (lowByte w) E P Ps)) 0
+      (left-all (Symbol ∷ Union ∷ Product ∷ Closure ∷ []) k left (λ (j : Kind). eqb (length (ownAt j (lowByte w) E P Ps)) 0) refl))
 
 -- the words of transitions that are written, said otherwise
 pub transitions-written : (m at r : ℕ) (ts us : List Transition) (out out′ : List ℕ) → us ≡ ts

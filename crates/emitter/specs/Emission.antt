@@ -4,7 +4,7 @@ use mathlib.Core.Path.{_≡_}
 use mathlib.Core.List.{List}
 use lib.ListN.{length, getD}
 use Rattle.words.specs.Limits.{constantsMost, rankMost}
-use Rattle.words.specs.Word.{numberOf, lowByte, closureKind, productKind, unionKind, kindNumber, symbolRange}
+use Rattle.words.specs.Word.{lowByte, closureKind, productKind, unionKind, symbolRange, kindOf}
 use Rattle.automaton.specs.Numbering.{symbolTargets, productTargets, closureTargets}
 use Rattle.emitter.specs.Writing.{lastIndex}
 use Rattle.emitter.specs.declared.entries.Targets.{Targets}
@@ -50,9 +50,9 @@ ListedConstant cs c = (k : ℕ) × (k < length cs) × (getD cs k 0 ≡ c)
 
 -- word w takes children with ports ps, and its c is one of the constants
 pub record OwnEmittable (cs ps : List ℕ) (w : ℕ) : Type 0 where
-  pub union : numberOf w ≡ kindNumber unionKind → length ps ≡ 2
-  pub product : numberOf w ≡ kindNumber productKind → (length ps ≡ 2) × ListedConstant cs (lowByte w)
-  pub closure : numberOf w ≡ kindNumber closureKind → (length ps ≡ 1) × ListedConstant cs (lowByte w)
+  pub union : kindOf w ≡ unionKind → length ps ≡ 2
+  pub product : kindOf w ≡ productKind → (length ps ≡ 2) × ListedConstant cs (lowByte w)
+  pub closure : kindOf w ≡ closureKind → (length ps ≡ 1) × ListedConstant cs (lowByte w)
 
 -- the constants are few and symbols, and their moves may be written from index `at` on
 pub record ConstantsEmittable (cs : List ℕ) (at : ℕ) : Type 0 where

@@ -1,17 +1,17 @@
--- `compiler::states::word_port` meets its contract: the kind and the arity say which entries the word has.
-use mathlib.Core.Path.{refl}
+-- `compiler::states::word_port` meets its contract: the kind, and whether it has entries, say which entries the word has.
+use mathlib.Core.Path.{refl, sym, _∙_}
 use mathlib.Core.List.{[], _∷_}
 use native.Mathlib.Omega.{arith}
 use borrow.Author.Needs.{needs}
 use Rattle.words.specs.Word.{symbolKind}
 use Rattle.words.specs.declared.word.Kind.the-variants.{Symbol}
 use Rattle.words.proofs.DecodedLaws.{told-number, left-number}
-use Rattle.compiler.proofs.StateLaws.{port-full, port-constant, port-empty, symbol-known}
+use Rattle.compiler.proofs.StateLaws.{port-every, port-constant, port-empty, symbol-known}
 use Rattle.compiler.proofs.states.word_port.Statement.{statement}
 use Rattle.compiler.proofs.states.word_port.Tie as tie
 
-arity-requires : tie.Need-arity-requires
-arity-requires c κs = search needs
+has-entries-requires : tie.Need-has-entries-requires
+has-entries-requires c κs = search needs
 
 port-of-requires : tie.Need-port-of-requires
 port-of-requires c κs = search needs
@@ -19,7 +19,7 @@ port-of-requires c κs = search needs
 returns : tie.Need-returns
 returns c =
     let p = c .before .before .before .before .pre in
-    port-full _ _ _ _ _ (c .before .before .arity .ensures) (p .low) (c .before .if1 .taken) (c .port-of .ensures)
+    port-every _ _ _ _ (p .low) (sym (c .before .before .has-entries .ensures) ∙ c .before .if1 .taken) (c .port-of .ensures)
 
 kind-of-requires : tie.Need-kind-of-requires
 kind-of-requires c κs = search needs
@@ -43,14 +43,14 @@ returns-2 c =
     let m = c .before .before .before in
     let p = m .before .before .before .before .pre in
     let number = told-number _ _ (m .kind-of .ensures) Symbol (c .before .enum-told .given .1) (omega arith) in
-    port-constant _ _ _ _ _ (m .before .before .arity .ensures) (p .low) (p .symbols) (symbol-known _ _ (p .word) number)
-    (m .before .if1 .left) number (c .port-of2 .ensures)
+    port-constant _ _ _ _ (p .low) (p .symbols) (symbol-known _ _ (p .word) number)
+    (sym (m .before .before .has-entries .ensures) ∙ m .before .if1 .left) number (c .port-of2 .ensures)
 
 returns-3 : tie.Need-returns-3
 returns-3 c =
     let m = c .before .before in
     let p = m .before .before .before .before .pre in
-    port-empty _ _ _ _ _ (m .before .before .arity .ensures) (p .low) (m .before .if1 .left)
+    port-empty _ _ _ _ (p .low) (sym (m .before .before .has-entries .ensures) ∙ m .before .if1 .left)
     (left-number _ (m .kind-of .result) (m .kind-of .ensures) (Symbol ∷ []) (c .before .match .keys2) symbolKind refl)
     (c .port-of3 .ensures)
 
@@ -58,7 +58,7 @@ pub word-port-spec : {M : Type 1} → statement M
 word-port-spec =
     tie.close
     (tie.spec
-    arity-requires
+    has-entries-requires
     port-of-requires
     returns
     kind-of-requires

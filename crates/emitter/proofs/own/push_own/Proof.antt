@@ -1,11 +1,7 @@
 -- `emitter::own::push_own` meets its contract: the kind says which transitions the word has.
-use mathlib.Core.Path.{refl}
-use mathlib.Core.List.{[], _∷_}
-use native.Mathlib.Omega.{arith}
 use borrow.Author.Needs.{needs}
-use Rattle.words.specs.Word.{symbolKind, unionKind, productKind, closureKind}
 use Rattle.words.specs.declared.word.Kind.the-variants.{Symbol, Union, Product, Closure}
-use Rattle.words.proofs.DecodedLaws.{told-number, left-number}
+use Rattle.words.proofs.DecodedLaws.{told-kind}
 use Rattle.automaton.specs.Numbering.{fullPort}
 use Rattle.emitter.proofs.OwnKindLaws.{own-none, own-symbol, own-union, own-product, own-closure}
 use Rattle.emitter.proofs.OwnKindLaws.{own-other, transitions-written, no-transitions-written}
@@ -34,7 +30,7 @@ push-union-requires : tie.Need-push-union-requires
 push-union-requires c κs =
     let m = c .before .before .before in
     let p = m .before .before .before .before .before .pre in
-    (p .0, p .1 .union (told-number _ _ (m .kind-of .ensures) Union (c .before .enum-told2 .given .1) (omega arith)))
+    (p .0, p .1 .union (told-kind _ _ (m .kind-of .ensures) Union (c .before .enum-told2 .given .1)))
 
 enum-told-3 : tie.Need-enum-told-3
 enum-told-3 c = search needs
@@ -43,7 +39,7 @@ push-product-requires : tie.Need-push-product-requires
 push-product-requires c κs =
     let m = c .before .before .before in
     let p = m .before .before .before .before .before .pre in
-    (p .0, p .1 .product (told-number _ _ (m .kind-of .ensures) Product (c .before .enum-told3 .given .1) (omega arith)))
+    (p .0, p .1 .product (told-kind _ _ (m .kind-of .ensures) Product (c .before .enum-told3 .given .1)))
 
 enum-told-4 : tie.Need-enum-told-4
 enum-told-4 c = search needs
@@ -52,7 +48,7 @@ push-closure-requires : tie.Need-push-closure-requires
 push-closure-requires c κs =
     let m = c .before .before .before in
     let p = m .before .before .before .before .before .pre in
-    (p .0, p .1 .closure (told-number _ _ (m .kind-of .ensures) Closure (c .before .enum-told4 .given .1) (omega arith)))
+    (p .0, p .1 .closure (told-kind _ _ (m .kind-of .ensures) Closure (c .before .enum-told4 .given .1)))
 
 same-length : tie.Need-same-length
 same-length c = search needs
@@ -61,9 +57,9 @@ returns-2 : tie.Need-returns-2
 returns-2 c =
     let m = c .before .before .before .before .before .before in
     let a = m .before .before .before .before .before .args in
-    let number = told-number _ _ (m .kind-of .ensures) Symbol (c .before .before .before .before .enum-told .given .1) (omega arith) in
+    let kind = told-kind _ _ (m .kind-of .ensures) Symbol (c .before .before .before .before .enum-told .given .1) in
     transitions-written _ _ _ _ _ _ _
-    (own-symbol (a .w) (fullPort (a .constants .now) (a .exit)) (a .constants .now) (a .ports .now) (m .before .if1 .left) number)
+    (own-symbol (a .w) (fullPort (a .constants .now) (a .exit)) (a .constants .now) (a .ports .now) (m .before .if1 .left) kind)
     (c .before .before .push-symbol .ensures)
 
 same-length-2 : tie.Need-same-length-2
@@ -74,9 +70,9 @@ returns-3 c =
     let m = c .before .before .before .before .before .before in
     let a = m .before .before .before .before .before .args in
     let p = m .before .before .before .before .before .pre .1 in
-    let number = told-number _ _ (m .kind-of .ensures) Union (c .before .before .before .before .enum-told2 .given .1) (omega arith) in
+    let kind = told-kind _ _ (m .kind-of .ensures) Union (c .before .before .before .before .enum-told2 .given .1) in
     transitions-written _ _ _ _ _ _ _
-    (own-union (a .w) (fullPort (a .constants .now) (a .exit)) (a .constants .now) (a .ports .now) (p .union number) number)
+    (own-union (a .w) (fullPort (a .constants .now) (a .exit)) (a .constants .now) (a .ports .now) (p .union kind) kind)
     (c .before .before .push-union .ensures)
 
 same-length-3 : tie.Need-same-length-3
@@ -87,9 +83,9 @@ returns-4 c =
     let m = c .before .before .before .before .before .before in
     let a = m .before .before .before .before .before .args in
     let p = m .before .before .before .before .before .pre .1 in
-    let number = told-number _ _ (m .kind-of .ensures) Product (c .before .before .before .before .enum-told3 .given .1) (omega arith) in
+    let kind = told-kind _ _ (m .kind-of .ensures) Product (c .before .before .before .before .enum-told3 .given .1) in
     transitions-written _ _ _ _ _ _ _
-    (own-product (a .w) (fullPort (a .constants .now) (a .exit)) (a .constants .now) (a .ports .now) (p .product number .0) number)
+    (own-product (a .w) (fullPort (a .constants .now) (a .exit)) (a .constants .now) (a .ports .now) (p .product kind .0) kind)
     (c .before .before .push-product .ensures)
 
 same-length-4 : tie.Need-same-length-4
@@ -100,21 +96,16 @@ returns-5 c =
     let m = c .before .before .before .before .before .before in
     let a = m .before .before .before .before .before .args in
     let p = m .before .before .before .before .before .pre .1 in
-    let number = told-number _ _ (m .kind-of .ensures) Closure (c .before .before .before .before .enum-told4 .given .1) (omega arith) in
+    let kind = told-kind _ _ (m .kind-of .ensures) Closure (c .before .before .before .before .enum-told4 .given .1) in
     transitions-written _ _ _ _ _ _ _
-    (own-closure (a .w) (fullPort (a .constants .now) (a .exit)) (a .constants .now) (a .ports .now) (p .closure number .0) number)
+    (own-closure (a .w) (fullPort (a .constants .now) (a .exit)) (a .constants .now) (a .ports .now) (p .closure kind .0) kind)
     (c .before .before .push-closure .ensures)
 
 returns-6 : tie.Need-returns-6
 returns-6 c =
     let a = c .before .before .before .before .before .before .args in
-    let k = c .before .kind-of .result in
-    let decoded = c .before .kind-of .ensures in
     no-transitions-written _ _ _ _ (own-other (a .w) (fullPort (a .constants .now) (a .exit)) (a .constants .now) (a .ports .now)
-    (left-number _ k decoded (Symbol ∷ Union ∷ Product ∷ Closure ∷ []) (c .match .keys5) symbolKind refl)
-    (left-number _ k decoded (Symbol ∷ Union ∷ Product ∷ Closure ∷ []) (c .match .keys5) unionKind refl)
-    (left-number _ k decoded (Symbol ∷ Union ∷ Product ∷ Closure ∷ []) (c .match .keys5) productKind refl)
-    (left-number _ k decoded (Symbol ∷ Union ∷ Product ∷ Closure ∷ []) (c .match .keys5) closureKind refl))
+    (c .before .kind-of .result) (c .before .kind-of .ensures) (c .match .keys5))
 
 pub push-own-spec : {M : Type 1} → statement M
 push-own-spec =
