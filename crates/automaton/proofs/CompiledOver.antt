@@ -22,7 +22,7 @@ use Rattle.automaton.specs.Table.{AllBelow, TransitionOver, TransitionsO
 use Rattle.automaton.proofs.EveryEntryLaws.{to-epsilons, to-entryEpsilons, to-constants, numbered-all}
 use Rattle.automaton.proofs.PortStates.{statesIn, Entries, every, own, missing, PortIn, Children, noChild, child, children-le}
 use Rattle.automaton.proofs.OwnTransitions.{Own, leaf, ofSymbol, ofUnion, ofProduct, ofClosure}
-use Rattle.automaton.proofs.PortReading.{Reading, ended, word, childrenOn, expression-reading}
+use Rattle.automaton.proofs.PortReading.{AllRead, ended, word, childrenOn, expression-reading}
 use Rattle.automaton.proofs.LastPort.{statesAfter-le, lastPort-in}
 use Rattle.automaton.proofs.TargetLaws.{entryFor-ascending, symbol-ascending, union-ascending, product-ascending, closure-ascending}
 
@@ -98,7 +98,7 @@ module _ (a : List ℕ) where
 
   -- ---- every word
 
-  reading-over : {n : ℕ} {ws : List ℕ} {stack : List Port} → Reading a n ws stack
+  reading-over : {n : ℕ} {ws : List ℕ} {stack : List Port} → AllRead a n ws stack
       → All (TransitionOver a (statesAfter a n ws)) (transitionsFrom a n ws stack)
   unfolding statesAfter transitionsFrom
   reading-over ended = tt

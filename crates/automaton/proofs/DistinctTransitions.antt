@@ -14,7 +14,7 @@ use Rattle.automaton.specs.Transition.{Transition, onSymbol, epsilon}
 use Rattle.automaton.specs.Numbering.{Port, statesOf, portOf, ownTransitions, transitionsFrom}
 use Rattle.automaton.specs.Numbering.{constantTransitions, lastPort, compiled}
 use Rattle.automaton.proofs.PortStates.{statesIn}
-use Rattle.automaton.proofs.PortReading.{Reading, ended, word, childrenOn, expression-reading}
+use Rattle.automaton.proofs.PortReading.{AllRead, ended, word, childrenOn, expression-reading}
 use Rattle.automaton.proofs.TransitionOrder.{own-ordered}
 use Rattle.automaton.proofs.LastPort.{lastPort-in}
 use Rattle.automaton.proofs.OrderDistinct.{inOrder-distinct}
@@ -25,7 +25,7 @@ record Apart (n : ℕ) (stack : List Port) (ts : List Transition) : Type 0 where
   rest : All (OfRest n stack) ts
   distinct : Distinct ts
 
-reading-apart : {a : List ℕ} {n : ℕ} {ws : List ℕ} {stack : List Port} → Reading a n ws stack → Apart n stack (transitionsFrom a n ws stack)
+reading-apart : {a : List ℕ} {n : ℕ} {ws : List ℕ} {stack : List Port} → AllRead a n ws stack → Apart n stack (transitionsFrom a n ws stack)
 unfolding transitionsFrom
 reading-apart ended = record { rest = tt; distinct = tt }
 reading-apart {a} (word {n} {w} {ws} {stack} d r) =

@@ -10,7 +10,7 @@ use Rattle.words.proofs.Ascending.{Ascending}
 use Rattle.automaton.specs.Numbering.{Port, statesOf, portOf, childPort, portsFrom, statesAfter, lastPort}
 use Rattle.automaton.proofs.PortStates.{constantsIn, PortIn, portIn-from}
 use Rattle.words.proofs.AcceptedExpression.{expression-passed}
-use Rattle.automaton.proofs.PortReading.{Reading, word, expression-reading}
+use Rattle.automaton.proofs.PortReading.{AllRead, word, expression-reading}
 
 -- the states of the last of the words w and ws, from state n on
 abbrev pub lastFrom : List ℕ → ℕ → ℕ → List ℕ → Port
@@ -33,7 +33,7 @@ module _ (a : List ℕ) where
       let e : suc (length ws) - 1 ≡ length ws = omega arith in
       rw e (last-from ws 0 w)
 
-  pub last-in : (ws : List ℕ) {n w : ℕ} {stack : List Port} → Reading a n (w ∷ ws) stack
+  pub last-in : (ws : List ℕ) {n w : ℕ} {stack : List Port} → AllRead a n (w ∷ ws) stack
       → PortIn a n (statesAfter a n (w ∷ ws)) (lastFrom a n w ws)
   unfolding statesAfter
   last-in [] (word d r) = d .port
@@ -42,7 +42,7 @@ module _ (a : List ℕ) where
   pub lastPort-in : (e : List ℕ) → expressionFault a e ≡ 0 → PortIn a 0 (statesAfter a 0 e) (lastPort a e)
   lastPort-in e f = go e (expression-passed a e f .some) (expression-reading a e f)
     where
-      go : (e : List ℕ) → 0 < length e → Reading a 0 e [] → PortIn a 0 (statesAfter a 0 e) (lastPort a e)
+      go : (e : List ℕ) → 0 < length e → AllRead a 0 e [] → PortIn a 0 (statesAfter a 0 e) (lastPort a e)
       go [] l r = absurd (omega arith)
       go (w ∷ ws) l r = rw (lastPort-from w ws) (last-in ws r)
 

@@ -10,7 +10,7 @@ pub mod TransitionOrder
 pub mod OrderDistinct
 pub mod TransitionOrigin
 pub mod DistinctTransitions
-pub mod Limits
+pub mod LargestRules
 pub mod StateCount
 pub mod TargetCount
 pub mod TableLength

@@ -35,10 +35,10 @@ pub record WordRead (a : List ℕ) (n w : ℕ) (stack : List Port) : Type 0 wher
   pub own : Own a (n + statesOf a w) w (portOf a n w) (childrenOn a w stack) (ownTransitions w (portOf a n w) (childrenOn a w stack))
 
 -- the same at each of the words, from state n on
-pub data Reading (a : List ℕ) : ℕ → List ℕ → List Port → Type 0 where
-  ended : {n : ℕ} {stack : List Port} → Reading a n [] stack
+pub data AllRead (a : List ℕ) : ℕ → List ℕ → List Port → Type 0 where
+  ended : {n : ℕ} {stack : List Port} → AllRead a n [] stack
   word : {n w : ℕ} {ws : List ℕ} {stack : List Port} → WordRead a n w stack
-      → Reading a (n + statesOf a w) ws (portOf a n w ∷ drop (arity a w) stack) → Reading a n (w ∷ ws) stack
+      → AllRead a (n + statesOf a w) ws (portOf a n w ∷ drop (arity a w) stack) → AllRead a n (w ∷ ws) stack
 
 module _ (a : List ℕ) where
   word-read : (n w : ℕ) (stack : List Port) → isExpressionWord a w ≡ true → arity a w ≤ length stack → PortStack a n stack
@@ -56,7 +56,7 @@ module _ (a : List ℕ) where
       }
 
   pub reading : (ws : List ℕ) (n t : ℕ) (stack : List Port) → all (isExpressionWord a) ws ≡ true → trees a (length stack) ws t ≡ true
-      → PortStack a n stack → Reading a n ws stack
+      → PortStack a n stack → AllRead a n ws stack
   unfolding treesBy
   reading [] n t stack h r s = ended
   reading (w ∷ ws) n t stack h r s =
@@ -70,5 +70,5 @@ module _ (a : List ℕ) where
       (subst (λ (x : ℕ). trees a x ws t ≡ true) l (q .1)) s′)
 
   -- the words of an accepted expression
-  pub expression-reading : (e : List ℕ) → expressionFault a e ≡ 0 → Reading a 0 e []
+  pub expression-reading : (e : List ℕ) → expressionFault a e ≡ 0 → AllRead a 0 e []
   expression-reading e h = let g = expression-passed a e h in reading e 0 1 [] (g .words) (g .shape) bottom

@@ -19,7 +19,7 @@ use Rattle.automaton.specs.Numbering.{compiled, symbolTargets, unionTarg
 use Rattle.automaton.proofs.PortStates.{constantsIn, PortIn, Children, child}
 use Rattle.automaton.proofs.OwnTransitions.{Own, leaf, ofSymbol, ofUnion, ofProduct, ofClosure}
 use Rattle.words.proofs.AcceptedExpression.{expression-passed}
-use Rattle.automaton.proofs.PortReading.{WordRead, Reading, word, childrenOn, expression-reading}
+use Rattle.automaton.proofs.PortReading.{WordRead, AllRead, word, childrenOn, expression-reading}
 use Rattle.automaton.proofs.TargetCount.{total, weight, lookup-once, total-symbol, total-union, total-product, total-closure}
 use Rattle.automaton.proofs.StateCount.{innerWords}
 use Rattle.automaton.proofs.LastPort.{lastFrom, lastPort-from}
@@ -156,7 +156,7 @@ module _ (a : List ℕ) where
       let b = branch-number w (childrenOn a w stack) (d .number) in
       omega (arith, weight-taken (arity a w) stack [], own-length (d .port) (d .children) (d .own))
 
-  reading-length : (ws : List ℕ) {n w : ℕ} {stack : List Port} → Reading a n (w ∷ ws) stack
+  reading-length : (ws : List ℕ) {n w : ℕ} {stack : List Port} → AllRead a n (w ∷ ws) stack
       → wordCount (transitionsFrom a n (w ∷ ws) stack) + branchingWords a (w ∷ ws) + suc (length (lastFrom a n w ws .entries)) + n
       ≤ weight stack + statesAfter a n (w ∷ ws) + (length (w ∷ ws) + innerWords a (w ∷ ws))
   unfolding transitionsFrom statesAfter
@@ -172,7 +172,7 @@ module _ (a : List ℕ) where
   unfolding compiled
   table-length e f = go e (expression-passed a e f .some) (expression-reading a e f)
     where
-      go : (e : List ℕ) → 0 < length e → Reading a 0 e []
+      go : (e : List ℕ) → 0 < length e → AllRead a 0 e []
           → length (tableWords (compiled a e)) + branchingWords a e ≤ statesAfter a 0 e + (length e + innerWords a e)
       go [] l r = absurd (omega arith)
       go (w ∷ ws) l r =

@@ -16,7 +16,7 @@ use Rattle.automaton.specs.Numbering.{Port, statesOf, portOf, epsilons, 
 use Rattle.automaton.specs.Numbering.{symbolTargets, unionTargets, productTargets, closureTargets}
 use Rattle.automaton.proofs.PortStates.{statesIn, Children, noChild, child}
 use Rattle.automaton.proofs.OwnTransitions.{Own, leaf, ofSymbol, ofUnion, ofProduct, ofClosure}
-use Rattle.automaton.proofs.PortReading.{Reading, ended, word, childrenOn, expression-reading}
+use Rattle.automaton.proofs.PortReading.{AllRead, ended, word, childrenOn, expression-reading}
 use Rattle.automaton.proofs.TargetLaws.{entryFor-ascending, symbol-ascending, union-ascending, product-ascending, closure-ascending}
 
 -- epsilon transitions strictly ordered by from and then by to, none before the one from p to q
@@ -95,7 +95,7 @@ AllInOrder a n (w ∷ ws) stack =
     InOrder (ownTransitions w (portOf a n w) (childrenOn a w stack))
     × AllInOrder a (n + statesOf a w) ws (portOf a n w ∷ drop (arity a w) stack)
 
-reading-ordered : {a : List ℕ} {n : ℕ} {ws : List ℕ} {stack : List Port} → Reading a n ws stack → AllInOrder a n ws stack
+reading-ordered : {a : List ℕ} {n : ℕ} {ws : List ℕ} {stack : List Port} → AllRead a n ws stack → AllInOrder a n ws stack
 reading-ordered ended = tt
 reading-ordered (word d r) = (own-ordered (d .port .from) (d .children) (d .own), reading-ordered r)
 

@@ -5,7 +5,7 @@ use mathlib.Core.List.{List, [], _∷_, _++_}
 use Prim.Native.Nat.{ℕ, suc, _+_, _-_, _<_}
 use native.Mathlib.Omega.{arith}
 use lib.ListN.{length, getD, take}
-use lib.Seq.{take-suc, take-all, length-take-le}
+use lib.Seq.{take-suc, take-all}
 use Rattle.words.specs.Limits.{constantsMost}
 use Rattle.words.specs.Lists.{all}
 use Rattle.words.specs.Word.{headKind, wordOf, aboveState}
@@ -13,9 +13,10 @@ use Rattle.words.specs.Alphabet.{constantsOf}
 use Rattle.words.specs.ExpressionWords.{isExpressionWord}
 use Rattle.words.proofs.TestLaws.{and-true, all-right}
 use Rattle.automaton.specs.Transition.{transitionsWords}
-use Rattle.automaton.specs.Numbering.{Port, statesOf, portOf, childPort, portsFrom, statesAfter, transitionsFrom, lastPort, compiled}
+use Rattle.automaton.specs.Numbering.{Port, statesOf, portOf, statesAfter, transitionsFrom, lastPort, compiled}
 use Rattle.automaton.specs.Numbering.{constantTransitions}
 use Rattle.automaton.proofs.TransitionLaws.{transitionsWords-append}
+use Rattle.automaton.proofs.WordNumbering.{lastPort-snoc}
 use Rattle.operations.specs.Compile.{compiledTable}
 use Rattle.ports.specs.Ports.{portIn}
 use Rattle.emitter.specs.Writing.{WordsWritten}
@@ -36,11 +37,6 @@ module _ (a : List ℕ) where
   states-snoc [] n w = refl
   states-snoc (v ∷ ws) n w = states-snoc ws (n + statesOf a v) w
 
-  port-snoc : (ws : List ℕ) (n w : ℕ) → childPort (portsFrom a n (ws ++ w ∷ [])) (length ws) ≡ portOf a (statesAfter a n ws) w
-  unfolding statesAfter portsFrom
-  port-snoc [] n w = refl
-  port-snoc (v ∷ ws) n w = port-snoc ws (n + statesOf a v) w
-
   module _ (e : List ℕ) (some : 0 < length e) where
     abbrev front : List ℕ
     front = take (length e - 1) e
@@ -52,9 +48,7 @@ module _ (a : List ℕ) where
     states-last = ap (statesAfter a 0) (before-last e some) ∙ states-snoc front 0 last
 
     pub lastPort-last : lastPort a e ≡ portOf a (statesAfter a 0 front) last
-    lastPort-last =
-        let n : length front ≡ length e - 1 = length-take-le (length e - 1) e (omega arith) in
-        ap₂ (λ (l : List ℕ) (k : ℕ). childPort (portsFrom a 0 l) k) (before-last e some) (sym n) ∙ port-snoc front 0 last
+    lastPort-last = ap (lastPort a) (before-last e some) ∙ lastPort-snoc a front last
 
     -- the last word is a rule word
     pub word-last : all (isExpressionWord a) e ≡ true → isExpressionWord a last ≡ true

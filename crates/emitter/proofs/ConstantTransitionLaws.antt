@@ -34,18 +34,18 @@ everyWords-more x cs k h =
     ∙ transitionsWords-append (constantTransitions es) (onSymbol c [] (x + 1 + k) ∷ [])
 
 -- the loop after k constants
-pub record Moved (cs : List ℕ) (x at : ℕ) (out out′ : List ℕ) (next k : ℕ) : Type 0 where
+pub record EveryPushed (cs : List ℕ) (x at : ℕ) (out out′ : List ℕ) (next k : ℕ) : Type 0 where
   pub within : k ≤ length cs
   pub long : length out′ ≡ length out
   pub written : WordsWritten k at (everyWords x (take k cs)) out out′ next
 
-pub moved-none : (cs : List ℕ) (x at : ℕ) (out : List ℕ) → Moved cs x at out out at 0
-moved-none cs x at out = record { within = omega arith; long = refl; written = words-written-none at out }
+pub every-pushed-none : (cs : List ℕ) (x at : ℕ) (out : List ℕ) → EveryPushed cs x at out out at 0
+every-pushed-none cs x at out = record { within = omega arith; long = refl; written = words-written-none at out }
 
-module _ {cs : List ℕ} {x at : ℕ} {out out′ : List ℕ} {next k : ℕ} (w : Moved cs x at out out′ next k) where
-  pub moved-more : (out″ : List ℕ) (r : ℕ) → k < length cs → length out″ ≡ length out′
-      → WordsWritten 1 next (transitionWords (onSymbol (getD cs k 0) [] (x + 1 + k))) out′ out″ r → Moved cs x at out out″ r (k + 1)
-  moved-more out″ r h l q =
+module _ {cs : List ℕ} {x at : ℕ} {out out′ : List ℕ} {next k : ℕ} (w : EveryPushed cs x at out out′ next k) where
+  pub every-pushed-more : (out″ : List ℕ) (r : ℕ) → k < length cs → length out″ ≡ length out′
+      → WordsWritten 1 next (transitionWords (onSymbol (getD cs k 0) [] (x + 1 + k))) out′ out″ r → EveryPushed cs x at out out″ r (k + 1)
+  every-pushed-more out″ r h l q =
       record {
         within = omega arith;
         long = l ∙ w .long;
@@ -54,8 +54,8 @@ module _ {cs : List ℕ} {x at : ℕ} {out out′ : List ℕ} {next k : ℕ} (w 
             (omega arith) (sym (everyWords-more x cs k h));
       }
 
-  pub moved-end : length cs ≤ k → length cs ≤ constantsMost → WordsWritten constantsMost at (everyWords x cs) out out′ next
-  moved-end h few =
+  pub every-pushed-end : length cs ≤ k → length cs ≤ constantsMost → WordsWritten constantsMost at (everyWords x cs) out out′ next
+  every-pushed-end h few =
       let i = w .within in
       words-written-same k constantsMost at next _ _ out out′ (w .written) (omega arith) (rw (take-all k cs h))
 

@@ -8,7 +8,7 @@ use mathlib.Core.List.{List, [], _∷_, map}
 use native.Mathlib.Omega.{arith}
 use lib.ListN.{length, getD, take, drop}
 use Rattle.words.specs.Tree.{Tree}
-use Rattle.words.specs.Limits.{alphabetMost}
+use Rattle.words.specs.Limits.{alphabetMost, compiledMost}
 use Rattle.words.specs.Chapter.{symbolOf}
 use Rattle.words.specs.Postfix.{arity, subtreeOf, childrenOf}
 use Rattle.words.proofs.AcceptedAlphabet.{alphabet-accepted}
@@ -107,7 +107,7 @@ module _ (a table ch marks : List ℕ) (n cells : ℕ) (h : runAnswer a table ch
 
 -- 8 never refuses it, and it has at most 1,147 words
 pub compiled-passes : (a e slice : List ℕ) (k : ℕ) → compileAnswer a e slice ≡ accepted (k ∷ [])
-    → (noTable a (take k (compileExit a e slice)) ≡ false) × (k ≤ 1147)
+    → (noTable a (take k (compileExit a e slice)) ≡ false) × (k ≤ compiledMost)
 unfolding noTable
 compiled-passes a e slice k h =
     let c = compile-result a e slice k h in

@@ -7,7 +7,7 @@ use mathlib.Core.List.{List, [], _∷_}
 use native.Mathlib.Omega.{arith}
 use lib.ListN.{length, take, drop}
 use lib.Seq.{take-at}
-use Rattle.words.specs.Limits.{alphabetMost}
+use Rattle.words.specs.Limits.{alphabetMost, compiledMost}
 use Rattle.words.proofs.AcceptedAlphabet.{alphabet-accepted}
 use Rattle.words.proofs.AcceptedExpression.{expression-passed}
 use Rattle.words.specs.ExactlyOne.{ExactlyOne}
@@ -35,7 +35,7 @@ pub record CompileResult (a e slice : List ℕ) (k : ℕ) : Type 0 where
   -- 8 lets it pass
   pub checked : isTable a (compiledTable a e) ≡ true
   -- "No compiled table takes more than 1,147 words."
-  pub most : length (compiledTable a e) ≤ 1147
+  pub most : length (compiledTable a e) ≤ compiledMost
 
 pub compile-result : (a e slice : List ℕ) (k : ℕ) → compileAnswer a e slice ≡ accepted (k ∷ []) → CompileResult a e slice k
 unfolding compileAnswer compileExit

@@ -23,6 +23,10 @@ statesMost = 1024
 abbrev pub tableMost : ℕ
 tableMost = 2048
 
+-- "No compiled table takes more than 1,147 words."
+abbrev pub compiledMost : ℕ
+compiledMost = 1147
+
 -- "a chapter 1 to 4,096 elements"
 abbrev pub nodesMost : ℕ
 nodesMost = 4096

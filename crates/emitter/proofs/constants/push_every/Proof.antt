@@ -4,18 +4,18 @@ use native.Mathlib.Omega.{arith}
 use lib.ListN.{length}
 use borrow.Author.Needs.{needs}
 use Rattle.emitter.proofs.WritingLaws.{words-written-next}
-use Rattle.emitter.proofs.ConstantTransitionLaws.{Moved, moved-none, moved-more, moved-end}
+use Rattle.emitter.proofs.ConstantTransitionLaws.{EveryPushed, every-pushed-none, every-pushed-more, every-pushed-end}
 use Rattle.emitter.proofs.constants.push_every.Statement.{statement}
 use Rattle.emitter.proofs.constants.push_every.Tie as tie
 
 abbrev Inv-loop : tie.InvT-loop
-Inv-loop constants out₀ at exit next₀ k₀ out next k = Moved constants exit at out₀ out next k
+Inv-loop constants out₀ at exit next₀ k₀ out next k = EveryPushed constants exit at out₀ out next k
 
 abbrev μ-loop : tie.MeasureT-loop
 μ-loop constants out₀ at exit next₀ k₀ out next k = length constants - k
 
 loop-holds : tie.Need-loop-holds Inv-loop μ-loop
-loop-holds c = moved-none _ _ _ _
+loop-holds c = every-pushed-none _ _ _ _
 
 mul-push-transition : tie.Need-mul-push-transition Inv-loop μ-loop
 mul-push-transition c = search needs
@@ -54,7 +54,7 @@ loop-less c = search needs
 
 loop-again : tie.Need-loop-again Inv-loop μ-loop
 loop-again c =
-    moved-more (c .before .before .before .before .before .before .loop .inv) _ _
+    every-pushed-more (c .before .before .before .before .before .before .loop .inv) _ _
     (c .before .before .before .before .before .loop-test .taken) (c .before .before .push-transition .kept .0)
     (c .before .before .push-transition .ensures)
 
@@ -62,7 +62,7 @@ same-length : tie.Need-same-length Inv-loop μ-loop
 same-length c = c .before .loop .inv .long
 
 returns : tie.Need-returns Inv-loop μ-loop
-returns c = moved-end (c .before .loop .inv) (c .loop-test .left) (c .before .before .before .before .pre .0 .few)
+returns c = every-pushed-end (c .before .loop .inv) (c .loop-test .left) (c .before .before .before .before .pre .0 .few)
 
 pub push-every-spec : {M : Type 1} → statement M
 push-every-spec =

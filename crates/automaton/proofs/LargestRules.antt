@@ -4,6 +4,7 @@ use Prim.Native.Nat.{ℕ}
 use mathlib.Core.Path.{_≡_, refl}
 use mathlib.Core.List.{List, [], _∷_, _++_, flatMap}
 use lib.ListN.{length, replicate}
+use Rattle.words.specs.Limits.{constantsMost, statesMost, compiledMost}
 use Rattle.words.specs.Word.{spareBitsClear, isOf, kindAt}
 use Rattle.words.specs.Alphabet.{isEntry, rankOf, isConstant, constantsFrom, constantsOf, noAlphabet, wrongConstants, alphabetFault}
 use Rattle.words.specs.Shape.{treesBy}
@@ -14,7 +15,7 @@ use Rattle.automaton.specs.Numbering.{hasEntries, statesOf, portOf, ownT
 
 -- 16 constants and a symbol of rank 4
 abbrev alphabet : List ℕ
-alphabet = replicate 16 0x1000_0000 ++ (0x1000_0004 ∷ [])
+alphabet = replicate constantsMost 0x1000_0000 ++ (0x1000_0004 ∷ [])
 
 -- the symbol over four constants, under 59 closures over the first constant
 abbrev largest : List ℕ
@@ -24,22 +25,22 @@ largest = replicate 4 0x2000_0000 ++ (0x2000_0010 ∷ replicate 59 0x6000_0000)
 abbrev overLimit : List ℕ
 overLimit = 0x2000_0000 ∷ replicate 61 0x6000_0000
 
-pub record Limits : Type 0 where
-  pub alphabet-accepted : alphabetFault alphabet ≡ 0
+pub record LimitsAttained : Type 0 where
+  pub alphabet-passes : alphabetFault alphabet ≡ 0
   pub largest-accepted : expressionFault alphabet largest ≡ 0
-  pub largest-states : compiled alphabet largest .states ≡ 1024
-  pub largest-words : length (tableWords (compiled alphabet largest)) ≡ 1147
+  pub largest-states : compiled alphabet largest .states ≡ statesMost
+  pub largest-words : length (tableWords (compiled alphabet largest)) ≡ compiledMost
   pub over-accepted : expressionFault alphabet overLimit ≡ 0
   pub over-states : compiled alphabet overLimit .states ≡ 1038
 
-pub limits : Limits
+pub limits-attained : LimitsAttained
 unfolding
     kindAt spareBitsClear isOf isEntry rankOf isConstant constantsFrom constantsOf noAlphabet wrongConstants arity treesBy notOneTree
     isExpressionWord wrongLength notExpressionWords hasEntries statesOf portOf ownTransitions portsFrom statesAfter transitionsFrom
     compiled flatMap
-limits =
+limits-attained =
     record {
-      alphabet-accepted = refl;
+      alphabet-passes = refl;
       largest-accepted = refl;
       largest-states = refl;
       largest-words = refl;
