@@ -99,27 +99,27 @@ static void take_largest(void)
 {
     symbols = 17;
     for (size_t i = 0; i < 16; i++)
-        alphabet[i] = 0x10000000;
-    alphabet[16] = 0x10000004;
+        alphabet[i] = HAQBYLUR_ENTRY(0);
+    alphabet[16] = HAQBYLUR_ENTRY(4);
     rule_words = 64;
     for (uint32_t i = 0; i < 4; i++)
-        rule[i] = 0x20000000 | i;
-    rule[4] = 0x20000000 | 16;
+        rule[i] = HAQBYLUR_SYMBOL(i);
+    rule[4] = HAQBYLUR_SYMBOL(16);
     for (uint32_t i = 0; i < 59; i++)
-        rule[5 + i] = 0x60000000 | (7 * i) % 16;
+        rule[5 + i] = HAQBYLUR_CLOSURE((7 * i) % 16);
     /* one element over four constants, and then each over the one before and three constants */
     chapter_words = 0;
-    chapter[chapter_words++] = 0x70000000;
+    chapter[chapter_words++] = HAQBYLUR_ELEMENT(0);
     while (chapter_words + 4 <= HAQBYLUR_MOST_ELEMENTS) {
         for (uint32_t i = 1; i < 4; i++)
-            chapter[chapter_words++] = 0x70000000 | i;
-        chapter[chapter_words++] = 0x70000000 | 16;
+            chapter[chapter_words++] = HAQBYLUR_ELEMENT(i);
+        chapter[chapter_words++] = HAQBYLUR_ELEMENT(16);
     }
     exchanged = 0;
     replacement_words = 5;
     for (uint32_t i = 0; i < 4; i++)
-        replacement[i] = 0x70000000 | (3 - i);
-    replacement[4] = 0x70000000 | 16;
+        replacement[i] = HAQBYLUR_ELEMENT(3 - i);
+    replacement[4] = HAQBYLUR_ELEMENT(16);
     /* room for four elements more */
     chapter_words -= 4;
 }
@@ -127,20 +127,21 @@ static void take_largest(void)
 static void take_source(void)
 {
     static const uint32_t ranks[] = {0, 0, 0, 0, 2, 1, 1};
-    static const uint32_t words_of_rule[] = {0x20000000, 0x20000001, 0x20000004, 0x20000002, 0x20000005,
-                                             0x20000003, 0x50000002, 0x40000000, 0x60000003};
-    static const uint32_t words_of_chapter[] = {0x70000000, 0x70000001, 0x70000004, 0x70000003,
-                                                0x70000005, 0x70000006, 0x70000004};
+    static const uint32_t words_of_rule[] = {
+        HAQBYLUR_SYMBOL(0), HAQBYLUR_SYMBOL(1), HAQBYLUR_SYMBOL(4), HAQBYLUR_SYMBOL(2), HAQBYLUR_SYMBOL(5),
+        HAQBYLUR_SYMBOL(3), HAQBYLUR_PRODUCT(2), HAQBYLUR_UNION, HAQBYLUR_CLOSURE(3)};
+    static const uint32_t symbols_of_chapter[] = {0, 1, 4, 3, 5, 6, 4};
     symbols = 7;
     for (size_t i = 0; i < symbols; i++)
-        alphabet[i] = 0x10000000 | ranks[i];
+        alphabet[i] = HAQBYLUR_ENTRY(ranks[i]);
     rule_words = 9;
     memcpy(rule, words_of_rule, sizeof words_of_rule);
     chapter_words = 7;
-    memcpy(chapter, words_of_chapter, sizeof words_of_chapter);
+    for (size_t i = 0; i < chapter_words; i++)
+        chapter[i] = HAQBYLUR_ELEMENT(symbols_of_chapter[i]);
     exchanged = 4;
     replacement_words = 1;
-    replacement[0] = 0x70000003;
+    replacement[0] = HAQBYLUR_ELEMENT(3);
 }
 
 int main(void)

@@ -14,17 +14,17 @@ import re
 import struct
 import sys
 
-ENTRY, SYMBOL, EMPTY, UNION, PRODUCT, CLOSURE, ELEMENT = range(1, 8)
+sys.dont_write_bytecode = True
+
+from document01 import (CLOSURE, ELEMENT, EMPTY, ENTRY, MOST_ELEMENTS, MOST_RANK, PRODUCT, SYMBOL, UNION, arity,  # noqa: E402
+                        is_element, is_entry, is_rule_word, kind, low_byte, word)
+
 SECTIONS = ("alphabet", "rule", "chapter")
 NAME = r"[A-Za-z][A-Za-z0-9_]*"
 
 
 class Wrong(Exception):
     """A text that is no input, or a run of words that is no tree."""
-
-
-def word(kind, field=0):
-    return kind << 28 | field
 
 
 class Alphabet:
@@ -39,12 +39,12 @@ class Alphabet:
     @staticmethod
     def of_words(words, names=None):
         for w in words:
-            if w >> 28 != ENTRY or w != word(ENTRY, w & 0xFF) or w & 0xFF > 4:
+            if not is_entry(w):
                 raise Wrong("no alphabet entry: 0x%08x" % w)
         names = names or ["s%d" % i for i in range(len(words))]
         if len(names) != len(words):
             raise Wrong("the names are those of %d symbols, the input has %d" % (len(names), len(words)))
-        return Alphabet(names, [w & 0xFF for w in words])
+        return Alphabet(names, [low_byte(w) for w in words])
 
     def words(self):
         return [word(ENTRY, rank) for rank in self.ranks]
@@ -183,9 +183,9 @@ def read_bytes(text):
 
 
 def read_alphabet(text):
-    items = [re.fullmatch(r"(%s)/([0-4])" % NAME, item) for item in text.split()]
+    items = [re.fullmatch(r"(%s)/([0-%d])" % (NAME, MOST_RANK), item) for item in text.split()]
     if not items or not all(items):
-        raise Wrong("the alphabet is NAME/RANK, with ranks 0 to 4, or words 0x..")
+        raise Wrong("the alphabet is NAME/RANK, with ranks 0 to %d, or words 0x.." % MOST_RANK)
     return Alphabet([item[1] for item in items], [int(item[2]) for item in items])
 
 
@@ -243,31 +243,14 @@ def make(text):
 
 # Writing.
 
-def operands(alphabet, w):
-    """How many parts a rule word or an element takes."""
-    kind, field = w >> 28, w & 0xFF
-    if kind in (SYMBOL, ELEMENT):
-        if w != word(kind, field) or field >= len(alphabet.ranks):
-            raise Wrong("0x%08x" % w)
-        return alphabet.ranks[field]
-    if kind in (PRODUCT, CLOSURE):
-        if w != word(kind, field) or field >= len(alphabet.ranks) or alphabet.ranks[field] != 0:
-            raise Wrong("0x%08x" % w)
-        return 2 if kind == PRODUCT else 1
-    if w not in (word(EMPTY), word(UNION)):
-        raise Wrong("0x%08x" % w)
-    return 2 if kind == UNION else 0
-
-
-def fold(alphabet, words, kinds, write):
+def fold(alphabet, words, is_word, write):
     """Reads postfix words with a stack; `write` gets each word's index and what stands for its parts."""
-    stack = []
+    stack, entries = [], alphabet.words()
     for i, w in enumerate(words):
-        count = operands(alphabet, w)
-        if w >> 28 not in kinds or count > len(stack):
+        if not is_word(entries, w) or arity(entries, w) > len(stack):
             raise Wrong("0x%08x" % w)
-        parts = stack[len(stack) - count:]
-        stack[len(stack) - count:] = [write(i, parts)]
+        first = len(stack) - arity(entries, w)
+        stack[first:] = [write(i, stack[first:])]
     if len(stack) != 1:
         raise Wrong("no single tree")
     return stack[0]
@@ -279,30 +262,29 @@ def show_rule(alphabet, words):
         return part[0] if part[1] >= binding else "(%s)" % part[0]
 
     def write(i, parts):
-        kind = words[i] >> 28
-        if kind == EMPTY:
+        if kind(words[i]) == EMPTY:
             return "_", 2
-        if kind == UNION:
+        if kind(words[i]) == UNION:
             return "%s + %s" % (parts[0][0], at_least(1, parts[1])), 0
-        name = alphabet.names[words[i] & 0xFF]
-        if kind == PRODUCT:
+        name = alphabet.names[low_byte(words[i])]
+        if kind(words[i]) == PRODUCT:
             return "%s .%s: %s" % (at_least(1, parts[0]), name, at_least(2, parts[1])), 1
-        if kind == CLOSURE:
+        if kind(words[i]) == CLOSURE:
             return "%s*%s" % (at_least(2, parts[0]), name), 2
         return name + ("(%s)" % ", ".join(part[0] for part in parts) if parts else ""), 2
 
-    return " " + fold(alphabet, words, (SYMBOL, EMPTY, UNION, PRODUCT, CLOSURE), write)[0]
+    return " " + fold(alphabet, words, is_rule_word, write)[0]
 
 
 def show_chapter(alphabet, words):
     lines = []
 
     def write(i, parts):
-        name = alphabet.names[words[i] & 0xFF]
+        name = alphabet.names[low_byte(words[i])]
         lines.append("\n  %d: %s" % (i, name) + ("(%s)" % ",".join(map(str, parts)) if parts else ""))
         return i
 
-    fold(alphabet, words, (ELEMENT,), write)
+    fold(alphabet, words, is_element, write)
     return "".join(lines)
 
 
@@ -357,13 +339,13 @@ def subtrees(alphabet, words):
     found = []
 
     def write(i, parts):
-        symbol = words[i] & 0xFF
+        symbol = low_byte(words[i])
         text = alphabet.names[symbol] + ("(%s)" % ", ".join(part[2] for part in parts) if parts else "")
         found.append((symbol, 1 + sum(part[1] for part in parts), text))
         return found[-1]
 
     try:
-        fold(alphabet, words, (ELEMENT,), write)
+        fold(alphabet, words, is_element, write)
     except Wrong as error:
         raise Wrong("the input's chapter is no tree: %s" % error)
     return found
@@ -439,8 +421,8 @@ def main(arguments):
     return 0
 
 
-# A chapter is read by a function that calls itself, and may be a comb of 4,096 elements.
-sys.setrecursionlimit(20000)
+# A chapter is read by functions that call each other, two for each element of a comb. One that is too long is read too.
+sys.setrecursionlimit(5 * MOST_ELEMENTS)
 
 if __name__ == "__main__":
     sys.exit(main(sys.argv[1:]))

@@ -3,12 +3,14 @@
 
 import os
 import random
+import re
 import struct
 import subprocess
 import sys
 import tempfile
 import unittest
 
+import document01
 import words
 
 ROOT = os.path.dirname(os.path.dirname(os.path.abspath(__file__)))
@@ -197,8 +199,17 @@ class Words(unittest.TestCase):
         self.assertEqual((run.returncode, run.stderr), (141, b""))
 
     def test_comb(self):
-        text = "alphabet: a/0 g/1\nrule: a\nchapter: " + "g(" * 4095 + "a" + ")" * 4095 + "\n"
-        self.assertEqual(len(words.make(text)), 12 + 4 * (2 + 1 + 4096))
+        above = document01.MOST_ELEMENTS - 1
+        text = "alphabet: a/0 g/1\nrule: a\nchapter: " + "g(" * above + "a" + ")" * above + "\n"
+        self.assertEqual(len(words.make(text)), 12 + 4 * (2 + 1 + above + 1))
+
+    def test_limits(self):
+        """The limits are those of the C header, which also has the largest compiled table."""
+        with open(os.path.join(ROOT, "include", "haqbylur.h")) as file:
+            stated = dict(re.findall(r"^#define HAQBYLUR_(MOST_\w+) (\d+)u$", file.read(), re.M))
+        del stated["MOST_COMPILED_WORDS"]
+        own = {name: str(value) for name, value in vars(document01).items() if name.startswith("MOST_")}
+        self.assertEqual(own, stated)
 
 
 if __name__ == "__main__":

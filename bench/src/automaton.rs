@@ -1,6 +1,7 @@
 //! A table's transitions arranged for the simulations: those of each symbol together, and epsilon transitions by the
 //! state they leave. Both simulations arrange them in each call, as the library does with the table it is lent.
 
+use peer::kinds;
 use peer::words::{self, TableWord};
 
 pub struct Transition {
@@ -35,10 +36,7 @@ impl Automaton {
             match own {
                 TableWord::Transition { symbol, target } => {
                     let end = place + arranged.arities[symbol];
-                    let children = table[place..end]
-                        .iter()
-                        .map(|word| (word & 0x3ff) as usize)
-                        .collect();
+                    let children = table[place..end].iter().map(|word| kinds::state(*word)).collect();
                     arranged.by_symbol[symbol].push(Transition { target, children });
                     place = end;
                 }

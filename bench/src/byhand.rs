@@ -1,7 +1,7 @@
 //! A table that no rule compiles to: many targets, of which each leads into one long chain of empty moves, and a chapter in
 //! which almost every step is new. A matcher that works out a closure for each target at each node is slow here.
 
-use peer::words::entry_word;
+use peer::words::{entry_word, TableWord};
 
 const CONSTANTS: usize = 8;
 /// The symbols behind the constants: one of rank 1, one of rank 2.
@@ -17,26 +17,31 @@ pub fn table() -> (Vec<u32>, Vec<u32>) {
     alphabet.extend([entry_word(1), entry_word(2)]);
     let targets: usize = CYCLES.iter().sum();
     let states = targets + CHAIN;
-    let mut table = vec![word(8, states, states - 1)];
+    let mut table = vec![TableWord::Head {
+        states,
+        accepting: states - 1,
+    }];
     for constant in 0..CONSTANTS {
         let own = (0..targets).filter(|target| target % 4 == constant % 4 && target % 3 != constant / 4);
-        table.extend(own.map(|target| word(9, constant, target)));
+        table.extend(own.map(|target| TableWord::Transition {
+            symbol: constant,
+            target,
+        }));
     }
     let mut first = 0;
     for cycle in CYCLES {
         for place in 0..cycle {
-            table.push(word(9, UNARY, first + (place + 1) % cycle));
-            table.push(word(11, 0, first + place));
+            table.push(TableWord::Transition {
+                symbol: UNARY,
+                target: first + (place + 1) % cycle,
+            });
+            table.push(TableWord::Child(first + place));
         }
         first += cycle;
     }
-    table.extend((0..targets).map(|target| word(10, target, targets)));
-    table.extend((targets..states - 1).map(|state| word(10, state, state + 1)));
-    (alphabet, table)
-}
-
-fn word(kind: u32, above: usize, below: usize) -> u32 {
-    kind << 28 | (above as u32) << 10 | below as u32
+    table.extend((0..targets).map(|from| TableWord::Epsilon { from, to: targets }));
+    table.extend((targets..states - 1).map(|from| TableWord::Epsilon { from, to: from + 1 }));
+    (alphabet, table.into_iter().map(TableWord::word).collect())
 }
 
 /// One chain of the unary symbol over each constant, joined by the binary one. The binary nodes stand above each other: a chain is

@@ -3,6 +3,8 @@
 //! each target at hand. The marks written are the same.
 
 use crate::automaton::{has, put, Automaton};
+use peer::kinds;
+use peer::limits::{ARITY_LIMIT, NODE_LIMIT, SYMBOL_LIMIT};
 use peer::words::count_ones;
 use std::collections::HashMap;
 use std::hash::{BuildHasherDefault, Hasher};
@@ -73,9 +75,14 @@ struct Step {
     closure: Vec<u32>,
 }
 
-/// A symbol and its children's set numbers, 13 bits each: a tree has at most 4,096 sets, and a symbol four children. All
-/// are counted from 1, so that keys of different lengths differ.
+/// A symbol and its children's set numbers, all counted from 1, so that keys of different lengths differ. A tree has no
+/// more sets than nodes.
 type Key = u64;
+
+/// The bits of a set number.
+const NUMBER_BITS: u32 = NODE_LIMIT.ilog2() + 1;
+
+const _: () = assert!(SYMBOL_LIMIT.ilog2() + 1 + ARITY_LIMIT as u32 * NUMBER_BITS <= Key::BITS);
 
 /// Marks a tree that is known to be well-formed; answers the number of marked states.
 pub fn run(alphabet: &[u32], table: &[u32], tree: &[u32], sets: &mut [u32]) -> u32 {
@@ -93,10 +100,10 @@ pub fn run(alphabet: &[u32], table: &[u32], tree: &[u32], sets: &mut [u32]) -> u
     let mut fresh = vec![0; width];
     let mut cells = 0;
     for (word, own) in tree.iter().zip(sets.chunks_mut(width)) {
-        let symbol = (word & 0xff) as usize;
+        let symbol = kinds::symbol(*word);
         let first = roots.len() - automaton.arities[symbol];
         let key = roots[first..].iter().fold(symbol as Key + 1, |key, child| {
-            key << 13 | (Key::from(*child) + 1)
+            key << NUMBER_BITS | (Key::from(*child) + 1)
         });
         let number = match memo.get(&key) {
             Some(number) => *number,

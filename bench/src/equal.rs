@@ -9,7 +9,6 @@ use peer::call::{Answer, Call};
 use peer::cases::{damage, faults, histories, lengths};
 use peer::compare::Comparison;
 use peer::library;
-use peer::marks::Table;
 use peer::model;
 use peer::words;
 
@@ -44,7 +43,7 @@ fn untimed(comparison: &mut Comparison) {
 fn simulations(work: &Workload) -> bool {
     let mut agree = true;
     for tree in [&work.tree, &work.eighth] {
-        let read = Table::read(&work.alphabet, &work.table).expect("a table");
+        let read = work.read_table();
         let expected = model::state_sets(&work.alphabet, &read, tree);
         let cells = words::count_ones(&expected);
         for (name, run) in SIMULATIONS {

@@ -13,7 +13,6 @@ use peer::chance::Random;
 use peer::compare::Comparison;
 use peer::generate;
 use peer::library;
-use peer::marks::Table;
 use peer::model;
 use peer::postfix;
 use peer::words;
@@ -67,7 +66,7 @@ fn subtree(work: &Workload) -> Vec<Pair> {
 
 /// An Exchange on the chapter as Run leaves it; the element and the replacement are to be set.
 fn exchange(work: &Workload) -> Call {
-    let read = Table::read(&work.alphabet, &work.table).expect("a table");
+    let read = work.read_table();
     let sets = model::state_sets(&work.alphabet, &read, &work.tree);
     let tree = work.tree.clone();
     Call::exchange(&work.alphabet, &work.table, tree, work.tree.len(), sets, 0, &[])

@@ -6,8 +6,8 @@ mod shape;
 
 use moves::Moves;
 use peer::call::{Answer, Call, Matcher, Operation};
+use peer::limits::{ARITY_LIMIT, NODE_LIMIT};
 use peer::model::Model;
-use peer::words::{ARITY_LIMIT, NODE_LIMIT};
 use shape::{symbol, Alphabet, Fault, Shape, Subtree};
 
 /// Performs an Exchange on its own slices, and answers the new element count and the number worked out, or the number

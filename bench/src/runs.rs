@@ -5,7 +5,6 @@ use crate::targets::Target;
 use crate::workloads::Workload;
 use crate::{consed, textbook};
 use peer::call::Call;
-use peer::marks::Table;
 use peer::model;
 use std::collections::HashSet;
 use std::hint::black_box;
@@ -27,7 +26,7 @@ fn simulated_run(measure: &Measure, work: &Workload, run: Simulation) -> f64 {
 
 /// How many different state sets the chapter has.
 fn distinct_sets(work: &Workload) -> usize {
-    let read = Table::read(&work.alphabet, &work.table).expect("a table");
+    let read = work.read_table();
     let sets = model::state_sets(&work.alphabet, &read, &work.tree);
     sets.chunks(work.width()).collect::<HashSet<_>>().len()
 }

@@ -3,6 +3,7 @@
 //! passed on the way and the final state stay in the set. Sets are bit vectors, written where the marks belong.
 
 use crate::automaton::{has, put, Automaton};
+use peer::kinds;
 use peer::words::count_ones;
 
 /// Marks a tree that is known to be well-formed; answers the number of marked states.
@@ -13,7 +14,7 @@ pub fn run(alphabet: &[u32], table: &[u32], tree: &[u32], sets: &mut [u32]) -> u
     let mut front: Vec<usize> = Vec::new();
     let mut cells = 0;
     for (node, word) in tree.iter().enumerate() {
-        let symbol = (word & 0xff) as usize;
+        let symbol = kinds::symbol(*word);
         let first = roots.len() - automaton.arities[symbol];
         let (done, rest) = sets.split_at_mut(node * width);
         let set = &mut rest[..width];

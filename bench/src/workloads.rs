@@ -6,8 +6,10 @@ use peer::automaton;
 use peer::cases::{examples, largest};
 use peer::chance::Random;
 use peer::generate;
+use peer::limits::{CONSTANT_LIMIT, NODE_LIMIT};
+use peer::marks::Table;
 use peer::postfix;
-use peer::words::{self, entry_word, Operator, NODE_LIMIT};
+use peer::words::{self, entry_word, Operator};
 
 /// Document 02 refuses chapters that are higher.
 const HEIGHT_LIMIT: usize = 512;
@@ -63,11 +65,16 @@ impl Workload {
 
     /// How many words a node's state set takes.
     pub fn width(&self) -> usize {
-        self.states().div_ceil(32)
+        self.read_table().width()
     }
 
     pub fn states(&self) -> usize {
-        (self.table[0] >> 10 & 0x7ff) as usize
+        self.read_table().states
+    }
+
+    /// The table as the model reads it.
+    pub fn read_table(&self) -> Table {
+        Table::read(&self.alphabet, &self.table).expect("a table")
     }
 }
 
@@ -86,7 +93,7 @@ pub fn all() -> Vec<Workload> {
     vec![
         Workload::new("source's rule, random", source(), random_tree),
         Workload::new("1,024 states, random", full(), random_tree),
-        Workload::new("1,147 words, random", largest::largest(), random_tree),
+        Workload::new("largest table, random", largest::largest(), random_tree),
         Workload::new("source's rule, comb", source(), comb),
         Workload::new(
             "book, repetitive",
@@ -109,15 +116,15 @@ fn comb(_: &[u32], nodes: usize) -> Vec<usize> {
 
 /// 60 words with entries and 4 constants over 16 constants, with every operator among them.
 fn full() -> (Vec<u32>, Vec<u32>) {
-    let mut alphabet = vec![entry_word(0); words::CONSTANT_LIMIT];
+    let mut alphabet = vec![entry_word(0); CONSTANT_LIMIT];
     alphabet.extend((1..=3).map(entry_word));
-    let (unary, binary) = (words::CONSTANT_LIMIT, words::CONSTANT_LIMIT + 1);
+    let (unary, binary) = (CONSTANT_LIMIT, CONSTANT_LIMIT + 1);
     let mut operators: Vec<Operator> = (0..4).map(Operator::Symbol).collect();
     operators.extend([Operator::Symbol(binary), Operator::Union, Operator::Product(0)]);
     for place in 0..57 {
         operators.push(match place % 3 {
             0 => Operator::Symbol(unary),
-            _ => Operator::Closure(place % words::CONSTANT_LIMIT),
+            _ => Operator::Closure(place % CONSTANT_LIMIT),
         });
     }
     (alphabet, words::operator_words(&operators))

@@ -58,7 +58,8 @@ pub trait Matcher {
 }
 
 impl Call {
-    fn empty(operation: Operation, alphabet: &[u32]) -> Call {
+    /// A call with nothing but an alphabet.
+    pub fn empty(operation: Operation, alphabet: &[u32]) -> Call {
         Call {
             operation,
             alphabet: alphabet.to_vec(),

@@ -125,7 +125,7 @@ impl Comparison {
     pub fn check_numbers(&mut self) {
         for operation in Operation::ALL {
             let given = self.numbers.entry(operation).or_default().clone();
-            for number in [&[0], refusals::numbers(operation)].concat() {
+            for number in [vec![0], refusals::numbers(operation)].concat() {
                 let wrong = format!("no {operation:?} was answered by {number}");
                 self.check(&wrong, given.contains_key(&number), String::new);
             }

@@ -2,19 +2,20 @@
 
 use crate::chance::Random;
 use crate::language::Tree;
+use crate::limits::{ARITY_LIMIT, CONSTANT_LIMIT, STATE_LIMIT, SYMBOL_LIMIT};
 use crate::words::{self, Operator, TableWord};
 
 /// An alphabet: mostly small, so that symbols meet each other often; sometimes up to the limits.
 pub fn alphabet(random: &mut Random) -> Vec<u32> {
     let (constants, others) = if random.once_in(10) {
-        let constants = random.between(1, words::CONSTANT_LIMIT);
-        (constants, random.between(0, words::SYMBOL_LIMIT - constants))
+        let constants = random.between(1, CONSTANT_LIMIT);
+        (constants, random.between(0, SYMBOL_LIMIT - constants))
     } else {
         let least = usize::from(!random.once_in(20));
         (random.between(1, 4), random.between(least, 4))
     };
     let mut arities = vec![0; constants];
-    arities.extend((0..others).map(|_| random.between(1, words::ARITY_LIMIT)));
+    arities.extend((0..others).map(|_| random.between(1, ARITY_LIMIT)));
     for place in (1..arities.len()).rev() {
         arities.swap(place, random.below(place + 1));
     }
@@ -116,8 +117,8 @@ pub fn tree(random: &mut Random, alphabet: &[u32], budget: usize) -> Tree {
 /// A well-formed table that no expression needs to have: transitions and epsilon transitions at random.
 pub fn table(random: &mut Random, alphabet: &[u32]) -> Vec<u32> {
     let states = match random.below(6) {
-        0 => random.between(1, words::STATE_LIMIT),
-        1 => random.pick(&[31, 32, 33, 63, 64, 65, 1023, 1024]),
+        0 => random.between(1, STATE_LIMIT),
+        1 => random.pick(&[31, 32, 33, 63, 64, 65, STATE_LIMIT - 1, STATE_LIMIT]),
         _ => random.between(1, 12),
     };
     let mut table = vec![TableWord::Head {

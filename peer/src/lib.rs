@@ -1,9 +1,9 @@
 //! An unrelated matcher for document 01's trees, and its comparison with the proved library.
 //!
-//! The model is written from document 01 alone: `language` decides membership by substitution, without an automaton;
-//! `refusals` has every refusal in order; `automaton`, `marks` and `exchange` recompute the words that the operations
-//! write, and `marklist` the text that the program prints. `compare` makes each call of the model and of the library,
-//! `driver` runs the program, and `cases` has the inputs.
+//! The model is written from document 01 alone: `limits` and `kinds` have its numbers, and `refusals` every refusal in
+//! order; `language` decides membership by substitution, without an automaton; `automaton`, `marks` and `exchange`
+//! recompute the words that the operations write, and `marklist` the text that the program prints. `compare` makes each
+//! call of the model and of the library, `driver` runs the program, and `cases` has the inputs.
 
 pub mod automaton;
 pub mod call;
@@ -15,8 +15,10 @@ pub mod driver;
 pub mod exchange;
 pub mod generate;
 pub mod guard;
+pub mod kinds;
 pub mod language;
 pub mod library;
+pub mod limits;
 pub mod marklist;
 pub mod marks;
 pub mod model;

@@ -2,12 +2,10 @@
 
 use crate::automaton;
 use crate::call::{Answer, Call, Matcher};
+use crate::limits::{PROGRAM_LIMIT, SET_LIMIT, TABLE_LIMIT};
 use crate::model::Model;
 use crate::postfix;
 use crate::words;
-
-/// The most elements that the program takes.
-const PROGRAM_NODES: usize = 256;
 
 /// The three counts, then alphabet, rule and chapter.
 pub fn encode(alphabet: &[u32], expression: &[u32], tree: &[u32]) -> Vec<u8> {
@@ -43,12 +41,17 @@ pub fn expected(bytes: &[u8]) -> String {
 
 /// The text for a rule and a chapter that are accepted, otherwise the refusal.
 fn matched(alphabet: &[u32], expression: &[u32], tree: &[u32]) -> Result<String, u32> {
-    let compiled = accepted(&Call::compile(alphabet, expression, vec![0; words::TABLE_LIMIT]))?;
-    if tree.len() > PROGRAM_NODES {
+    let compiled = accepted(&Call::compile(alphabet, expression, vec![0; TABLE_LIMIT]))?;
+    if tree.len() > PROGRAM_LIMIT {
         return Err(9);
     }
     let table = compiled.table();
-    let marked = accepted(&Call::run(alphabet, table, tree, vec![0; PROGRAM_NODES * 32]))?;
+    let marked = accepted(&Call::run(
+        alphabet,
+        table,
+        tree,
+        vec![0; PROGRAM_LIMIT * SET_LIMIT],
+    ))?;
     let sets = &marked.after.sets;
     let listed = accepted(&Call::list(
         alphabet,

@@ -1,6 +1,7 @@
 //! Document 01's "Marks": the set of states each subtree reaches, as the smallest set closed under the table's
 //! transitions, found by adding states until nothing new is found; and the words such a set is written in.
 
+use crate::limits::{STATE_LIMIT, TABLE_LIMIT};
 use crate::postfix;
 use crate::words::{self, TableWord};
 
@@ -18,14 +19,14 @@ pub type StateSet = Vec<bool>;
 impl Table {
     /// The table that the words are; None where document 01 refuses them by 8.
     pub fn read(alphabet: &[u32], words: &[u32]) -> Option<Table> {
-        if words.len() > words::TABLE_LIMIT {
+        if words.len() > TABLE_LIMIT {
             return None;
         }
         let (head, moves) = words.split_first()?;
         let TableWord::Head { states, accepting } = TableWord::read(*head)? else {
             return None;
         };
-        if states > words::STATE_LIMIT || accepting >= states {
+        if states > STATE_LIMIT || accepting >= states {
             return None;
         }
         let mut table = Table {

@@ -5,124 +5,145 @@
 
 use crate::automaton;
 use crate::call::{Call, Operation};
+use crate::limits::{CONSTANT_LIMIT, EXPRESSION_LIMIT, NODE_LIMIT, STATE_LIMIT, SYMBOL_LIMIT};
 use crate::marks::Table;
 use crate::postfix;
 use crate::words::{self, Operator};
 
 /// The numbers whose conditions the call meets, in document 01's order for its operation.
 pub fn faults(call: &Call) -> Vec<u32> {
-    let judged = match call.operation {
-        Operation::Compile => compile(call),
-        Operation::Run => run(call),
-        Operation::List => list(call),
-        Operation::Exchange => exchange(call),
-    };
-    judged
+    judged(call)
         .into_iter()
         .filter(|(_, fault)| *fault)
         .map(|(number, _)| number)
         .collect()
 }
 
-/// The numbers of an operation in the order in which they are judged.
-pub fn numbers(operation: Operation) -> &'static [u32] {
-    match operation {
-        Operation::Compile => &[1, 2, 3, 4, 5, 6, 7],
-        Operation::Run => &[1, 2, 8, 9, 10, 11, 12],
-        Operation::List => &[1, 2, 8, 9, 12, 13],
-        Operation::Exchange => &[1, 2, 8, 9, 10, 11, 12, 14, 15, 16],
+/// The numbers of an operation in the order in which they are judged, whatever is given to it.
+pub fn numbers(operation: Operation) -> Vec<u32> {
+    judged(&Call::empty(operation, &[]))
+        .into_iter()
+        .map(|(number, _)| number)
+        .collect()
+}
+
+/// Numbers in order, each with whether its condition holds.
+type Judged = Vec<(u32, bool)>;
+
+fn judged(call: &Call) -> Judged {
+    match call.operation {
+        Operation::Compile => [alphabet(call), expression(call), compiled(call)].concat(),
+        Operation::Run => marked(call, &[table, count, tree, sets]),
+        Operation::List => marked(call, &[table, count, sets, list]),
+        Operation::Exchange => marked(call, &[table, count, tree, sets, change]),
     }
 }
 
-type Judged = Vec<(u32, bool)>;
+/// What Run, List and Exchange are given: a table, and so many nodes with their state sets. Run and Exchange are given the
+/// nodes too, which are the first of the lent ones.
+struct Marked<'a> {
+    call: &'a Call,
+    table: Option<Table>,
+    count: usize,
+    tree: &'a [u32],
+}
 
-fn compile(call: &Call) -> Judged {
+/// The alphabet's numbers, and then those of each part.
+fn marked(call: &Call, parts: &[fn(&Marked) -> Judged]) -> Judged {
+    let count = match call.operation {
+        Operation::Run => call.tree.len(),
+        _ => call.count,
+    };
+    let own = Marked {
+        call,
+        table: Table::read(&call.alphabet, &call.table),
+        count,
+        tree: &call.tree[..count.min(call.tree.len())],
+    };
+    let further = parts.iter().flat_map(|part| part(&own));
+    alphabet(call).into_iter().chain(further).collect()
+}
+
+fn alphabet(call: &Call) -> Judged {
     let alphabet = &call.alphabet;
-    let expression = &call.expression;
-    let table_words = automaton::table(alphabet, expression).map_or(1, |table| table.len());
+    let has_no_entry = alphabet.iter().any(|word| words::read_entry(*word).is_none());
+    let constants = words::constants(alphabet).len();
     vec![
-        (1, is_no_alphabet(alphabet)),
-        (2, has_wrong_constants(alphabet)),
-        (3, is_outside(expression.len(), words::EXPRESSION_LIMIT)),
+        (1, is_outside(alphabet.len(), SYMBOL_LIMIT) || has_no_entry),
+        (2, is_outside(constants, CONSTANT_LIMIT)),
+    ]
+}
+
+fn expression(call: &Call) -> Judged {
+    let Call {
+        alphabet, expression, ..
+    } = call;
+    let operands = expression.iter().map(|word| words::operands(alphabet, *word));
+    vec![
+        (3, is_outside(expression.len(), EXPRESSION_LIMIT)),
         (4, expression.iter().any(|word| is_no_operator(alphabet, *word))),
-        (
-            5,
-            is_no_single_tree(expression.iter().map(|word| words::operands(alphabet, *word))),
-        ),
-        (6, automaton::states(alphabet, expression) > words::STATE_LIMIT),
-        (7, call.table.len() < table_words),
+        (5, is_no_single_tree(operands)),
+        (6, automaton::states(alphabet, expression) > STATE_LIMIT),
     ]
 }
 
-fn run(call: &Call) -> Judged {
-    let alphabet = &call.alphabet;
-    let table = Table::read(alphabet, &call.table);
+fn compiled(call: &Call) -> Judged {
+    let table = automaton::table(&call.alphabet, &call.expression);
+    vec![(7, table.map_or(1, |table| table.len()) > call.table.len())]
+}
+
+fn table(own: &Marked) -> Judged {
+    vec![(8, own.table.is_none())]
+}
+
+fn count(own: &Marked) -> Judged {
+    let is_over_slice = own.call.operation == Operation::Exchange && own.count > own.call.tree.len();
+    vec![(9, is_outside(own.count, NODE_LIMIT) || is_over_slice)]
+}
+
+fn tree(own: &Marked) -> Judged {
     vec![
-        (1, is_no_alphabet(alphabet)),
-        (2, has_wrong_constants(alphabet)),
-        (8, table.is_none()),
-        (9, is_outside(call.tree.len(), words::NODE_LIMIT)),
-        (10, has_no_node(alphabet, &call.tree)),
-        (11, is_no_tree(alphabet, &call.tree)),
-        (12, call.sets.len() < set_words(&table, call.tree.len())),
+        (10, has_no_node(&own.call.alphabet, own.tree)),
+        (11, is_no_tree(&own.call.alphabet, own.tree)),
     ]
 }
 
-fn list(call: &Call) -> Judged {
-    let table = Table::read(&call.alphabet, &call.table);
+fn sets(own: &Marked) -> Judged {
+    vec![(12, own.set_words(own.count) > own.call.sets.len())]
+}
+
+fn list(own: &Marked) -> Judged {
+    vec![(13, own.count > own.call.list.len())]
+}
+
+fn change(own: &Marked) -> Judged {
+    let Call {
+        alphabet,
+        node,
+        replacement,
+        ..
+    } = own.call;
+    let is_no_replacement = is_outside(replacement.len(), NODE_LIMIT)
+        || has_no_node(alphabet, replacement)
+        || is_no_tree(alphabet, replacement);
+    let result = result_nodes(alphabet, own.tree, *node, replacement.len());
+    let is_over_slice = result > own.call.tree.len() || own.set_words(result) > own.call.sets.len();
     vec![
-        (1, is_no_alphabet(&call.alphabet)),
-        (2, has_wrong_constants(&call.alphabet)),
-        (8, table.is_none()),
-        (9, is_outside(call.count, words::NODE_LIMIT)),
-        (12, call.sets.len() < set_words(&table, call.count)),
-        (13, call.list.len() < call.count),
+        (14, *node >= own.count),
+        (15, is_no_replacement),
+        (16, result > NODE_LIMIT || is_over_slice),
     ]
 }
 
-fn exchange(call: &Call) -> Judged {
-    let alphabet = &call.alphabet;
-    let table = Table::read(alphabet, &call.table);
-    let used = &call.tree[..call.count.min(call.tree.len())];
-    let result = result_nodes(alphabet, used, call.node, call.replacement.len());
-    vec![
-        (1, is_no_alphabet(alphabet)),
-        (2, has_wrong_constants(alphabet)),
-        (8, table.is_none()),
-        (
-            9,
-            is_outside(call.count, words::NODE_LIMIT) || call.count > call.tree.len(),
-        ),
-        (10, has_no_node(alphabet, used)),
-        (11, is_no_tree(alphabet, used)),
-        (12, call.sets.len() < set_words(&table, call.count)),
-        (14, call.node >= call.count),
-        (
-            15,
-            is_outside(call.replacement.len(), words::NODE_LIMIT)
-                || has_no_node(alphabet, &call.replacement)
-                || is_no_tree(alphabet, &call.replacement),
-        ),
-        (
-            16,
-            result > words::NODE_LIMIT
-                || result > call.tree.len()
-                || set_words(&table, result) > call.sets.len(),
-        ),
-    ]
+impl Marked<'_> {
+    /// The state set words of so many nodes.
+    fn set_words(&self, nodes: usize) -> usize {
+        nodes.saturating_mul(self.table.as_ref().map_or(1, Table::width))
+    }
 }
 
 fn is_outside(length: usize, limit: usize) -> bool {
     length == 0 || length > limit
-}
-
-fn is_no_alphabet(alphabet: &[u32]) -> bool {
-    is_outside(alphabet.len(), words::SYMBOL_LIMIT)
-        || alphabet.iter().any(|word| words::read_entry(*word).is_none())
-}
-
-fn has_wrong_constants(alphabet: &[u32]) -> bool {
-    is_outside(words::constants(alphabet).len(), words::CONSTANT_LIMIT)
 }
 
 fn is_no_operator(alphabet: &[u32], word: u32) -> bool {
@@ -152,11 +173,6 @@ fn node_arity(alphabet: &[u32], word: u32) -> Option<usize> {
 fn is_no_single_tree(arities: impl Iterator<Item = Option<usize>>) -> bool {
     let arities: Vec<usize> = arities.map(|arity| arity.unwrap_or(0)).collect();
     postfix::children(&arities).is_none()
-}
-
-/// The state set words of so many nodes.
-fn set_words(table: &Option<Table>, nodes: usize) -> usize {
-    nodes.saturating_mul(table.as_ref().map_or(1, Table::width))
 }
 
 /// How many nodes the tree has after the exchange.

@@ -1,17 +1,9 @@
-//! The 32-bit words of document 01: the kind in bits 31..28, named fields below it, every other bit zero.
+//! The 32-bit words of document 01 as values: the kind in bits 31..28, named fields below it, every other bit zero.
 //! A word is of a kind exactly if writing what was read from it gives the same word again.
 
+use crate::kinds;
+use crate::limits::ARITY_LIMIT;
 use std::fmt;
-
-pub const SYMBOL_LIMIT: usize = 64;
-pub const CONSTANT_LIMIT: usize = 16;
-pub const ARITY_LIMIT: usize = 4;
-pub const EXPRESSION_LIMIT: usize = 64;
-pub const STATE_LIMIT: usize = 1024;
-pub const TABLE_LIMIT: usize = 2048;
-pub const NODE_LIMIT: usize = 4096;
-
-const KIND: u32 = 1 << 28;
 
 /// One word of an expression (document 01: a rule word).
 #[derive(Clone, Copy, Debug, PartialEq, Eq)]
@@ -34,33 +26,33 @@ pub enum TableWord {
 
 /// The alphabet entry of a symbol with this arity (document 01: rank).
 pub fn entry_word(arity: usize) -> u32 {
-    KIND + arity as u32
+    kinds::symbol_word(kinds::ENTRY, arity)
 }
 
 /// The tree word of a node with this symbol (document 01: a chapter element).
 pub fn node_word(symbol: usize) -> u32 {
-    7 * KIND + symbol as u32
+    kinds::symbol_word(kinds::NODE, symbol)
 }
 
 impl Operator {
     pub fn word(self) -> u32 {
         match self {
-            Operator::Symbol(symbol) => 2 * KIND + symbol as u32,
-            Operator::Empty => 3 * KIND,
-            Operator::Union => 4 * KIND,
-            Operator::Product(constant) => 5 * KIND + constant as u32,
-            Operator::Closure(constant) => 6 * KIND + constant as u32,
+            Operator::Symbol(symbol) => kinds::symbol_word(kinds::SYMBOL, symbol),
+            Operator::Empty => kinds::word(kinds::EMPTY),
+            Operator::Union => kinds::word(kinds::UNION),
+            Operator::Product(constant) => kinds::symbol_word(kinds::PRODUCT, constant),
+            Operator::Closure(constant) => kinds::symbol_word(kinds::CLOSURE, constant),
         }
     }
 
     pub fn read(word: u32) -> Option<Operator> {
-        let field = (word & 0xff) as usize;
-        let operator = match word >> 28 {
-            2 => Operator::Symbol(field),
-            3 => Operator::Empty,
-            4 => Operator::Union,
-            5 => Operator::Product(field),
-            6 => Operator::Closure(field),
+        let field = kinds::symbol(word);
+        let operator = match kinds::kind(word) {
+            kinds::SYMBOL => Operator::Symbol(field),
+            kinds::EMPTY => Operator::Empty,
+            kinds::UNION => Operator::Union,
+            kinds::PRODUCT => Operator::Product(field),
+            kinds::CLOSURE => Operator::Closure(field),
             _ => return None,
         };
         (operator.word() == word).then_some(operator)
@@ -70,30 +62,30 @@ impl Operator {
 impl TableWord {
     pub fn word(self) -> u32 {
         match self {
-            TableWord::Head { states, accepting } => 8 * KIND + ((states as u32) << 10) + accepting as u32,
-            TableWord::Transition { symbol, target } => 9 * KIND + ((symbol as u32) << 10) + target as u32,
-            TableWord::Epsilon { from, to } => 10 * KIND + ((from as u32) << 10) + to as u32,
-            TableWord::Child(state) => 11 * KIND + state as u32,
+            TableWord::Head { states, accepting } => kinds::table_word(kinds::HEAD, states, accepting),
+            TableWord::Transition { symbol, target } => kinds::table_word(kinds::TRANSITION, symbol, target),
+            TableWord::Epsilon { from, to } => kinds::table_word(kinds::EPSILON, from, to),
+            TableWord::Child(state) => kinds::table_word(kinds::CHILD, 0, state),
         }
     }
 
     pub fn read(word: u32) -> Option<TableWord> {
-        let low = (word & 0x3ff) as usize;
-        let high = |bits: u32| ((word >> 10) & ((1 << bits) - 1)) as usize;
-        let read = match word >> 28 {
-            8 => TableWord::Head {
-                states: high(11),
-                accepting: low,
+        let state = kinds::state(word);
+        let above = |bits: u32| kinds::above_state(word, bits);
+        let read = match kinds::kind(word) {
+            kinds::HEAD => TableWord::Head {
+                states: above(11),
+                accepting: state,
             },
-            9 => TableWord::Transition {
-                symbol: high(8),
-                target: low,
+            kinds::TRANSITION => TableWord::Transition {
+                symbol: above(8),
+                target: state,
             },
-            10 => TableWord::Epsilon {
-                from: high(10),
-                to: low,
+            kinds::EPSILON => TableWord::Epsilon {
+                from: above(kinds::STATE_BITS),
+                to: state,
             },
-            11 => TableWord::Child(low),
+            kinds::CHILD => TableWord::Child(state),
             _ => return None,
         };
         (read.word() == word).then_some(read)
@@ -107,7 +99,7 @@ pub fn read_entry(word: u32) -> Option<usize> {
 
 /// The symbol of a tree word; None for a word that is no element.
 pub fn read_node(word: u32) -> Option<usize> {
-    let symbol = (word & 0xff) as usize;
+    let symbol = kinds::symbol(word);
     (node_word(symbol) == word).then_some(symbol)
 }
 

@@ -1,8 +1,8 @@
 //! The constants of the C header beside the limits and the numbers that the model has from document 01.
 
 use peer::call::Operation;
+use peer::limits;
 use peer::refusals;
-use peer::words;
 use std::collections::BTreeMap;
 
 const HEADER: &str = include_str!("../../include/haqbylur.h");
@@ -20,14 +20,14 @@ fn constants() -> BTreeMap<&'static str, usize> {
 #[test]
 fn a_limit_of_the_header_is_not_document_01s() {
     let limits = [
-        ("MOST_SYMBOLS", words::SYMBOL_LIMIT),
-        ("MOST_CONSTANTS", words::CONSTANT_LIMIT),
-        ("MOST_RANK", words::ARITY_LIMIT),
-        ("MOST_RULE_WORDS", words::EXPRESSION_LIMIT),
-        ("MOST_STATES", words::STATE_LIMIT),
-        ("MOST_TABLE_WORDS", words::TABLE_LIMIT),
-        ("MOST_COMPILED_WORDS", 1147),
-        ("MOST_ELEMENTS", words::NODE_LIMIT),
+        ("MOST_SYMBOLS", limits::SYMBOL_LIMIT),
+        ("MOST_CONSTANTS", limits::CONSTANT_LIMIT),
+        ("MOST_RANK", limits::ARITY_LIMIT),
+        ("MOST_RULE_WORDS", limits::EXPRESSION_LIMIT),
+        ("MOST_STATES", limits::STATE_LIMIT),
+        ("MOST_TABLE_WORDS", limits::TABLE_LIMIT),
+        ("MOST_COMPILED_WORDS", limits::COMPILED_LIMIT),
+        ("MOST_ELEMENTS", limits::NODE_LIMIT),
     ];
     let mut stated = constants();
     stated.retain(|name, _| name.starts_with("MOST_"));
@@ -43,7 +43,7 @@ fn a_refusal_number_has_no_name_or_two() {
     let operations = Operation::ALL.iter();
     let mut numbers: Vec<usize> = operations
         .flat_map(|operation| refusals::numbers(*operation))
-        .map(|number| *number as usize)
+        .map(|number| number as usize)
         .chain([0])
         .collect();
     numbers.sort_unstable();

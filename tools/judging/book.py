@@ -3,9 +3,6 @@
 import struct
 from typing import NamedTuple
 
-# Run's limit, and marklist's own.
-MOST_ELEMENTS = 4096
-MARKLIST_MOST = 256
 # More words than this in one list are written into no certificate.
 MOST_WORDS = 8192
 

@@ -6,8 +6,9 @@ import hashlib
 import re
 from pathlib import Path
 
+from document01 import MARKLIST_MOST
 from . import checker, matcher
-from .book import MARKLIST_MOST, Book, Truncated
+from .book import Book, Truncated
 from .evidence import evidence
 from .notation import NoCertificate, fact, hexadecimal, line_of_bytes, list_of, listed, numbers_of, part_of
 
@@ -70,11 +71,13 @@ def proved(book, refused):
     output, fault = ('marklistOutput', 'marklistFault') if few else ('bookOutput', 'bookFault')
     if refused:
         return [fact('pub certified', f'{output} alphabet rule chapter ≡ answer', unfolding=published())]
-    proof = ('ap (λ (n : ℕ). cond (eqb n 0) (reportLines alphabet rule chapter) (refusedLine n)) no-fault\n'
+    proof = ('ap (outputAt alphabet rule chapter) no-fault\n'
              '    ∙ reported alphabet rule chapter value answer report')
+    if few:
+        proof = 'same-output alphabet rule chapter\n    ∙ ' + proof
     return [*evidence(book, WORDS_IN_PART, LINES_IN_PART, published()),
             fact('no-fault', f'{fault} alphabet rule chapter ≡ 0', unfolding=published()),
-            fact('pub certified', f'{output} alphabet rule chapter ≡ answer', proof, [output] if few else [])]
+            fact('pub certified', f'{output} alphabet rule chapter ≡ answer', proof)]
 
 
 def text_of(book, answer):
@@ -82,7 +85,7 @@ def text_of(book, answer):
     header = HEADER.format(digest=digest(book), what='input' if isinstance(book, Truncated) else 'book')
     uses, laws = with_laws()
     numbers = '-- ==== The book and the answer\n\n' + '\n'.join(stated(book, lines))
-    proof = '-- ==== Proof\n\n' + '\n'.join(proved(book, matcher.is_refused(book)))
+    proof = '-- ==== Proof\n\n' + '\n'.join(proved(book, matcher.refusal(book) is not None))
     return '\n'.join([header + uses, laws, numbers, proof])
 
 

@@ -22,8 +22,8 @@ PUBLISHED = {
     'report': 'words language automaton operations encoding lines',
 }
 
-# The files of specs/ that speak of a type of the code.
-CODE = {'words': ('Decoded',)}
+# The files of specs/ that serve the code alone: one speaks of a type of the code, the other of what its inner functions are given.
+CODE = {'words': ('Decoded',), 'report': ('Stages',)}
 
 ACCEPTED, REFUSED, COULD_NOT_TELL = 'accepted', 'refused', 'could not tell'
 
@@ -37,6 +37,8 @@ def unfoldable():
     names = {}
     for crate in PUBLISHED:
         for file in sorted((HOME / 'crates' / crate / 'specs').glob('*.antt')):
+            if file.stem in CODE.get(crate, ()):
+                continue
             found = re.findall(r'^ *unfoldable pub (\S+)', file.read_text(encoding='utf-8'), re.MULTILINE)
             if found:
                 names[f'Rattle.{crate}.specs.{file.stem}'] = found
@@ -44,8 +46,8 @@ def unfoldable():
 
 
 def lay_out(scratch, text):
-    """Writes the scratch repository: the published definitions, and the certificate as a crate above them. A definition of what
-    the code has (CODE) is left out: there is no code here."""
+    """Writes the scratch repository: the published definitions, and the certificate as a crate above them. What serves the code
+    alone (CODE) is left out: there is no code here, and no crate of it."""
     for crate in PUBLISHED:
         specs = scratch / 'crates' / crate / 'specs'
         shutil.copytree(HOME / 'crates' / crate / 'specs', specs)

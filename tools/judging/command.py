@@ -4,6 +4,7 @@ import os
 import sys
 from pathlib import Path
 
+from document01 import MARKLIST_MOST, MOST_ELEMENTS
 from . import book, certificate, checker, exchange, exchange_certificate, matcher
 from .notation import NoCertificate
 
@@ -63,8 +64,8 @@ def judge(place, input_file, claim_files):
     claims = [(file, read_lines(file)) for file in claim_files]
     given = book.read_input(content_of(input_file))
     answer = matcher.answer(given)
-    if isinstance(given, book.Book) and len(given.chapter) > book.MARKLIST_MOST:
-        print(f'over {book.MARKLIST_MOST} elements, for which marklist says 9: judged with the limit of {book.MOST_ELEMENTS} that Run has (a board that says `refused 9` follows marklist)')
+    if isinstance(given, book.Book) and len(given.chapter) > MARKLIST_MOST:
+        print(f'over {MARKLIST_MOST} elements, for which marklist says 9: judged with the limit of {MOST_ELEMENTS} that Run has (a board that says `refused 9` follows marklist)')
     if not certify(certificate.text_of(given, answer), place or Path(input_file).name + '.certificate'):
         return COULD_NOT_TELL
     if not claims:

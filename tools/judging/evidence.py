@@ -4,8 +4,10 @@ the law `reported` makes the whole output."""
 from collections import Counter
 from itertools import groupby
 
+from document01 import arity
 from . import matcher
 from .notation import chain, fact, hexadecimal, inline, joined, list_of, listed, part_of
+from .postfix import pop, starts_of
 
 # The steps that are worked out in one fact: the checker's limit is 50,000,000 steps of its own a fact.
 STEPS_IN_FACT = 64
@@ -46,7 +48,7 @@ class Walk:
         for index, word in enumerate(book.chapter):
             if index % words_in_part == 0:
                 self.stacks.append(stack[::-1])
-            children = matcher.pop(stack, matcher.arity(book.alphabet, word))
+            children = pop(stack, arity(book.alphabet, word))
             uses[word, tuple(children)] += 1
             stack.append(self.steps.step(word, children))
             self.sets.append(stack[-1])
@@ -164,4 +166,4 @@ report = record {{
 '''
     return [*table_facts(walk, unfolding), *step_facts(walk), *hit_facts(walk, nodes, words_in_part),
             fact('one-tree', 'trees alphabet 0 chapter 1 ≡ true', unfolding=READING + ['treesBy']),
-            *line_facts(walk, nodes, matcher.starts_of(book.alphabet, book.chapter), lines_in_part), report]
+            *line_facts(walk, nodes, starts_of(book.alphabet, book.chapter), lines_in_part), report]

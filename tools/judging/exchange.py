@@ -4,8 +4,11 @@ certificate then has to prove. Nothing worked out here is trusted."""
 import re
 from typing import NamedTuple
 
-from .book import MOST_ELEMENTS, BadForm, Unfit
-from .matcher import (Steps, arity, constants, is_element, is_entry, kind, low_byte, one_tree, pop, starts_of, state_sets)
+from document01 import arity
+from . import refusals
+from .book import BadForm, Unfit
+from .matcher import Steps, state_sets
+from .postfix import pop, starts_of
 
 # More numbers than this in one list are written into no certificate.
 MOST_NUMBERS = 131_072
@@ -90,68 +93,11 @@ def first_difference(claim, right):
 # ---- the answer
 
 
-def is_table(alphabet, table):
-    if not 1 <= len(table) <= 2048:
-        return False
-    head, states = table[0], table[0] >> 10 & 2047
-    if kind(head) != 8 or head & 0xFFFFFFF >= 1 << 21 or not 1 <= states <= 1024 or head & 1023 >= states:
-        return False
-    sources = 0
-    for word in table[1:]:
-        body, symbol = word & 0xFFFFFFF, word >> 10 & 255
-        if word & 1023 >= states:
-            return False
-        if sources:
-            fits = kind(word) == 11 and body < 1 << 10
-            sources -= 1
-        elif kind(word) == 9:
-            fits = body < 1 << 18 and symbol < len(alphabet)
-            sources = low_byte(alphabet[symbol]) if fits else 0
-        else:
-            fits = kind(word) == 10 and body < 1 << 20 and word >> 10 & 1023 < states
-        if not fits:
-            return False
-    return sources == 0
-
-
-def is_tree(alphabet, words):
-    return all(is_element(alphabet, word) for word in words) and one_tree(alphabet, words)
-
-
 def spliced(call):
     """The new elements, and where the replacement begins."""
     used, element = call.chapter[:call.count[0]], call.element[0]
     start = starts_of(call.alphabet, used)[element]
     return used[:start] + call.replacement + used[element + 1:], start
-
-
-def refusal(call):
-    """The first refusal of Exchange that applies, or 0."""
-    alphabet, table, count = call.alphabet, call.table, call.count[0]
-    used = call.chapter[:count]
-    if not 1 <= len(alphabet) <= 64 or not all(map(is_entry, alphabet)):
-        return 1
-    if not 1 <= len(constants(alphabet)) <= 16:
-        return 2
-    if not is_table(alphabet, table):
-        return 8
-    if not 1 <= count <= min(MOST_ELEMENTS, len(call.chapter)):
-        return 9
-    if not all(is_element(alphabet, word) for word in used):
-        return 10
-    if not one_tree(alphabet, used):
-        return 11
-    size = Steps(table).size
-    if len(call.marks) < count * size:
-        return 12
-    if call.element[0] >= count:
-        return 14
-    if not 1 <= len(call.replacement) <= MOST_ELEMENTS or not is_tree(alphabet, call.replacement):
-        return 15
-    result = len(spliced(call)[0])
-    if result > min(MOST_ELEMENTS, len(call.chapter)) or result * size > len(call.marks):
-        return 16
-    return 0
 
 
 def recompute(call, steps, start):
@@ -179,7 +125,7 @@ def refit(old, words, lent):
 
 
 def left_by(call):
-    number = refusal(call)
+    number = refusals.first(refusals.of_exchange(call))
     if number:
         return Left(['refused', number], call.chapter, call.marks)
     steps = Steps(call.table)

@@ -16,6 +16,7 @@ use Prim.Native.Nat.{{ℕ}}
 use mathlib.Core.Path.{{_≡_, refl}}
 use mathlib.Core.List.{{List, [], _∷_, flatMap, flatten}}
 use Rattle.words.specs.Answer.{{Answer, accepted, refused}}
+use Rattle.operations.specs.ExchangeCall.{{ExchangeCall, exchangeCall}}
 '''
 
 
@@ -33,10 +34,16 @@ def answer_text(answer):
     return f'abbrev pub answer : Answer\nanswer = {value}\n'
 
 
+CALL = '''\
+abbrev pub call : ExchangeCall
+call = exchangeCall alphabet table chapter marks count element replacement
+'''
+
+
 def stated(call, left):
     return [list_of('alphabet', call.alphabet, hexadecimal), list_of('table', call.table, hexadecimal),
             list_of('chapter', call.chapter, hexadecimal), list_of('marks', call.marks), number('count', call.count[0]),
-            number('element', call.element[0]), list_of('replacement', call.replacement, hexadecimal), answer_text(left.answer),
+            number('element', call.element[0]), list_of('replacement', call.replacement, hexadecimal), CALL, answer_text(left.answer),
             list_of('chapterLeft', left.chapter, hexadecimal), list_of('marksLeft', left.marks)]
 
 
@@ -46,8 +53,7 @@ def text_of(call, left):
     names = [name for names in modules.values() for name in names] + ['flatMap', 'flatten']
     claims = {'answers': ('exchangeAnswer', 'answer'), 'leaves-chapter': ('exchangeChapter', 'chapterLeft'),
               'leaves-marks': ('exchangeMarks', 'marksLeft')}
-    equations = {claim: f'{definition} alphabet table chapter marks count element replacement ≡ {right}'
-                 for claim, (definition, right) in claims.items()}
+    equations = {claim: f'{definition} call ≡ {right}' for claim, (definition, right) in claims.items()}
     facts = [fact(claim, equation, unfolding=names) for claim, equation in equations.items()]
     both = '\n    × '.join(f'({equation})' for equation in equations.values())
     return '\n'.join([HEADER.format(digest=digest(call)) + uses, *stated(call, left), *facts,

@@ -1,81 +1,10 @@
 """Finds the answer that a certificate then has to prove. Nothing here is trusted: the checker computes the definition."""
 
-from .book import MOST_ELEMENTS, Truncated
-
-SYMBOL, EMPTY, UNION, PRODUCT, CLOSURE, ELEMENT = 2, 3, 4, 5, 6, 7
-
-
-def kind(word):
-    return word >> 28
-
-
-def low_byte(word):
-    return word & 255
-
-
-def is_entry(word):
-    return kind(word) == 1 and word & 0xFFFFFFF <= 4
-
-
-def constants(alphabet):
-    return [symbol for symbol, word in enumerate(alphabet) if low_byte(word) == 0]
-
-
-def arity(alphabet, word):
-    if kind(word) in (SYMBOL, ELEMENT):
-        symbol = low_byte(word)
-        return low_byte(alphabet[symbol]) if symbol < len(alphabet) else 0
-    return {UNION: 2, PRODUCT: 2, CLOSURE: 1}.get(kind(word), 0)
-
-
-def is_rule_word(alphabet, word):
-    body = word & 0xFFFFFFF
-    if kind(word) == SYMBOL:
-        return body < 256 and body < len(alphabet)
-    if kind(word) in (PRODUCT, CLOSURE):
-        return body < 256 and body in constants(alphabet)
-    return kind(word) in (EMPTY, UNION) and body == 0
-
-
-def is_element(alphabet, word):
-    return kind(word) == ELEMENT and word & 0xFFFFFFF < min(256, len(alphabet))
-
-
-def one_tree(alphabet, words):
-    depth = 0
-    for word in words:
-        if arity(alphabet, word) > depth:
-            return False
-        depth += 1 - arity(alphabet, word)
-    return depth == 1
-
-
-def state_count(alphabet, rule):
-    return sum(1 + (len(constants(alphabet)) if arity(alphabet, word) else 0) for word in rule)
-
-
-def refusal(book):
-    """The first refusal of Compile or Run that applies, or 0."""
-    alphabet, rule, chapter = book
-    if not 1 <= len(alphabet) <= 64 or not all(map(is_entry, alphabet)):
-        return 1
-    if not 1 <= len(constants(alphabet)) <= 16:
-        return 2
-    if not 1 <= len(rule) <= 64:
-        return 3
-    if not all(is_rule_word(alphabet, word) for word in rule):
-        return 4
-    if not one_tree(alphabet, rule):
-        return 5
-    if state_count(alphabet, rule) > 1024:
-        return 6
-    if not 1 <= len(chapter) <= MOST_ELEMENTS:
-        return 9
-    if not all(is_element(alphabet, word) for word in chapter):
-        return 10
-    if not one_tree(alphabet, chapter):
-        return 11
-    return 0
+from document01 import (CLOSURE, EMPTY_MOVE, HEAD, PART, PRODUCT, SYMBOL, SYMBOL_MOVE, UNION, arity, constants, kind, low_byte,
+                        state_in, table_word, upper_in)
+from . import refusals
+from .book import Truncated
+from .postfix import pop, starts_of
 
 
 class Automaton:
@@ -128,34 +57,27 @@ class Automaton:
         return own + [('empty', *move) for move in moves]
 
     def table(self):
-        words = [8 << 28 | self.states << 10 | self.final]
+        words = [table_word(HEAD, self.states, self.final)]
         for name, *fields in self.transitions:
             if name == 'empty':
-                words.append(10 << 28 | fields[0] << 10 | fields[1])
+                words.append(table_word(EMPTY_MOVE, *fields))
             else:
-                words.append(9 << 28 | fields[0] << 10 | fields[2])
-                words += [11 << 28 | state for state in fields[1]]
+                words.append(table_word(SYMBOL_MOVE, fields[0], fields[2]))
+                words += [table_word(PART, 0, state) for state in fields[1]]
         return words
 
 
 def automaton_of(table):
     """States, final state and transitions of a table's words."""
-    states, final, transitions = table[0] >> 10 & 2047, table[0] & 1023, []
+    transitions = []
     for word in table[1:]:
-        if kind(word) == 9:
-            transitions.append(('symbol', word >> 10 & 255, [], word & 1023))
-        elif kind(word) == 10:
-            transitions.append(('empty', word >> 10 & 1023, word & 1023))
-        elif kind(word) == 11:
-            transitions[-1][2].append(word & 1023)
-    return states, final, transitions
-
-
-def pop(stack, count):
-    """Takes the last values from a stack, in their order."""
-    parts = stack[len(stack) - count:]
-    del stack[len(stack) - count:]
-    return parts
+        if kind(word) == SYMBOL_MOVE:
+            transitions.append(('symbol', upper_in(word), [], state_in(word)))
+        elif kind(word) == EMPTY_MOVE:
+            transitions.append(('empty', upper_in(word), state_in(word)))
+        elif kind(word) == PART:
+            transitions[-1][2].append(state_in(word))
+    return upper_in(table[0]), state_in(table[0]), transitions
 
 
 class Steps:
@@ -163,7 +85,7 @@ class Steps:
 
     def __init__(self, table):
         self.states, self.final, transitions = automaton_of(table)
-        self.size = (self.states + 31) // 32
+        self.size = refusals.set_size(table)
         self.on_symbol, self.onward, self.known = {}, {}, {}
         for name, *fields in transitions:
             if name == 'symbol':
@@ -208,26 +130,17 @@ def state_sets(alphabet, steps, chapter):
     return sets
 
 
-def starts_of(alphabet, chapter):
-    """Where each element's subtree begins."""
-    stack, starts = [], []
-    for index, word in enumerate(chapter):
-        children = pop(stack, arity(alphabet, word))
-        stack.append(children[0] if children else index)
-        starts.append(stack[-1])
-    return starts
-
-
-def is_refused(book):
-    return isinstance(book, Truncated) or refusal(book) != 0
+def refusal(book):
+    """The number by which a book is refused, or None."""
+    if isinstance(book, Truncated):
+        return 0
+    return refusals.first(refusals.of_book(book)) or None
 
 
 def answer(book):
-    """The lines that marklist prints, with Run's limit of 4,096 elements in the place of its own."""
-    if isinstance(book, Truncated):
-        return b'refused 0\n'
+    """The lines that marklist prints, with Run's limit of elements in the place of its own."""
     number = refusal(book)
-    if number:
+    if number is not None:
         return b'refused %d\n' % number
     steps = Steps(Automaton(book.alphabet, book.rule).table())
     sets, starts = state_sets(book.alphabet, steps, book.chapter), starts_of(book.alphabet, book.chapter)

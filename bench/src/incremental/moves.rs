@@ -2,7 +2,8 @@
 //! each state together, in flat vectors; and the textbook node step over them.
 
 use super::shape::Alphabet;
-use peer::words::{STATE_LIMIT, SYMBOL_LIMIT, TABLE_LIMIT};
+use peer::kinds::{self, kind, CHILD, EPSILON, HEAD, TRANSITION};
+use peer::limits::{STATE_LIMIT, SYMBOL_LIMIT, TABLE_LIMIT};
 
 pub struct Moves {
     pub width: usize,
@@ -15,17 +16,14 @@ pub struct Moves {
     epsilons: Vec<u16>,
 }
 
-const HEAD: u32 = 8;
-const TRANSITION: u32 = 9;
-const EPSILON: u32 = 10;
-const CHILD: u32 = 11;
-
+/// The state in a word.
 fn low(word: u32) -> u32 {
-    word & 0x3ff
+    kinds::state(word) as u32
 }
 
+/// All above the state: where spare bits are set, no state and no symbol is so large.
 fn high(word: u32) -> u32 {
-    word << 4 >> 14
+    kinds::above_state(word, kinds::FIELD_BITS - kinds::STATE_BITS) as u32
 }
 
 impl Moves {
@@ -33,7 +31,7 @@ impl Moves {
     pub fn check(alphabet: &Alphabet, table: &[u32]) -> Option<Moves> {
         let (head, words) = table.split_first()?;
         let states = high(*head);
-        if table.len() > TABLE_LIMIT || *head >> 28 != HEAD {
+        if table.len() > TABLE_LIMIT || kind(*head) != HEAD {
             return None;
         }
         if states > STATE_LIMIT as u32 || low(*head) >= states {
@@ -60,12 +58,12 @@ impl Moves {
             if low(word) >= states {
                 return None;
             }
-            match word >> 28 {
+            match kind(word) {
                 EPSILON if high(word) < states => self.by_state[high(word) as usize] += 1,
                 TRANSITION if alphabet.has(high(word)) => {
                     let end = place + alphabet.arity(high(word));
                     let children = words.get(place..end)?;
-                    let is_child = |word: &u32| (word ^ CHILD << 28) < states;
+                    let is_child = |word: &u32| (word ^ kinds::word(CHILD)) < states;
                     if !children.iter().all(is_child) {
                         return None;
                     }
@@ -86,7 +84,7 @@ impl Moves {
         let mut place = 0;
         while place < words.len() {
             let word = words[place];
-            if word >> 28 == EPSILON {
+            if kind(word) == EPSILON {
                 let at = &mut self.by_state[high(word) as usize];
                 *at -= 1;
                 self.epsilons[usize::from(*at)] = low(word) as u16;

@@ -1,10 +1,8 @@
 //! The alphabet and the trees over it, checked: one pass over a tree's words leaves one number a word, from which the
 //! subtree, the parent and the children of a node are found.
 
-use peer::words::{ARITY_LIMIT, CONSTANT_LIMIT, SYMBOL_LIMIT};
-
-const ENTRY: u32 = 1 << 28;
-const NODE: u32 = 7 << 28;
+use peer::kinds::{self, ENTRY, NODE};
+use peer::limits::{ARITY_LIMIT, CONSTANT_LIMIT, SYMBOL_LIMIT};
 
 /// A checked alphabet: how many symbols it has, and their arities.
 pub struct Alphabet {
@@ -21,7 +19,7 @@ impl Alphabet {
         let mut arities = [0; SYMBOL_LIMIT];
         let mut constants = 0;
         for (arity, word) in arities.iter_mut().zip(words) {
-            let own = word ^ ENTRY;
+            let own = word ^ kinds::word(ENTRY);
             if own > ARITY_LIMIT as u32 {
                 return Err(1);
             }
@@ -49,7 +47,7 @@ impl Alphabet {
 
 /// The symbol of an element's word.
 pub fn symbol(word: u32) -> u32 {
-    word ^ NODE
+    word ^ kinds::word(NODE)
 }
 
 /// What is wrong with a tree's words: a word that is no element or has an unknown symbol, or else their shape.
@@ -71,7 +69,7 @@ pub struct Subtree {
 }
 
 impl Shape {
-    /// Checks a tree of at most 4,096 words.
+    /// Checks a tree of no more words than a tree may have.
     pub fn check(alphabet: &Alphabet, tree: &[u32]) -> Result<Shape, Fault> {
         let mut open = vec![0; tree.len()];
         let mut last = 0;

@@ -1,17 +1,20 @@
 //! Two faults at once: for each operation, an accepted call is given every pair of faults, and the number that document
-//! 01 names first must be the answer. The order of a pair is checked from the document's list of numbers, beside the
-//! comparison with the model.
+//! 01 names first must be the answer. Every two numbers of the operation must have met in some call.
 
 use crate::call::{Call, Operation};
 use crate::cases::damage::accepted_calls;
 use crate::cases::examples::{self, A, D, G, H};
 use crate::compare::Comparison;
+use crate::limits::{ARITY_LIMIT, CONSTANT_LIMIT, EXPRESSION_LIMIT, NODE_LIMIT, SYMBOL_LIMIT, TABLE_LIMIT};
 use crate::refusals;
 use crate::words::{self, entry_word, node_word, Operator, TableWord};
 use std::collections::BTreeSet;
 
 /// A change that gives a call the fault with this number, whatever else is wrong with it.
 type Fault = (u32, fn(&mut Call));
+
+/// More nodes than a slice needs for any tree.
+const ROOM: usize = 2 * NODE_LIMIT;
 
 pub fn compare(comparison: &mut Comparison) {
     for call in accepted_calls(
@@ -62,35 +65,42 @@ fn pairs(comparison: &mut Comparison, accepted: &Call) -> BTreeSet<(u32, u32)> {
 }
 
 fn faults(operation: Operation) -> Vec<Fault> {
-    let mut all: Vec<Fault> = vec![
-        (1, |call| call.alphabet.push(entry_word(5))),
+    let parts: &[fn() -> Vec<Fault>] = match operation {
+        Operation::Compile => &[alphabet, compile],
+        Operation::Run => &[alphabet, table, nodes, sets, run],
+        Operation::List => &[alphabet, table, count, sets, list],
+        Operation::Exchange => &[alphabet, table, count, nodes, sets, exchange],
+    };
+    parts.iter().flat_map(|part| part()).collect()
+}
+
+fn alphabet() -> Vec<Fault> {
+    vec![
+        (1, |call| call.alphabet.push(entry_word(ARITY_LIMIT + 1))),
         (1, |call| call.alphabet.push(entry_word(1) | 1 << 8)),
         (1, |call| call.alphabet.push(node_word(0))),
         (1, |call| call.alphabet.clear()),
-        (1, |call| pad(&mut call.alphabet, 65, entry_word(1))),
-        (2, |call| add_constants(call, 17)),
+        (1, |call| pad(&mut call.alphabet, SYMBOL_LIMIT + 1, entry_word(1))),
+        (2, |call| add_constants(call, CONSTANT_LIMIT + 1)),
         (2, |call| call.alphabet = vec![entry_word(1); 7]),
-    ];
-    all.extend(match operation {
-        Operation::Compile => compile_faults(),
-        Operation::Run => [table_faults(), run_faults()].concat(),
-        Operation::List => [table_faults(), list_faults()].concat(),
-        Operation::Exchange => [table_faults(), exchange_faults()].concat(),
-    });
-    all
+    ]
 }
 
-fn compile_faults() -> Vec<Fault> {
+fn compile() -> Vec<Fault> {
     vec![
         (3, |call| call.expression.clear()),
         (3, |call| {
-            pad(&mut call.expression, 65, Operator::Closure(A).word());
-            pad(&mut call.table, 2000, 0);
+            pad(
+                &mut call.expression,
+                EXPRESSION_LIMIT + 1,
+                Operator::Closure(A).word(),
+            );
+            pad(&mut call.table, TABLE_LIMIT, 0);
         }),
         (3, |call| {
-            call.expression = vec![Operator::Symbol(D).word(); 33];
-            pad(&mut call.expression, 65, Operator::Union.word());
-            pad(&mut call.table, 2000, 0);
+            call.expression = vec![Operator::Symbol(D).word(); EXPRESSION_LIMIT / 2 + 1];
+            pad(&mut call.expression, EXPRESSION_LIMIT + 1, Operator::Union.word());
+            pad(&mut call.table, TABLE_LIMIT, 0);
         }),
         (4, |call| {
             put_last(&mut call.expression, Operator::Closure(200).word())
@@ -106,17 +116,17 @@ fn compile_faults() -> Vec<Fault> {
             put(&mut call.expression, 0, Operator::Closure(A).word())
         }),
         (6, |call| {
-            add_constants(call, 16);
+            add_constants(call, CONSTANT_LIMIT);
             call.expression = vec![Operator::Symbol(D).word()];
-            pad(&mut call.expression, 62, Operator::Closure(D).word());
-            pad(&mut call.table, 2000, 0);
+            pad(&mut call.expression, 1 + 61, Operator::Closure(D).word());
+            pad(&mut call.table, TABLE_LIMIT, 0);
         }),
         (7, |call| call.table.truncate(35)),
         (7, |call| call.table.clear()),
     ]
 }
 
-fn table_faults() -> Vec<Fault> {
+fn table() -> Vec<Fault> {
     vec![
         (8, |call| call.table.clear()),
         (8, |call| {
@@ -152,73 +162,73 @@ fn table_faults() -> Vec<Fault> {
         (8, |call| {
             pad(
                 &mut call.table,
-                2049,
+                TABLE_LIMIT + 1,
                 TableWord::Epsilon { from: 0, to: 0 }.word(),
             )
         }),
     ]
 }
 
-fn run_faults() -> Vec<Fault> {
+fn run() -> Vec<Fault> {
     vec![
         (9, |call| call.tree.clear()),
         (9, |call| {
-            pad(&mut call.tree, 4097, node_word(G));
-            pad(&mut call.sets, 5000, 0);
+            pad(&mut call.tree, NODE_LIMIT + 1, node_word(G));
+            pad(&mut call.sets, ROOM, 0);
         }),
-        (10, |call| put(&mut call.tree, 0, node_word(200))),
-        (10, |call| set_bit(&mut call.tree, 0, 8)),
-        (10, |call| put(&mut call.tree, 0, Operator::Symbol(A).word())),
         (11, |call| call.tree.push(node_word(A))),
         (11, |call| call.tree.insert(0, node_word(G))),
-        (12, |call| call.sets.truncate(6)),
-        (12, |call| call.sets.clear()),
     ]
 }
 
-fn list_faults() -> Vec<Fault> {
+fn count() -> Vec<Fault> {
+    vec![(9, |call| call.count = 0), (9, |call| call.count = usize::MAX)]
+}
+
+fn nodes() -> Vec<Fault> {
     vec![
-        (9, |call| call.count = 0),
+        (10, |call| put(&mut call.tree, 0, node_word(200))),
+        (10, |call| set_bit(&mut call.tree, 0, 8)),
+        (10, |call| put(&mut call.tree, 0, Operator::Symbol(A).word())),
+    ]
+}
+
+fn sets() -> Vec<Fault> {
+    vec![(12, |call| call.sets.truncate(6)), (12, |call| call.sets.clear())]
+}
+
+fn list() -> Vec<Fault> {
+    vec![
         (9, |call| {
-            call.count = 4097;
-            pad(&mut call.sets, 5000, 0);
-            pad(&mut call.list, 5000, 0);
+            call.count = NODE_LIMIT + 1;
+            pad(&mut call.sets, ROOM, 0);
+            pad(&mut call.list, ROOM, 0);
         }),
-        (9, |call| call.count = usize::MAX),
         (9, |call| call.count = (1 << 32) + 7),
-        (12, |call| call.sets.truncate(6)),
-        (12, |call| call.sets.clear()),
         (13, |call| call.list.truncate(6)),
         (13, |call| call.list.clear()),
     ]
 }
 
-fn exchange_faults() -> Vec<Fault> {
+fn exchange() -> Vec<Fault> {
     vec![
-        (9, |call| call.count = 0),
         (9, |call| {
             call.tree.truncate(7);
             call.count = 8;
         }),
         (9, |call| {
             call.tree.truncate(7);
-            pad(&mut call.tree, 5000, node_word(G));
-            pad(&mut call.sets, 5000, 0);
-            call.count = 4097;
+            pad(&mut call.tree, ROOM, node_word(G));
+            pad(&mut call.sets, ROOM, 0);
+            call.count = NODE_LIMIT + 1;
         }),
-        (9, |call| call.count = usize::MAX),
-        (10, |call| put(&mut call.tree, 0, node_word(200))),
-        (10, |call| set_bit(&mut call.tree, 0, 8)),
-        (10, |call| put(&mut call.tree, 0, Operator::Symbol(A).word())),
         (10, |call| put(&mut call.tree, 3, node_word(200))),
         (11, |call| put(&mut call.tree, 0, node_word(G))),
         (11, |call| put(&mut call.tree, 6, node_word(H))),
-        (12, |call| call.sets.truncate(6)),
         (12, |call| {
             call.node = 4;
             call.sets.truncate(6);
         }),
-        (12, |call| call.sets.clear()),
         (14, |call| call.node = call.count),
         (14, |call| call.node = usize::MAX),
         (14, |call| call.node = (1 << 32) + 3),
@@ -226,16 +236,18 @@ fn exchange_faults() -> Vec<Fault> {
         (15, |call| put(&mut call.replacement, 0, node_word(200))),
         (15, |call| call.replacement.insert(0, node_word(A))),
         (15, |call| call.replacement.insert(0, node_word(G))),
-        (15, |call| pad(&mut call.replacement, 4097, node_word(G))),
+        (15, |call| {
+            pad(&mut call.replacement, NODE_LIMIT + 1, node_word(G))
+        }),
         (16, |call| pad(&mut call.replacement, 12, node_word(G))),
         (16, |call| {
             call.sets.truncate(7);
             pad(&mut call.replacement, 8, node_word(G));
         }),
         (16, |call| {
-            pad(&mut call.tree, 6000, 0);
-            pad(&mut call.sets, 6000, 0);
-            pad(&mut call.replacement, 4096, node_word(G));
+            pad(&mut call.tree, ROOM, 0);
+            pad(&mut call.sets, ROOM, 0);
+            pad(&mut call.replacement, NODE_LIMIT, node_word(G));
         }),
     ]
 }
@@ -271,6 +283,6 @@ fn add_constants(call: &mut Call, count: usize) {
         call.alphabet.push(entry_word(0));
     }
     if call.operation == Operation::Compile {
-        pad(&mut call.table, 2000, 0);
+        pad(&mut call.table, TABLE_LIMIT, 0);
     }
 }

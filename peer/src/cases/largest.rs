@@ -1,4 +1,4 @@
-//! The largest compiled table: no rule takes more than 1,147 words, and one takes as many.
+//! The largest compiled table: no rule takes more words than document 01 says, and one takes as many.
 //!
 //! Every table word but the head belongs to one rule word. Into each entry of a rule word leads exactly one word: from
 //! the entry of the word above, for F of a product and its c from G's exit, and for the last word from the constants. A
@@ -11,14 +11,12 @@ use crate::call::Call;
 use crate::chance::Random;
 use crate::compare::Comparison;
 use crate::generate;
-use crate::words::{self, entry_word, Operator, CONSTANT_LIMIT, EXPRESSION_LIMIT, STATE_LIMIT};
-
-/// Document 01's figure.
-const LARGEST: usize = 1147;
+use crate::limits::{ARITY_LIMIT, COMPILED_LIMIT, CONSTANT_LIMIT, EXPRESSION_LIMIT, STATE_LIMIT};
+use crate::words::{entry_word, Operator};
 
 /// The most table words a rule word of this arity takes beside those into its entries:
 /// a closure for one part, and a symbol for more.
-const MOST_OWN: [usize; 5] = [0, 3, 3, 4, 5];
+const MOST_OWN: [usize; ARITY_LIMIT + 1] = [0, 3, 3, 4, 5];
 
 /// The most words of a compiled table over so many constants.
 fn most_words(constants: usize) -> usize {
@@ -36,16 +34,18 @@ fn most_words(constants: usize) -> usize {
     most
 }
 
-/// The most table words with so many rule words of arity 1 to 4; None beyond the limits.
-fn words_with(constants: usize, inner: [usize; 4]) -> Option<usize> {
+/// The most table words with so many rule words of each arity from 1 on; None beyond the limits.
+fn words_with(constants: usize, inner: [usize; ARITY_LIMIT]) -> Option<usize> {
     let count: usize = inner.iter().sum();
-    let parts: usize = (0..4).map(|place| (place + 1) * inner[place]).sum();
+    let parts: usize = (0..ARITY_LIMIT).map(|place| (place + 1) * inner[place]).sum();
     let leaves = 1 + parts - count;
     let states = count * (1 + constants) + leaves;
     if count + leaves > EXPRESSION_LIMIT || states > STATE_LIMIT {
         return None;
     }
-    let own: usize = (0..4).map(|place| inner[place] * MOST_OWN[place + 1]).sum();
+    let own: usize = (0..ARITY_LIMIT)
+        .map(|place| inner[place] * MOST_OWN[place + 1])
+        .sum();
     Some(1 + count * constants + leaves + own)
 }
 
@@ -61,10 +61,12 @@ pub fn largest() -> (Vec<u32>, Vec<u32>) {
 
 pub fn compare(comparison: &mut Comparison, seed: u64, cases: u64) {
     let bounds: Vec<usize> = (1..=CONSTANT_LIMIT).map(most_words).collect();
-    let is_largest = bounds.iter().max() == Some(&LARGEST);
-    comparison.check("the most table words are not 1,147", is_largest, || {
-        format!("    {bounds:?}")
-    });
+    let is_largest = bounds.iter().max() == Some(&COMPILED_LIMIT);
+    comparison.check(
+        "the most table words are not document 01's figure",
+        is_largest,
+        || format!("    {bounds:?}"),
+    );
     attained(comparison);
     comparison.random_cases("long rules", seed, cases, |comparison, _, random| {
         near_the_limits(comparison, random, &bounds);
@@ -73,28 +75,34 @@ pub fn compare(comparison: &mut Comparison, seed: u64, cases: u64) {
 
 fn attained(comparison: &mut Comparison) {
     let (alphabet, expression) = largest();
-    for (length, number) in [(LARGEST - 1, 7), (LARGEST, 0), (LARGEST + 1, 0)] {
+    for (length, number) in [
+        (COMPILED_LIMIT - 1, 7),
+        (COMPILED_LIMIT, 0),
+        (COMPILED_LIMIT + 1, 0),
+    ] {
         let call = Call::compile(&alphabet, &expression, vec![0; length]);
         let answer = comparison.call("the largest table differs", &call);
-        let is_attained = answer.number == number && (number != 0 || answer.values[0] as usize == LARGEST);
-        comparison.check("the largest table has not 1,147 words", is_attained, || {
-            call.to_string()
-        });
+        let is_attained =
+            answer.number == number && (number != 0 || answer.values[0] as usize == COMPILED_LIMIT);
+        comparison.check(
+            "the largest table has not document 01's figure of words",
+            is_attained,
+            || call.to_string(),
+        );
     }
 }
 
-/// A long rule over many constants, in a slice of 1,147 words: 7 may not be the answer.
+/// A long rule over many constants, in a slice for the largest table: 7 may not be the answer.
 fn near_the_limits(comparison: &mut Comparison, random: &mut Random, bounds: &[usize]) {
     let constants = random.between(12, CONSTANT_LIMIT);
     let mut alphabet = vec![entry_word(0); constants];
-    alphabet.extend((1..=4).map(entry_word));
+    alphabet.extend((1..=ARITY_LIMIT).map(entry_word));
     let budget = random.between(50, EXPRESSION_LIMIT);
     let expression = generate::expression(random, &alphabet, budget);
-    let call = Call::compile(&alphabet, &expression, vec![0; LARGEST]);
+    let call = Call::compile(&alphabet, &expression, vec![0; COMPILED_LIMIT]);
     let answer = comparison.call("a rule near the limits has another table", &call);
     let own = automaton::table(&alphabet, &expression).map_or(0, |table| table.len());
-    let within =
-        automaton::states(&alphabet, &expression) > words::STATE_LIMIT || own <= bounds[constants - 1];
+    let within = automaton::states(&alphabet, &expression) > STATE_LIMIT || own <= bounds[constants - 1];
     comparison.check(
         "a table is longer than the bound",
         within && answer.number != 7,

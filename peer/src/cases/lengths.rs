@@ -8,8 +8,14 @@ use crate::cases::limits::{alphabet, expect, run_and_list};
 use crate::chance::Random;
 use crate::compare::Comparison;
 use crate::generate;
+use crate::limits::{ARITY_LIMIT, NODE_LIMIT};
 use crate::postfix;
 use crate::words::{self, entry_word, node_word, Operator, TableWord};
+
+const MOST: usize = NODE_LIMIT;
+
+/// More nodes than any tree has.
+const ROOM: usize = MOST + MOST / 4;
 
 pub fn compare(comparison: &mut Comparison) {
     trees(comparison);
@@ -23,7 +29,7 @@ fn chain(nodes: usize) -> Vec<u32> {
     postfix::chain(node_word(0), node_word(1), nodes)
 }
 
-/// Chains and random trees of up to 4,096 nodes and one more.
+/// Chains and random trees of up to the most nodes and one more.
 fn trees(comparison: &mut Comparison) {
     let own = [0, 1, 2, 4, 0].map(entry_word);
     let rule = words::operator_words(&[
@@ -36,14 +42,15 @@ fn trees(comparison: &mut Comparison) {
         Operator::Closure(0),
     ]);
     let table = automaton::table(&own, &rule).expect("an expression");
-    for (nodes, number) in [(0, 9), (1, 0), (4095, 0), (4096, 0), (4097, 9), (9000, 9)] {
+    let lengths = [0, 1, MOST - 1, MOST, MOST + 1, 2 * MOST];
+    for (nodes, number) in lengths.into_iter().zip([9, 0, 0, 0, 9, 9]) {
         let call = Call::run(&own, &table, &chain(nodes), vec![3; 2 * nodes + 2]);
         expect(comparison, "a tree's length is judged otherwise", &call, number);
         let call = Call::list(&own, &table, nodes, &vec![3; 2 * nodes + 2], vec![3; nodes + 2]);
         expect(comparison, "a list's count is judged otherwise", &call, number);
     }
     for seed in 0..4 {
-        let tree = generate::tree(&mut Random::new(seed), &own, 4096);
+        let tree = generate::tree(&mut Random::new(seed), &own, MOST);
         run_and_list(comparison, &own, &table, &words::node_words(&tree));
     }
 }
@@ -54,9 +61,9 @@ fn parts(comparison: &mut Comparison) {
         states: 1,
         accepting: 0,
     };
-    for arity in 0..=4 {
+    for arity in 0..=ARITY_LIMIT {
         let own = [0, arity].map(entry_word);
-        for leaves in 0..6 {
+        for leaves in 0..ARITY_LIMIT + 2 {
             let mut tree = vec![node_word(0); leaves];
             tree.push(node_word(1));
             comparison.call(
@@ -99,8 +106,8 @@ fn slices(comparison: &mut Comparison) {
         (6, 0),
         (7, 0),
         (8, 12),
-        (4096, 12),
-        (4097, 9),
+        (MOST, 12),
+        (MOST + 1, 9),
         (usize::MAX, 9),
     ] {
         let call = Call::list(&own, &table, count, &[1; 7], vec![1; 7]);
@@ -116,24 +123,24 @@ fn exchanges(comparison: &mut Comparison) {
     let wrong = "an exchange at a limit is judged otherwise";
     // old nodes, chapter slice, marks slice, element, replacement nodes, number
     let cases = [
-        (4096, 4096, 4096, 0, 1, 0),
-        (4096, 5000, 5000, 0, 1, 0),
-        (4096, 5000, 5000, 0, 2, 16),
-        (4096, 5000, 5000, 1, 2, 0),
-        (4096, 5000, 5000, 4095, 4096, 0),
-        (4096, 5000, 5000, 4095, 4097, 15),
-        (4096, 5000, 5000, 4096, 1, 14),
-        (4097, 5000, 5000, 0, 1, 9),
-        (4096, 4096, 4095, 0, 1, 12),
-        (4096, 4096, 4096, 4095, 1, 0),
+        (MOST, MOST, MOST, 0, 1, 0),
+        (MOST, ROOM, ROOM, 0, 1, 0),
+        (MOST, ROOM, ROOM, 0, 2, 16),
+        (MOST, ROOM, ROOM, 1, 2, 0),
+        (MOST, ROOM, ROOM, MOST - 1, MOST, 0),
+        (MOST, ROOM, ROOM, MOST - 1, MOST + 1, 15),
+        (MOST, ROOM, ROOM, MOST, 1, 14),
+        (MOST + 1, ROOM, ROOM, 0, 1, 9),
+        (MOST, MOST, MOST - 1, 0, 1, 12),
+        (MOST, MOST, MOST, MOST - 1, 1, 0),
         (1, 1, 1, 0, 1, 0),
         (1, 1, 1, 0, 2, 16),
         (1, 2, 1, 0, 2, 16),
         (1, 1, 2, 0, 2, 16),
         (1, 2, 2, 0, 2, 0),
-        (1, 4096, 4096, 0, 4096, 0),
-        (2, 4097, 4097, 0, 4096, 16),
-        (1, 4096, 4095, 0, 4096, 16),
+        (1, MOST, MOST, 0, MOST, 0),
+        (2, MOST + 1, MOST + 1, 0, MOST, 16),
+        (1, MOST, MOST - 1, 0, MOST, 16),
         (10, 12, 12, 3, 6, 0),
         (10, 12, 12, 3, 7, 16),
         (10, 12, 11, 3, 6, 16),

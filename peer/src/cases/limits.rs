@@ -9,6 +9,9 @@ use crate::compare::Comparison;
 use crate::generate;
 use crate::language::membership::Membership;
 use crate::language::Expression;
+use crate::limits::{
+    ARITY_LIMIT, CONSTANT_LIMIT, EXPRESSION_LIMIT, SET_LIMIT, STATE_LIMIT, SYMBOL_LIMIT, TABLE_LIMIT,
+};
 use crate::marks::Table;
 use crate::postfix;
 use crate::words::{self, entry_word, node_word, Operator, TableWord};
@@ -39,23 +42,25 @@ pub fn expect(comparison: &mut Comparison, wrong: &str, call: &Call, number: u32
 }
 
 fn alphabets(comparison: &mut Comparison) {
+    // constants, symbols in all, number
     let lengths = [
         (0, 0, 1),
-        (1, 0, 0),
-        (1, 63, 0),
-        (1, 64, 1),
-        (16, 48, 0),
-        (16, 49, 1),
-        (17, 0, 2),
-        (17, 47, 2),
-        (64, 0, 2),
-        (65, 0, 1),
+        (1, 1, 0),
+        (1, SYMBOL_LIMIT, 0),
+        (1, SYMBOL_LIMIT + 1, 1),
+        (CONSTANT_LIMIT, SYMBOL_LIMIT, 0),
+        (CONSTANT_LIMIT, SYMBOL_LIMIT + 1, 1),
+        (CONSTANT_LIMIT + 1, CONSTANT_LIMIT + 1, 2),
+        (CONSTANT_LIMIT + 1, SYMBOL_LIMIT, 2),
+        (SYMBOL_LIMIT, SYMBOL_LIMIT, 2),
+        (SYMBOL_LIMIT + 1, SYMBOL_LIMIT + 1, 1),
         (0, 1, 2),
-        (0, 64, 2),
-        (16, 300, 1),
+        (0, SYMBOL_LIMIT, 2),
+        (CONSTANT_LIMIT, 5 * SYMBOL_LIMIT, 1),
     ];
-    for (constants, unary, number) in lengths {
-        let call = Call::compile(&alphabet(constants, unary), &closures(0), vec![0; 10]);
+    for (constants, symbols, number) in lengths {
+        let own = alphabet(constants, symbols - constants);
+        let call = Call::compile(&own, &closures(0), vec![0; 10]);
         expect(
             comparison,
             "an alphabet's length is judged otherwise",
@@ -63,23 +68,26 @@ fn alphabets(comparison: &mut Comparison) {
             number,
         );
     }
-    for arity in 0..10 {
+    for arity in 0..2 * ARITY_LIMIT + 2 {
         let own = [entry_word(0), entry_word(arity)];
         let call = Call::compile(&own, &closures(0), vec![0; 10]);
-        let number = if arity <= 4 { 0 } else { 1 };
+        let number = if arity <= ARITY_LIMIT { 0 } else { 1 };
         expect(comparison, "an arity is judged otherwise", &call, number);
     }
-    for symbol in [62, 63, 64, 65, 127, 128, 192, 255] {
+    let last = SYMBOL_LIMIT - 1;
+    for symbol in [last - 1, last, last + 1, last + 2, 127, 128, 192, 255] {
         let rule = [Operator::Symbol(0).word(), Operator::Symbol(symbol).word()];
-        let call = Call::compile(&alphabet(1, 63), &rule, vec![0; 20]);
-        let number = if symbol <= 63 { 0 } else { 4 };
+        let call = Call::compile(&alphabet(1, last), &rule, vec![0; 20]);
+        let number = if symbol <= last { 0 } else { 4 };
         expect(comparison, "a symbol number is judged otherwise", &call, number);
     }
 }
 
 fn rules(comparison: &mut Comparison) {
-    for (length, number) in [(0, 3), (1, 0), (2, 0), (63, 0), (64, 0), (65, 3), (300, 3)] {
-        let mut rule = closures(300);
+    const MOST: usize = EXPRESSION_LIMIT;
+    let lengths = [0, 1, 2, MOST - 1, MOST, MOST + 1, 5 * MOST];
+    for (length, number) in lengths.into_iter().zip([3, 0, 0, 0, 0, 3, 3]) {
+        let mut rule = closures(length);
         rule.truncate(length);
         let call = Call::compile(&alphabet(2, 1), &rule, vec![0; 1000]);
         expect(comparison, "a rule's length is judged otherwise", &call, number);
@@ -89,11 +97,12 @@ fn rules(comparison: &mut Comparison) {
 /// 60 words with entries and 4 constants over 16 constants; 61 closures over one constant.
 fn states(comparison: &mut Comparison) {
     let (sixteen, full) = largest();
-    let call = Call::compile(&sixteen, &full, vec![7; 1200]);
+    let call = Call::compile(&sixteen, &full, vec![7; TABLE_LIMIT]);
     let answer = comparison.call("1,024 states are judged otherwise", &call);
+    // Behind the last word's exit are its entries.
     let head = TableWord::Head {
-        states: 1024,
-        accepting: 1007,
+        states: STATE_LIMIT,
+        accepting: STATE_LIMIT - 1 - CONSTANT_LIMIT,
     };
     comparison.check(
         "60 words with entries and 4 constants are not 1,024 states",
@@ -121,7 +130,7 @@ fn states(comparison: &mut Comparison) {
             automaton::states(&sixteen, &rule) == states,
             String::new,
         );
-        let call = Call::compile(&sixteen, &rule, vec![0; 2000]);
+        let call = Call::compile(&sixteen, &rule, vec![0; TABLE_LIMIT]);
         expect(
             comparison,
             "the number of states is judged otherwise",
@@ -134,50 +143,57 @@ fn states(comparison: &mut Comparison) {
 fn tables(comparison: &mut Comparison) {
     let own = alphabet(1, 1);
     let tree = [node_word(0), node_word(1)];
-    for states in [0, 1, 31, 32, 33, 64, 65, 1023, 1024, 1025, 2047] {
-        for accepting in [0, 1, states.max(1) - 1, states.min(1023)] {
+    const LAST: usize = STATE_LIMIT - 1;
+    for states in [0, 1, 31, 32, 33, 64, 65, LAST, STATE_LIMIT, STATE_LIMIT + 1, 2047] {
+        for accepting in [0, 1, states.max(1) - 1, states.min(LAST)] {
             let head = TableWord::Head {
                 states,
-                accepting: accepting.min(1023),
+                accepting: accepting.min(LAST),
             }
             .word();
-            let last = TableWord::Transition {
+            let into_last = TableWord::Transition {
                 symbol: 0,
-                target: states.clamp(1, 1024) - 1,
+                target: states.clamp(1, STATE_LIMIT) - 1,
             }
             .word();
-            run_and_list(comparison, &own, &[head, last], &tree);
+            run_and_list(comparison, &own, &[head, into_last], &tree);
         }
     }
-    for length in [1, 2, 2047, 2048, 2049, 3000] {
-        let mut table = vec![TableWord::Head {
-            states: 1024,
-            accepting: 1023,
-        }
-        .word()];
+    for length in [
+        1,
+        2,
+        TABLE_LIMIT - 1,
+        TABLE_LIMIT,
+        TABLE_LIMIT + 1,
+        2 * TABLE_LIMIT,
+    ] {
+        let mut table = vec![FULL_HEAD.word()];
         table.extend((1..length).map(|place| {
-            let from = (place * 5) % 1024;
+            let from = (place * 5) % STATE_LIMIT;
             TableWord::Epsilon {
                 from,
-                to: (from + 5) % 1024,
+                to: (from + 5) % STATE_LIMIT,
             }
             .word()
         }));
-        let call = Call::run(&own, &table, &tree, vec![1; 64]);
-        let number = if length <= 2048 { 0 } else { 8 };
+        let call = Call::run(&own, &table, &tree, vec![1; tree.len() * SET_LIMIT]);
+        let number = if length <= TABLE_LIMIT { 0 } else { 8 };
         expect(comparison, "a table's length is judged otherwise", &call, number);
     }
     run_and_list(comparison, &own, &long_chain(), &tree);
 }
 
-/// Epsilon transitions through all 1,024 states, the last written first.
+/// The head of a table with the most states, of which the last accepts.
+const FULL_HEAD: TableWord = TableWord::Head {
+    states: STATE_LIMIT,
+    accepting: STATE_LIMIT - 1,
+};
+
+/// Epsilon transitions through the most states, the last written first.
 fn long_chain() -> Vec<u32> {
-    let mut table = vec![TableWord::Head {
-        states: 1024,
-        accepting: 1023,
-    }];
+    let mut table = vec![FULL_HEAD];
     table.extend(
-        (0..1023)
+        (0..STATE_LIMIT - 1)
             .rev()
             .map(|from| TableWord::Epsilon { from, to: from + 1 }),
     );
@@ -185,12 +201,12 @@ fn long_chain() -> Vec<u32> {
     table.into_iter().map(TableWord::word).collect()
 }
 
-/// Runs and lists, with room for 32 words a state set, which is the most.
+/// Runs and lists, with room for the largest state sets.
 pub fn run_and_list(comparison: &mut Comparison, alphabet: &[u32], table: &[u32], tree: &[u32]) {
     let nodes = tree.len();
     let marked = comparison.call(
         "a table or tree at a limit has other marks",
-        &Call::run(alphabet, table, tree, vec![9; nodes * 32]),
+        &Call::run(alphabet, table, tree, vec![9; nodes * SET_LIMIT]),
     );
     comparison.call(
         "a table or tree at a limit has another list",

@@ -9,6 +9,7 @@ use crate::draw;
 use crate::driver::{Outcome, Program};
 use crate::generate;
 use crate::language::Expression;
+use crate::limits::{CONSTANT_LIMIT, EXPRESSION_LIMIT, NODE_LIMIT, PROGRAM_LIMIT, SYMBOL_LIMIT};
 use crate::marklist::{encode, expected};
 use crate::postfix;
 use crate::words::{self, entry_word, node_word, Operator};
@@ -105,7 +106,8 @@ fn early_ends(comparison: &mut Comparison, program: &mut Compared) {
     for length in 0..bytes.len() {
         same(comparison, program, wrong, &bytes[..length], true);
     }
-    for count in [257, 0x4000_0000, 0x4000_0001, 0x7fff_ffff, 0x8000_0000, u32::MAX] {
+    let over = PROGRAM_LIMIT as u32 + 1;
+    for count in [over, 0x4000_0000, 0x4000_0001, 0x7fff_ffff, 0x8000_0000, u32::MAX] {
         for place in 0..3 {
             let mut announced = bytes.clone();
             announced[4 * place..4 * place + 4].copy_from_slice(&count.to_le_bytes());
@@ -123,15 +125,27 @@ fn lengths(comparison: &mut Comparison, program: &mut Compared) {
     let rule = examples::expression();
     let tree = examples::tree();
     let wrong = "a length is refused otherwise";
-    for length in [0, 1, 64, 65, 300, 100_000] {
+    for length in [0, 1, SYMBOL_LIMIT, SYMBOL_LIMIT + 1, 300, 100_000] {
         let mut long = own.clone();
         long.resize(length, entry_word(1));
         same(comparison, program, wrong, &encode(&long, &rule, &tree), false);
+    }
+    for length in [0, 1, EXPRESSION_LIMIT, EXPRESSION_LIMIT + 1, 300, 100_000] {
         let mut long = rule.clone();
         long.resize(length, Operator::Closure(0).word());
         same(comparison, program, wrong, &encode(&own, &long, &tree), false);
     }
-    for length in [0, 1, 255, 256, 257, 4096, 4097, 100_000] {
+    const MOST: usize = PROGRAM_LIMIT;
+    for length in [
+        0,
+        1,
+        MOST - 1,
+        MOST,
+        MOST + 1,
+        NODE_LIMIT,
+        NODE_LIMIT + 1,
+        100_000,
+    ] {
         let mut chain = postfix::chain(node_word(examples::D), node_word(examples::G), length);
         same(comparison, program, wrong, &encode(&own, &rule, &chain), false);
         same(comparison, program, wrong, &encode(&own, &[], &chain), false);
@@ -142,8 +156,8 @@ fn lengths(comparison: &mut Comparison, program: &mut Compared) {
         chain.push(0);
         same(comparison, program, wrong, &encode(&own, &rule, &chain), false);
     }
-    let sixteen = limits::alphabet(16, 1);
-    let chain = postfix::chain(node_word(0), node_word(16), 256);
+    let sixteen = limits::alphabet(CONSTANT_LIMIT, 1);
+    let chain = postfix::chain(node_word(0), node_word(CONSTANT_LIMIT), MOST);
     for closures in [59, 60, 61, 63] {
         same(
             comparison,
@@ -162,7 +176,7 @@ fn random_input(comparison: &mut Comparison, program: &mut Compared, random: &mu
     } = pattern(random);
     let read = Expression::read(&alphabet, &expression).expect("an expression");
     let budget = if random.once_in(8) {
-        random.between(200, 270)
+        random.between(PROGRAM_LIMIT - 56, PROGRAM_LIMIT + 14)
     } else {
         random.between(1, 40)
     };

@@ -10,11 +10,12 @@ use crate::generate;
 use crate::language::literal;
 use crate::language::membership::Membership;
 use crate::language::{Expression, Tree};
+use crate::limits::{EXPRESSION_LIMIT, STATE_LIMIT};
 use crate::marks::Table;
 use crate::model;
 use crate::words::{self, Hex};
 
-/// An alphabet with an expression that has at most 1,024 states over it.
+/// An alphabet with an expression whose states over it are not too many.
 pub struct Pattern {
     pub alphabet: Vec<u32>,
     pub expression: Vec<u32>,
@@ -24,12 +25,12 @@ pub fn pattern(random: &mut Random) -> Pattern {
     loop {
         let alphabet = generate::alphabet(random);
         let budget = if random.once_in(12) {
-            random.between(1, words::EXPRESSION_LIMIT)
+            random.between(1, EXPRESSION_LIMIT)
         } else {
             random.between(1, 14)
         };
         let expression = generate::expression(random, &alphabet, budget);
-        if automaton::states(&alphabet, &expression) <= words::STATE_LIMIT {
+        if automaton::states(&alphabet, &expression) <= STATE_LIMIT {
             return Pattern { alphabet, expression };
         }
     }

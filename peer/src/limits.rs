@@ -1,0 +1,31 @@
+//! Document 01's limits, each once: the most there may be of everything.
+
+/// Words of an alphabet.
+pub const SYMBOL_LIMIT: usize = 64;
+
+/// Constants of an alphabet.
+pub const CONSTANT_LIMIT: usize = 16;
+
+/// Children of a symbol (document 01: its rank).
+pub const ARITY_LIMIT: usize = 4;
+
+/// Words of an expression.
+pub const EXPRESSION_LIMIT: usize = 64;
+
+/// States of a table.
+pub const STATE_LIMIT: usize = 1024;
+
+/// Words of a table.
+pub const TABLE_LIMIT: usize = 2048;
+
+/// Words of a compiled table: no rule takes more, and one takes as many.
+pub const COMPILED_LIMIT: usize = 1147;
+
+/// Nodes of a tree.
+pub const NODE_LIMIT: usize = 4096;
+
+/// Nodes of a tree that the program `marklist` takes.
+pub const PROGRAM_LIMIT: usize = 256;
+
+/// Words of a state set.
+pub const SET_LIMIT: usize = STATE_LIMIT.div_ceil(32);
