@@ -4,10 +4,11 @@ ghost use lib.ListN.{length, take};
 ghost use lib.Seq.{sets};
 ghost use Rattle.words.specs.Lists.{all};
 ghost use Rattle.words.specs.Limits.{alphabetMost};
-ghost use Rattle.words.specs.Alphabet.{isEntry, isConstant, rankOf, constantsOf, alphabetFault};
+ghost use Rattle.words.specs.Alphabet.{isEntry, isConstant, rankOf, constantsOf, noAlphabet, alphabetFault};
 use words::limits::ALPHABET_MOST;
 use words::limits::CONSTANTS_MOST;
 use words::limits::RANK_MOST;
+use words::limits::is_outside;
 use words::word::Kind;
 use words::word::SYMBOL_RANGE;
 use words::word::kind_of;
@@ -58,6 +59,13 @@ fn entries_only(alphabet: &[u32]) -> bool
     true
 }
 
+// Whether the words are no alphabet: none, too many, or one that is no entry.
+fn no_alphabet(alphabet: &[u32]) -> bool
+    ensures { λ r. ⌜ r ≡ noAlphabet (now (alphabet .entry)) ⌝ }
+{
+    is_outside(ALPHABET_MOST, alphabet.len()) || !entries_only(alphabet)
+}
+
 // How many constants the alphabet has.
 pub fn count_constants(alphabet: &[u32]) -> usize
     ensures { λ r. ⌜ r ≡ length (constantsOf (now (alphabet .entry))) ⌝ }
@@ -97,21 +105,10 @@ pub fn write_constants(alphabet: &[u32], list: &mut [u32]) -> usize
 pub fn alphabet_fault(alphabet: &[u32]) -> u32
     ensures { λ r. ⌜ r ≡ alphabetFault (now (alphabet .entry)) ⌝ }
 {
-    let size = alphabet.len();
-    if size == 0 {
+    if no_alphabet(alphabet) {
         return 1;
     }
-    if size > ALPHABET_MOST {
-        return 1;
-    }
-    if !entries_only(alphabet) {
-        return 1;
-    }
-    let constants = count_constants(alphabet);
-    if constants == 0 {
-        return 2;
-    }
-    if constants > CONSTANTS_MOST {
+    if is_outside(CONSTANTS_MOST, count_constants(alphabet)) {
         return 2;
     }
     0

@@ -16,7 +16,6 @@ use Rattle.words.specs.Shape.{treesBy}
 use Rattle.words.specs.Postfix.{arity, trees, oneTree, notOneTree}
 use Rattle.words.specs.ExpressionWords.{expressionRefusals, expressionFault}
 use Rattle.words.proofs.TestLaws.{picked}
-use Rattle.words.proofs.RefusalLaws.{none-applies}
 use Rattle.words.proofs.AcceptedAlphabet.{AcceptedAlphabet, alphabet-accepted, arity-most}
 use Rattle.automaton.specs.Transition.{tableWords}
 use Rattle.automaton.specs.Numbering.{hasEntries, compiled}
@@ -86,12 +85,12 @@ table-most a e g f m =
     let o = accepted .shape in
     few-words (length (tableWords (compiled a e))) (branchingWords a e) (compiled a e .states) (length e) (innerWords a e) (leafWords a e)
     (length (constantsOf a))
-    (table-length a e f) (states-counted a e) (inner-leaf a e) (accepted .few)
-    (omega (arith, leaves-some a e 0 1 o)) (omega (arith, leaves-branching a h e 0 1 o)) (h .fewConstants) m
+    (table-length a e f) (states-counted a e) (inner-leaf a e) (accepted .counted .few)
+    (omega (arith, leaves-some a e 0 1 o)) (omega (arith, leaves-branching a h e 0 1 o)) (h .constants .few) m
 
 pub compiled-isTable : (a e : List ℕ) → alphabetFault a ≡ 0 → expressionFault a e ≡ 0 → compiled a e .states ≤ statesMost
     → isTable a (tableWords (compiled a e)) ≡ true
 compiled-isTable a e h f m =
     let l = table-most a e h f m in
-    let k = alphabet-accepted a h .few in
+    let k = alphabet-accepted a h .counted .few in
     words-isTable a (omega arith) (compiled-over a e f m) (omega arith)

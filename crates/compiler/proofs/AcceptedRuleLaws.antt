@@ -1,14 +1,15 @@
 -- What refusals 1 to 6 leave of an alphabet and a rule: its constants, and the states of its words.
 use mathlib.Core.Path.{_≡_, ap, _∙_, sym}
-use mathlib.Core.List.{List, [], _∷_, _++_}
+use mathlib.Core.List.{List, [], _∷_}
 use Prim.Native.Nat.{ℕ, zero, suc, _*_, _≤_}
 use native.Mathlib.Omega.{arith}
-use lib.ListN.{length, take, drop, length-append}
-use lib.Seq.{sets, take-all, take-at}
+use lib.ListN.{length, take, length-append}
+use lib.Seq.{sets, take-all}
+use Rattle.words.specs.Lists.{writtenOver}
 use Rattle.words.specs.Limits.{alphabetMost, constantsMost, expressionMost}
 use Rattle.words.specs.Refusal.{refusal}
 use Rattle.words.specs.Alphabet.{constantsOf}
-use Rattle.words.proofs.ListLaws.{sets-whole}
+use Rattle.words.proofs.ListLaws.{take-over, sets-whole}
 use Rattle.words.proofs.AcceptedAlphabet.{AcceptedAlphabet, alphabet-accepted}
 use Rattle.words.proofs.AcceptedExpression.{AcceptedExpression, expression-passed}
 use Rattle.operations.specs.Compile.{ruleRefusals}
@@ -23,7 +24,7 @@ accepted-expression a e h = expression-passed a e (rule-accepted a e h .expressi
 
 -- the states of a word can be counted by the number of the constants
 pub states-countable : (a : List ℕ) (count : ℕ) → AcceptedAlphabet a → count ≡ length (constantsOf a) → StatesCountable a count
-states-countable a count h e = let few = h .fewConstants in record { constants = e; few = omega arith }
+states-countable a count h e = let few = h .constants .few in record { constants = e; few = omega arith }
 
 pub length-take-most : (e : List ℕ) (n : ℕ) → length (take n e) ≤ length e
 length-take-most e zero = omega arith
@@ -39,16 +40,16 @@ states-few e n x few h = omega (arith, length-take-most e n)
 module _ (a l l′ : List ℕ) (r : ℕ) (accepted : AcceptedAlphabet a) (long : length l ≡ constantsMost)
     (count : r ≡ length (constantsOf (take alphabetMost a))) (stored : l′ ≡ sets l 0 (constantsOf (take alphabetMost a))) where
   whole : take alphabetMost a ≡ a
-  whole = take-all alphabetMost a (accepted .few)
+  whole = take-all alphabetMost a (accepted .counted .few)
 
-  begins : l′ ≡ constantsOf a ++ drop (length (constantsOf a)) l
-  begins = stored ∙ rw whole (sets-whole (constantsOf a) l (let few = accepted .fewConstants in omega arith))
+  begins : l′ ≡ writtenOver (constantsOf a) l
+  begins = stored ∙ rw whole (sets-whole (constantsOf a) l (let few = accepted .constants .few in omega arith))
 
   number : r ≡ length (constantsOf a)
   number = count ∙ rw whole
 
   pub constants-first : take r l′ ≡ constantsOf a
-  constants-first = ap (take r) begins ∙ take-at (constantsOf a) _ r (sym number)
+  constants-first = ap (take r) begins ∙ take-over (constantsOf a) l r (sym number)
 
   pub constants-within : r ≤ length l′
   constants-within = rw (begins, length-append) (omega (arith, number))

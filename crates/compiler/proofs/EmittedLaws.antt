@@ -145,7 +145,7 @@ module _ {a cs e : List ℕ} {at : ℕ} {out out′ stack : List ℕ} {height st
       let n = words-written-next _ _ _ _ _ _ (m .written) in
       record {
         once = constants-once a cs known;
-        few = rw known (h .fewConstants);
+        few = rw known (h .constants .few);
         children = rw (length-part stack base height (omega arith) (omega arith)) (omega arith);
         low = omega arith;
         fits = omega arith;

@@ -1,21 +1,23 @@
 -- Compile's conditions 6 and 7 of what the code counts, and the answer and the table slice of a call.
-use mathlib.Core.Path.{_≡_, refl, _∙_, sym}
+use mathlib.Core.Path.{_≡_, refl, ap, _∙_, sym}
 use mathlib.Core.Bool.{true, false}
 use mathlib.Core.List.{List, [], _∷_}
 use Prim.Native.Nat.{ℕ, _+_, _<_, _≤_}
 use native.Mathlib.Omega.{arith}
+use native.Mathlib.Nat.{zero-add}
 use lib.ListN.{length}
 use lib.Seq.{sets}
-use borrow.Author.Tests.{lt-ltb, le-ltb, eq-eqb, ne-eqb}
+use borrow.Author.Tests.{lt-ltb, le-ltb}
 use Rattle.words.specs.Limits.{statesMost}
 use Rattle.words.specs.Refusal.{refusal}
 use Rattle.words.proofs.ListLaws.{sets-whole}
 use Rattle.words.proofs.RefusalLaws.{parts-pass}
+use Rattle.words.proofs.AnswerLaws.{answer-refused, answer-accepted, exit-refused, exit-accepted}
 use Rattle.automaton.specs.Numbering.{statesAfter, compiled}
 use Rattle.words.specs.Answer.{refused, accepted}
 use Rattle.operations.specs.Compile.{compiledTable, tooManyStates, tableTooLong, ruleRefusals, compileFault}
 use Rattle.operations.specs.Compile.{compileAnswer, compileExit}
-use Rattle.operations.proofs.AcceptedLaws.{CompileAccepted, compile-accepted}
+use Rattle.operations.proofs.AcceptedLaws.{compile-accepted}
 
 -- ---- 6 and 7
 
@@ -37,28 +39,21 @@ module _ (a e : List ℕ) (tableLength n : ℕ) (t : n ≡ 0 + length (compiledT
   unfolding tableTooLong
   table-within l = le-ltb tableLength (length (compiledTable a e)) (omega arith)
 
--- ---- accepted and refused calls
+-- ---- the answer and the table slice at exit
 
 module _ (a e slice : List ℕ) (f : ℕ) (h : f ≡ compileFault a e (length slice)) where
-  pub refused-answer : (f ≡ 0 → ⊥) → refused f ≡ compileAnswer a e slice
-  unfolding compileAnswer
-  refused-answer n = rw (← h, ne-eqb f 0 n)
-
-  pub refused-exit : (f ≡ 0 → ⊥) → slice ≡ compileExit a e slice
-  unfolding compileExit
-  refused-exit n = rw (← h, ne-eqb f 0 n)
-
-  pub accepted-answer : (n : ℕ) → f ≡ 0 → n ≡ 0 + length (compiledTable a e) → accepted (n ∷ []) ≡ compileAnswer a e slice
-  unfolding compileAnswer
-  accepted-answer n z t = let k : n ≡ length (compiledTable a e) = omega arith in rw (← h, eq-eqb f 0 z, k)
+  pub compile-refuses : (f ≡ 0 → ⊥) → (refused f ≡ compileAnswer a e slice) × (slice ≡ compileExit a e slice)
+  unfolding compileAnswer compileExit
+  compile-refuses n = (answer-refused h _ n, exit-refused h _ slice n)
 
   module _ (z : f ≡ 0) where
-    passed : CompileAccepted a e (length slice)
-    passed = compile-accepted a e (length slice) (sym h ∙ z)
-
     pub accepted-rule : refusal (ruleRefusals a e) ≡ 0
     accepted-rule = parts-pass (ruleRefusals a e) ((7, tableTooLong a e (length slice)) ∷ []) refl (sym h ∙ z) .0
 
-    pub accepted-exit : (out : List ℕ) → out ≡ sets slice 0 (compiledTable a e) → out ≡ compileExit a e slice
-    unfolding compileExit
-    accepted-exit out w = w ∙ sets-whole (compiledTable a e) slice (passed .fits) ∙ rw (← h, eq-eqb f 0 z)
+    pub compile-accepts : (n : ℕ) (out : List ℕ) → n ≡ 0 + length (compiledTable a e) → out ≡ sets slice 0 (compiledTable a e)
+        → (accepted (n ∷ []) ≡ compileAnswer a e slice) × (out ≡ compileExit a e slice)
+    unfolding compileAnswer compileExit
+    compile-accepts n out t w = (
+      ap (λ (k : ℕ). accepted (k ∷ [])) (t ∙ zero-add _) ∙ answer-accepted h _ z,
+      w ∙ sets-whole (compiledTable a e) slice (compile-accepted a e (length slice) (sym h ∙ z) .fits) ∙ exit-accepted h _ slice z,
+    )

@@ -5,8 +5,9 @@ use Prim.Native.Nat.{ℕ, _+_, _<_, _≤_}
 use native.Mathlib.Omega.{arith}
 use native.Mathlib.Nat.{add-zero, add-assoc}
 use native.Mathlib.Numerals.{add-one}
-use lib.ListN.{length, getD, take, drop, set, length-append}
+use lib.ListN.{length, getD, take, set, length-append}
 use lib.Seq.{sets, length-sets, take-suc, take-all}
+use Rattle.words.specs.Lists.{writtenOver}
 use Rattle.words.proofs.ListLaws.{sets-append, sets-whole}
 use Rattle.encoding.specs.ByteWriting.{BytesWritten}
 
@@ -50,7 +51,7 @@ bytes-written-same p e = rw (← e) p
 
 -- all bytes from the first place on
 pub bytes-written-whole : (bs out out′ : List ℕ) (r : ℕ) → BytesWritten 0 bs out out′ r → length bs ≤ length out
-    → (r ≡ length bs) × (out′ ≡ bs ++ drop (length bs) out)
+    → (r ≡ length bs) × (out′ ≡ writtenOver bs out)
 bytes-written-whole bs out out′ r p h =
     let z : 0 + length bs ≡ length bs = omega arith in
     (p .next (omega arith) ∙ z, p .bytes (omega arith) ∙ sets-whole bs out h)

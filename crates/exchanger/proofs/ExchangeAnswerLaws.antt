@@ -9,7 +9,7 @@ use Rattle.operations.specs.Marks.{sizeOf, refit}
 use Rattle.operations.specs.ExchangeCall.{ExchangeCall}
 use Rattle.operations.specs.Exchange.{setIn, recomputedIn, refusalsOf, fault, newTree}
 use Rattle.operations.specs.Exchange.{outcomes, exchangeAnswer, exchangeChapter, exchangeMarks}
-use Rattle.refusals.proofs.AnswerLaws.{answer-refused, answer-accepted, exit-refused, exit-accepted}
+use Rattle.words.proofs.AnswerLaws.{answer-refused, answer-accepted, exit-refused, exit-accepted}
 
 module _ (c : ExchangeCall) where
   -- the contract of Exchange
@@ -20,7 +20,7 @@ module _ (c : ExchangeCall) where
   module _ (r : ℕ) (q : r ≡ refusal (refusalsOf c)) where
     pub call-refused : (r ≡ 0 → ⊥) → Exits (refused r) (c .chapter) (c .marks)
     unfolding fault exchangeAnswer exchangeChapter exchangeMarks
-    call-refused h = (answer-refused r _ q _ h, (exit-refused r _ q _ (c .chapter) h, exit-refused r _ q _ (c .marks) h))
+    call-refused h = (answer-refused q _ h, (exit-refused q _ (c .chapter) h, exit-refused q _ (c .marks) h))
 
     pub call-passes : r ≡ 0 → fault c ≡ 0
     unfolding fault
@@ -33,4 +33,4 @@ module _ (c : ExchangeCall) where
         → Exits answer chapter marks
     unfolding fault exchangeAnswer exchangeChapter exchangeMarks
     call-replaced h answer chapter marks x y z =
-        (x ∙ answer-accepted r _ q _ h, (y ∙ exit-accepted r _ q _ (c .chapter) h, z ∙ exit-accepted r _ q _ (c .marks) h))
+        (x ∙ answer-accepted q _ h, (y ∙ exit-accepted q _ (c .chapter) h, z ∙ exit-accepted q _ (c .marks) h))

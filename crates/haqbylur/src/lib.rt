@@ -2,12 +2,13 @@
 // function returns 0 or document 01's number, and writes its out-parameters only where it accepts. `include/haqbylur.h`
 // declares them for C.
 ghost use mathlib.Core.Path.{_≡_};
+ghost use Rattle.words.specs.Answer.{valueOr};
 ghost use Rattle.operations.specs.Compile.{compileAnswer, compileExit};
 ghost use Rattle.operations.specs.Run.{runAnswer, runExit};
 ghost use Rattle.operations.specs.Listing.{listAnswer, listExit};
 ghost use Rattle.operations.specs.ExchangeCall.{exchangeCall};
 ghost use Rattle.operations.specs.Exchange.{exchangeAnswer, exchangeChapter, exchangeMarks};
-ghost use Rattle.haqbylur.specs.Status.{statusOf, valueOr};
+ghost use Rattle.haqbylur.specs.Status.{statusOf};
 use compiler::Compiled;
 use compiler::compile;
 use exchanger::Exchanged;

@@ -7,14 +7,14 @@ use native.Mathlib.Omega.{arith}
 use native.Mathlib.Nat.{zero-add, add-zero, add-suc, suc-add}
 use lib.ListN.{length, take, drop, length-append}
 use lib.Seq.{sets, sets-eq, take-at, drop-append-add, drop-drop}
-use Rattle.words.specs.Lists.{listFrom}
+use Rattle.words.specs.Lists.{listFrom, writtenOver}
 use Rattle.words.proofs.ListLaws.{listFrom-add, length-listFrom}
 use Rattle.automaton.specs.StateSet.{StateSet, contains}
 use Rattle.words.specs.Answer.{refused, accepted}
 use Rattle.operations.specs.Marks.{sizeOf, finalOf, storedSet}
 use Rattle.operations.specs.Listing.{matchesIn, matchesOf, listFault, listAnswer, listExit}
 use Rattle.operations.proofs.MatchLaws.{matches-few, matchesOf-few}
-use Rattle.refusals.proofs.AnswerLaws.{answer-refused, answer-accepted, exit-refused, exit-accepted}
+use Rattle.words.proofs.AnswerLaws.{answer-refused, answer-accepted, exit-refused, exit-accepted}
 
 module _ (final : ℕ) where
   pub matches-append : (l k : List StateSet) (i : ℕ) → matchesIn final i (l ++ k) ≡ matchesIn final i l ++ matchesIn final (i + length l) k
@@ -51,7 +51,7 @@ part-set size table marks i e =
 pub record FoundMatches (table marks list₀ list : List ℕ) (found i : ℕ) : Type 0 where
   pub long : length list ≡ length list₀
   pub count : found ≡ length (matchesOf table i marks)
-  pub words : list ≡ matchesOf table i marks ++ drop (length (matchesOf table i marks)) list₀
+  pub words : list ≡ writtenOver (matchesOf table i marks) list₀
 
 module _ (table marks : List ℕ) where
   abbrev stored : ℕ → StateSet
@@ -97,7 +97,7 @@ module _ (table marks : List ℕ) where
               (ap₂ (λ (k : ℕ) (l : List ℕ). drop (k + length one) l) count (g .words)
               ∙ drop-append-add ms (drop (length ms) list₀) (length one) ∙ drop-drop (length one) (length ms) list₀
               ∙ ap (λ (k : ℕ). drop k list₀) (sym (length-append ms one)))
-              ∙ ap (λ (l : List ℕ). l ++ drop (length l) list₀) (sym more);
+              ∙ ap (λ (l : List ℕ). writtenOver l list₀) (sym more);
         }
 
     pub found-end : (list : List ℕ) (found i n : ℕ) → FoundMatches table marks list₀ list found i → i ≤ n → n ≤ i
@@ -111,16 +111,13 @@ module _ (table marks : List ℕ) where
 module _ (a table : List ℕ) (n : ℕ) (marks list : List ℕ) (f : ℕ) (e : f ≡ listFault a table n (length marks) (length list)) where
   pub list-refused : (f ≡ 0 → ⊥) → (refused f ≡ listAnswer a table n marks list) × (list ≡ listExit a table n marks list)
   unfolding listAnswer listExit
-  list-refused h = (
-    answer-refused f (listFault a table n (length marks) (length list)) e _ h,
-    exit-refused f (listFault a table n (length marks) (length list)) e _ list h,
-  )
+  list-refused h = (answer-refused e _ h, exit-refused e _ list h)
 
   pub list-accepts : f ≡ 0 → (count : ℕ) (list′ : List ℕ) → count ≡ length (matchesOf table n marks)
-      → list′ ≡ matchesOf table n marks ++ drop (length (matchesOf table n marks)) list
+      → list′ ≡ writtenOver (matchesOf table n marks) list
       → (accepted (count ∷ []) ≡ listAnswer a table n marks list) × (list′ ≡ listExit a table n marks list)
   unfolding listAnswer listExit
   list-accepts h count list′ c m = (
-    ap (λ (k : ℕ). accepted (k ∷ [])) c ∙ answer-accepted f (listFault a table n (length marks) (length list)) e _ h,
-    m ∙ exit-accepted f (listFault a table n (length marks) (length list)) e _ list h,
+    ap (λ (k : ℕ). accepted (k ∷ [])) c ∙ answer-accepted e _ h,
+    m ∙ exit-accepted e _ list h,
   )

@@ -25,7 +25,7 @@ use Rattle.nodes.proofs.MarkLaws.{holding-stored, markedFrom-rows}
 use Rattle.nodes.proofs.WorkableLaws.{workable-size, run-workable}
 use Rattle.propagation.specs.Propagation.{propagateFrom}
 use Rattle.updates.specs.Updating.{updatedFrom, Updatable}
-use Rattle.refusals.proofs.AnswerLaws.{answer-refused, answer-accepted, exit-refused, exit-accepted}
+use Rattle.words.proofs.AnswerLaws.{answer-refused, answer-accepted, exit-refused, exit-accepted}
 
 -- ---- all nodes
 
@@ -90,14 +90,13 @@ module _ (a table ch marks : List ℕ) (h : runFault a table ch (length marks) �
 module _ (a table ch marks : List ℕ) (f : ℕ) (e : f ≡ runFault a table ch (length marks)) where
   pub run-refused : (f ≡ 0 → ⊥) → (refused f ≡ runAnswer a table ch marks) × (marks ≡ runExit a table ch marks)
   unfolding runAnswer runExit
-  run-refused h =
-      (answer-refused f (runFault a table ch (length marks)) e _ h, exit-refused f (runFault a table ch (length marks)) e _ marks h)
+  run-refused h = (answer-refused e _ h, exit-refused e _ marks h)
 
   pub run-accepts : f ≡ 0 → (cells : ℕ) (marks′ : List ℕ) → cells ≡ cellsIn (flatten (nodeSets a table ch))
       → marks′ ≡ runMarks a table ch marks
       → (accepted (length ch ∷ cells ∷ []) ≡ runAnswer a table ch marks) × (marks′ ≡ runExit a table ch marks)
   unfolding runAnswer runExit
   run-accepts h cells marks′ c m = (
-    ap (λ (n : ℕ). accepted (length ch ∷ n ∷ [])) c ∙ answer-accepted f (runFault a table ch (length marks)) e _ h,
-    m ∙ exit-accepted f (runFault a table ch (length marks)) e _ marks h,
+    ap (λ (n : ℕ). accepted (length ch ∷ n ∷ [])) c ∙ answer-accepted e _ h,
+    m ∙ exit-accepted e _ marks h,
   )

@@ -1,9 +1,10 @@
 // An accepted List: the numbers of the matches, ascending.
 ghost use mathlib.Core.Path.{_≡_};
-ghost use mathlib.Core.List.{[], _∷_, _++_};
+ghost use mathlib.Core.List.{[], _∷_};
 ghost use Prim.Native.Nat.{_+_, _<_};
-ghost use lib.ListN.{length, drop};
+ghost use lib.ListN.{length};
 ghost use lib.Seq.{sets};
+ghost use Rattle.words.specs.Lists.{writtenOver};
 ghost use Rattle.words.specs.Limits.{nodesMost};
 ghost use Rattle.operations.specs.Listing.{listFault, matchesIn, matchesOf};
 use sets::state::contains;
@@ -35,9 +36,7 @@ pub(crate) fn list_accepted(
     requires { ⌜ listFault (now alphabet) (now table) count (length (now marks)) (length (now list)) ≡ 0 ⌝ }
     ensures answer { λ r. ⌜ r ≡ length (matchesOf (now (table .entry)) count (now (marks .entry))) ⌝ }
     ensures list { λ _. ⌜
-        now (list .exit)
-        ≡ matchesOf (now (table .entry)) count (now (marks .entry))
-        ++ drop (length (matchesOf (now (table .entry)) count (now (marks .entry)))) (now (list .entry))
+        now (list .exit) ≡ writtenOver (matchesOf (now (table .entry)) count (now (marks .entry))) (now (list .entry))
         ⌝ }
 {
     let size = set_size(table);

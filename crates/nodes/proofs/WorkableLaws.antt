@@ -50,7 +50,7 @@ run-workable {a} {ch = ch} g =
     let alphabet = alphabet-accepted a (g .checked .alphabet) in
     let tree = tree-accepted a ch (g .marked .tree) in
     record {
-      alphabet = alphabet .few;
+      alphabet = alphabet .counted .few;
       ranks = alphabet .ranks;
       checked = g .checked .automaton;
       tree = record { nodes = tree .nodes; tree = tree .shape; few = g .counted .few };

@@ -2,40 +2,30 @@
 -- of those of its parts and of what is its own; what 1 and 2, 3 to 5, and 10 and 11 say is in words (AcceptedAlphabet,
 -- AcceptedExpression, AcceptedTree).
 use mathlib.Core.Path.{_≡_, refl, _∙_}
-use mathlib.Core.Bool.{true, false, not, _&&_, _||_}
+use mathlib.Core.Bool.{true, false, _||_}
 use mathlib.Core.List.{List, [], _∷_, _++_}
 use Prim.Native.Nat.{ℕ, _*_, _≤_, _<_}
-use native.Mathlib.Omega.{arith}
 use lib.ListN.{length}
-use lib.Dec.{ltb, eqb}
-use borrow.Author.Tests.{eqb-true, eqb-false, ne-eqb, ltb-true, ltb-false, le-ltb, not-false}
-use Rattle.words.specs.Lists.{all}
+use lib.Dec.{ltb}
+use borrow.Author.Tests.{ltb-true, ltb-false, le-ltb, not-false}
 use Rattle.words.specs.Limits.{statesMost, nodesMost}
 use Rattle.words.specs.Refusal.{Refusals, refusal}
 use Rattle.words.specs.Alphabet.{alphabetRefusals, alphabetFault}
 use Rattle.words.specs.ExpressionWords.{expressionRefusals, expressionFault}
-use Rattle.words.specs.Chapter.{isNode, treeRefusals, treeFault}
-use Rattle.words.specs.Postfix.{oneTree, splice}
-use Rattle.words.proofs.TestLaws.{Tested, holds, fails, tested, and-true, or-false, false-or}
-use Rattle.words.proofs.RefusalLaws.{conditionOf, none-applies, parts-pass, first-passes}
-use Rattle.words.proofs.AcceptedTree.{AcceptedTree}
+use Rattle.words.specs.Chapter.{notNodes, treeRefusals, treeFault}
+use Rattle.words.specs.Postfix.{notOneTree, splice}
+use Rattle.words.proofs.TestLaws.{or-false}
+use Rattle.words.proofs.LimitLaws.{Within, not-outside, is-within}
+use Rattle.words.proofs.RefusalLaws.{conditionOf, none-applies, none-refusal, parts-pass, first-passes}
+use Rattle.words.proofs.AcceptedTree.{AcceptedTree, tree-accepted}
 use Rattle.automaton.specs.Table.{isTable, noTable}
 use Rattle.automaton.specs.Numbering.{compiled}
-use Rattle.words.specs.Answer.{refused, accepted, answerOf}
 use Rattle.operations.specs.Compile.{compiledTable, tooManyStates, tableTooLong, ruleRefusals, compileFault}
 use Rattle.operations.specs.Marks.{sizeOf}
 use Rattle.operations.specs.Run.{wrongCount, marksTooShort, tableRefusals, markedRefusals, runFault}
 use Rattle.operations.specs.Listing.{listTooShort, listFault}
 use Rattle.operations.specs.ExchangeCall.{ExchangeCall}
 use Rattle.operations.specs.Exchange.{wrongUsedCount, noElement, noReplacement, resultTooLong, changeRefusals, exchangeFault, used, fault}
-
--- an accepted answer is that of a call without a refusal, and has its values
-pub accepted-values : (f : ℕ) (vs us : List ℕ) → answerOf f vs ≡ accepted us → (f ≡ 0) × (vs ≡ us)
-accepted-values f vs us h = go (tested (eqb f 0))
-  where
-    go : Tested (eqb f 0) → (f ≡ 0) × (vs ≡ us)
-    go (holds b) = let e : accepted vs ≡ accepted us = rw b at h in (eqb-true f 0 b, cc)
-    go (fails b) = absurd (let e : refused f ≡ accepted us = rw b at h in let z : _≡_ {A = ℕ} 0 1 = cc in omega arith)
 
 -- ---- an alphabet and a rule
 
@@ -99,24 +89,17 @@ module _ (a table : List ℕ) where
 -- ---- how many elements there are
 
 -- 9
-pub record ElementCount (n : ℕ) : Type 0 where
-  pub some : 0 < n
-  pub few : n ≤ nodesMost
-
-pub count-right : (n : ℕ) → wrongCount n ≡ false → ElementCount n
+pub count-right : (n : ℕ) → wrongCount n ≡ false → Within nodesMost n
 unfolding wrongCount
-count-right n h =
-    let p = or-false (eqb n 0) (ltb nodesMost n) h in
-    let z = eqb-false n 0 (p .0) in
-    record { some = omega arith; few = ltb-false nodesMost n (p .1) }
+count-right n h = not-outside nodesMost n h
 
-pub right-count : (n : ℕ) → ElementCount n → wrongCount n ≡ false
+pub right-count : (n : ℕ) → Within nodesMost n → wrongCount n ≡ false
 unfolding wrongCount
-right-count n c = let s = c .some in false-or (eqb n 0) (ltb nodesMost n) (ne-eqb n 0 (omega arith)) (le-ltb nodesMost n (c .few))
+right-count n g = is-within nodesMost n g
 
 -- 9 of Exchange
 pub record UsedCount (n chapterLength : ℕ) : Type 0 where
-  pub counted : ElementCount n
+  pub counted : Within nodesMost n
   pub within : n ≤ chapterLength
 
 pub used-count-right : (n chapterLength : ℕ) → wrongUsedCount n chapterLength ≡ false → UsedCount n chapterLength
@@ -158,15 +141,18 @@ module _ (a table : List ℕ) (n : ℕ) (ch : List ℕ) (marksLength : ℕ) wher
 
 -- 15
 pub record Replacement (a xs : List ℕ) : Type 0 where
-  pub counted : ElementCount (length xs)
+  pub counted : Within nodesMost (length xs)
   pub tree : AcceptedTree a xs
 
 pub replacement-right : (a xs : List ℕ) → noReplacement a xs ≡ false → Replacement a xs
 unfolding noReplacement
 replacement-right a xs h =
-    let p = or-false (wrongCount (length xs)) (not (all (isNode a) xs && oneTree a xs)) h in
-    let r = and-true (all (isNode a) xs) (oneTree a xs) (not-false (all (isNode a) xs && oneTree a xs) (p .1)) in
-    record { counted = count-right (length xs) (p .0); tree = record { nodes = r .0; shape = r .1 } }
+    let p = or-false (wrongCount (length xs) || notNodes a xs) (notOneTree a xs) h in
+    let q = or-false (wrongCount (length xs)) (notNodes a xs) (p .0) in
+    record {
+      counted = count-right (length xs) (q .0);
+      tree = tree-accepted a xs (none-refusal (treeRefusals a xs) (q .1, (p .1, tt)));
+    }
 
 -- 16
 pub record ResultFits (table : List ℕ) (n chapterLength marksLength : ℕ) : Type 0 where
@@ -213,7 +199,7 @@ pub record RunAccepted (a table p : List ℕ) (marksLength : ℕ) : Type 0 where
   -- 1 2 8
   pub checked : TableAccepted a table
   -- 9
-  pub counted : ElementCount (length p)
+  pub counted : Within nodesMost (length p)
   -- 10 11 12
   pub marked : MarkedAccepted a table (length p) p marksLength
 
@@ -245,7 +231,7 @@ pub record ListAccepted (a table : List ℕ) (n marksLength listLength : ℕ) : 
   -- 1 2 8
   pub checked : TableAccepted a table
   -- 9
-  pub counted : ElementCount n
+  pub counted : Within nodesMost n
   -- 12
   pub marks : n * sizeOf table ≤ marksLength
   -- 13

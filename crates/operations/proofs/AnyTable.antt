@@ -25,11 +25,12 @@ use Rattle.automaton.specs.Table.{isTable, noTable}
 use Rattle.automaton.proofs.ClosureLaws.{TargetsBelow, targets-below, stateSet-reached, stateSet-beyond}
 use Rattle.automaton.proofs.TreeSets.{treeSet, treeSet-reaches}
 use Rattle.automaton.proofs.TableLaws.{isTable-automaton}
+use Rattle.words.proofs.AnswerLaws.{accepted-values}
 use Rattle.words.specs.Answer.{accepted}
 use Rattle.operations.specs.Compile.{compileAnswer, compileExit}
 use Rattle.operations.specs.Marks.{sizeOf, nodeSet, ReachedSet, nodeSets, storedSet}
 use Rattle.operations.specs.Run.{runFault, runMarks, runAnswer, runExit}
-use Rattle.operations.proofs.AcceptedLaws.{accepted-values, RunAccepted, run-accepted}
+use Rattle.operations.proofs.AcceptedLaws.{RunAccepted, run-accepted}
 use Rattle.operations.proofs.CompileLaws.{compile-result}
 use Rattle.operations.proofs.MarksLaws.{length-nodeSet, sized-nodeSets, length-nodeSets, storedSet-flatten, stored-right}
 use Rattle.operations.proofs.RunLaws.{run-writes, run-exit, node-tree}
@@ -70,7 +71,7 @@ module _ (a table ch marks : List ℕ) (n cells : ℕ) (h : runAnswer a table ch
   run = run-accepted a table ch (length marks) fine
 
   few : length a ≤ alphabetMost
-  few = alphabet-accepted a (run .checked .alphabet) .few
+  few = alphabet-accepted a (run .checked .alphabet) .counted .few
 
   tree : AcceptedTree a ch
   tree = tree-accepted a ch (run .marked .tree)

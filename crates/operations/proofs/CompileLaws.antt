@@ -5,9 +5,9 @@ use mathlib.Core.Path.{_≡_, sym}
 use mathlib.Core.Bool.{true}
 use mathlib.Core.List.{List, [], _∷_}
 use native.Mathlib.Omega.{arith}
-use lib.ListN.{length, take, drop}
-use lib.Seq.{take-at}
+use lib.ListN.{length, take}
 use Rattle.words.specs.Limits.{alphabetMost, compiledMost}
+use Rattle.words.proofs.ListLaws.{take-over}
 use Rattle.words.proofs.AcceptedAlphabet.{alphabet-accepted}
 use Rattle.words.proofs.AcceptedExpression.{expression-passed}
 use Rattle.words.specs.ExactlyOne.{ExactlyOne}
@@ -19,9 +19,10 @@ use Rattle.automaton.specs.Table.{isTable, AutomatonOver}
 use Rattle.automaton.proofs.DecodeLaws.{automatonOf-words}
 use Rattle.automaton.proofs.CompiledOver.{compiled-over}
 use Rattle.automaton.proofs.CompiledTable.{compiled-isTable, table-most}
+use Rattle.words.proofs.AnswerLaws.{accepted-values}
 use Rattle.words.specs.Answer.{accepted}
 use Rattle.operations.specs.Compile.{compiledTable, compileFault, compileAnswer, compileExit}
-use Rattle.operations.proofs.AcceptedLaws.{accepted-values, compile-accepted}
+use Rattle.operations.proofs.AcceptedLaws.{compile-accepted}
 
 -- an accepted call that answers k
 pub record CompileResult (a e slice : List ℕ) (k : ℕ) : Type 0 where
@@ -42,7 +43,7 @@ unfolding compileAnswer compileExit
 compile-result a e slice k h =
     let v = accepted-values (compileFault a e (length slice)) (length (compiledTable a e) ∷ []) (k ∷ []) h in
     let f = compile-accepted a e (length slice) (v .0) .rule in
-    let few = alphabet-accepted a (f .alphabet) .few in
+    let few = alphabet-accepted a (f .alphabet) .counted .few in
     let words = expression-passed a e (f .expression) in
     let over = compiled-over a e (f .expression) (f .states) in
     let n : k ≡ length (compiledTable a e) = cc in
@@ -51,7 +52,7 @@ compile-result a e slice k h =
       expression = exactly-one-expression a few e (words .words) (words .shape);
       over = over;
       count = n;
-      table = rw (v .0) (take-at (compiledTable a e) (drop (length (compiledTable a e)) slice) k (sym n));
+      table = rw (v .0) (take-over (compiledTable a e) slice k (sym n));
       automaton = automatonOf-words a (omega arith) over;
       checked = compiled-isTable a e (f .alphabet) (f .expression) (f .states);
       most = table-most a e (f .alphabet) (f .expression) (f .states);

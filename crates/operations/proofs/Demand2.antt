@@ -7,8 +7,7 @@ use mathlib.Core.Bool.{true}
 use mathlib.Core.List.{List, [], _∷_, flatten, head-eq-of-cons-eq, List·Memᴰ}
 use native.Mathlib.Omega.{arith}
 use native.Mathlib.Nat.{zero-add}
-use lib.ListN.{length, getD, take, drop}
-use lib.Seq.{take-at}
+use lib.ListN.{length, getD, take}
 use Rattle.words.specs.Limits.{alphabetMost}
 use Rattle.words.specs.Tree.{Tree}
 use Rattle.words.specs.Postfix.{subtreeOf}
@@ -25,13 +24,15 @@ use Rattle.automaton.specs.Reached.{Reaches}
 use Rattle.automaton.proofs.ClosureLaws.{TargetsBelow, targets-below}
 use Rattle.automaton.proofs.TreeSets.{treeSet, treeSet-reaches}
 use Rattle.automaton.proofs.Thompson.{thompson}
+use Rattle.words.proofs.ListLaws.{take-over}
+use Rattle.words.proofs.AnswerLaws.{accepted-values}
 use Rattle.words.specs.Answer.{accepted}
 use Rattle.operations.specs.Compile.{compiledTable}
 use Rattle.operations.specs.Marks.{finalOf, nodeSets}
 use Rattle.operations.specs.Run.{runFault, runMarks, runAnswer, runExit, cellsIn}
 use Rattle.operations.specs.Listing.{listFault, matchesIn, matchesOf, listAnswer, listExit}
 use Rattle.operations.specs.Demands.{Calls, namesOf, AllAccepted, Named, Demand2}
-use Rattle.operations.proofs.AcceptedLaws.{accepted-values, RunAccepted, run-accepted}
+use Rattle.operations.proofs.AcceptedLaws.{RunAccepted, run-accepted}
 use Rattle.operations.proofs.CompileLaws.{CompileResult, compile-result}
 use Rattle.operations.proofs.MarksLaws.{length-nodeSets}
 use Rattle.operations.proofs.MatchLaws.{Holding, holding-named, named-holding}
@@ -82,7 +83,7 @@ module _ (a table ch marks slice : List ℕ) (n cells hits : ℕ)
       let v = accepted-values (listFault a table n (length left) (length slice)) (length m ∷ []) (hits ∷ []) lists in
       let k : length m ≡ hits = head-eq-of-cons-eq (v .1) in
       let e : left ≡ runMarks a table ch marks = run-exit a table ch marks (run-values .0) in
-      rw (v .0) (take-at m (drop (length m) slice) hits k)
+      rw (v .0) (take-over m slice hits k)
       ∙ ap (λ (i : ℕ). matchesOf table i left) (run-values .1)
       ∙ ap (matchesOf table (length ch)) e
       ∙ matches-nodeSets a table ch (runMarks a table ch marks) (run-writes a table ch marks)

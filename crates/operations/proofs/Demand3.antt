@@ -5,13 +5,15 @@ use mathlib.Core.Path.{_≡_, refl, ap, ap₂, _∙_, sym}
 use mathlib.Core.List.{List, [], _∷_, _++_, map, flatten, head-eq-of-cons-eq}
 use Prim.Native.Nat.{ℕ, _+_, _*_, _<_}
 use native.Mathlib.Omega.{arith}
-use lib.ListN.{length, take, drop, length-append, take-append-drop}
+use lib.ListN.{length, take, length-append, take-append-drop}
 use lib.Dec.{eqb}
 use borrow.Author.Tests.{eqb-true}
 use Rattle.words.specs.Postfix.{splice}
 use Rattle.words.proofs.TestLaws.{Tested, holds, fails, tested}
 use Rattle.words.proofs.AcceptedTree.{tree-accepted}
 use Rattle.automaton.specs.StateSet.{StateSet}
+use Rattle.words.specs.Lists.{writtenOver}
+use Rattle.words.proofs.AnswerLaws.{accepted-values}
 use Rattle.words.specs.Answer.{answerOf, exitOf}
 use Rattle.operations.specs.Marks.{sizeOf, nodeSets, storedSet, refit}
 use Rattle.operations.specs.Run.{runFault, runMarks, runAnswer, runExit, cellsIn}
@@ -22,7 +24,7 @@ use Rattle.operations.specs.History.{Call, Memory, callOn, exchange, exc
 use Rattle.operations.specs.Demands.{Start, Fresh, Faithful, Demand3}
 use Rattle.operations.proofs.MarksLaws.{stored-right, take-refit, length-refit}
 use Rattle.operations.proofs.RunLaws.{length-words, run-writes, run-length, run-exit, matches-nodeSets}
-use Rattle.operations.proofs.AcceptedLaws.{accepted-values, run-accepted, accepted-run}
+use Rattle.operations.proofs.AcceptedLaws.{run-accepted, accepted-run}
 use Rattle.operations.proofs.ResultLaws.{result-accepted}
 use Rattle.operations.proofs.AcceptedLaws.{ResultFits, ExchangeAccepted, exchange-accepted}
 use Rattle.operations.proofs.OutcomeLaws.{outcomes-right}
@@ -153,7 +155,7 @@ module _ (a table : List ℕ) (chapterLength marksLength : ℕ) where
             ∙ ap (λ (i : ℕ). take (i * sizeOf table) (runExit a table p slice)) (sym (g .count));
         answers = λ l. ap₂ (λ (i : ℕ) (ms : List ℕ). answerOf (listFault a table (s .count) i (length l)) (length ms ∷ [])) lengths matches;
         lists =
-            λ l. ap₂ (λ (i : ℕ) (ms : List ℕ). exitOf (listFault a table (s .count) i (length l)) (ms ++ drop (length ms) l) l)
+            λ l. ap₂ (λ (i : ℕ) (ms : List ℕ). exitOf (listFault a table (s .count) i (length l)) (writtenOver ms l) l)
             lengths matches;
       }
         where

@@ -23,7 +23,7 @@ use Rattle.automaton.specs.Transition.{transitionsAt, automatonOf, headWord}
 use Rattle.automaton.specs.Numbering.{hasEntries, statesOf, portOf, ownTransitions, portsFrom, statesAfter, transitionsFrom, compiled}
 use Rattle.automaton.specs.Table.{isHead, isTableWord, sourcesLeft, areTransitions, isTable, noTable}
 use Rattle.automaton.specs.StateSet.{sizeFor, contains, insert, allContained, symbolPass, epsilonPass, epsilonClosure, stateSet}
-use Rattle.words.specs.Answer.{Answer, refused, accepted, firstValue}
+use Rattle.words.specs.Answer.{Answer, refused, accepted, valueOr}
 use Rattle.operations.specs.Compile.{compiledTable, compileFault, tooManyStates, tableTooLong}
 use Rattle.operations.specs.Marks.{sizeOf, finalOf, nodeSet, nodeSets, storedSet, sameWords, refit}
 use Rattle.operations.specs.Run.{wrongCount, marksTooShort, runFault, runMarks, cellsIn, runAnswer, runExit}
@@ -84,7 +84,7 @@ pub record ExchangeRow (rl slice stored : List ℕ) (n i : ℕ) (xs : List ℕ) 
   pub answers : exchangeAnswer (exchangeCall alphabet (compiledTable alphabet rl) slice stored n i xs) ≡ answer
   pub chapterLeft : exchangeChapter (exchangeCall alphabet (compiledTable alphabet rl) slice stored n i xs) ≡ left
   pub marksLeft : exchangeMarks (exchangeCall alphabet (compiledTable alphabet rl) slice stored n i xs) ≡ leftMarks
-  pub lists : matchesOf (compiledTable alphabet rl) (firstValue answer n) leftMarks ≡ hits
+  pub lists : matchesOf (compiledTable alphabet rl) (valueOr answer 0 n) leftMarks ≡ hits
 
 -- every call of Compile, Run and List with the alphabet and this rule, whatever the chapter: List names exactly the nodes
 -- whose subtrees have the property

@@ -11,6 +11,7 @@ use Rattle.words.specs.Chapter.{symbolOf}
 use Rattle.words.specs.Postfix.{childrenOf, oneTree}
 use Rattle.words.proofs.AcceptedAlphabet.{alphabet-accepted}
 use Rattle.automaton.specs.StateSet.{StateSet}
+use Rattle.words.proofs.AnswerLaws.{accepted-values}
 use Rattle.words.specs.Answer.{accepted}
 use Rattle.operations.specs.Marks.{sizeOf, nodeSet, ReachedSet, nodeSets, storedSet, refit}
 use Rattle.operations.specs.ExchangeCall.{ExchangeCall}
@@ -20,7 +21,7 @@ use Rattle.operations.specs.Recomputation.{outcomeOf, setAfter, startIn}
 use Rattle.operations.specs.Demands.{RecomputesOnly, Demand3Recomputation}
 use Rattle.operations.proofs.MarksLaws.{storedSet-flatten}
 use Rattle.operations.proofs.LengthLaws.{sized-outcomes}
-use Rattle.operations.proofs.AcceptedLaws.{accepted-values, CallAccepted, call-accepted}
+use Rattle.operations.proofs.AcceptedLaws.{CallAccepted, call-accepted}
 use Rattle.operations.proofs.AnyTable.{nodeSet-reached}
 use Rattle.operations.proofs.RuleLaws.{Follows, follows-length, follows-outcomes, from-children}
 use Rattle.operations.proofs.OutcomeParts.{root-last, outcome-before, outcome-replaced, recomputed-parts}
@@ -101,7 +102,7 @@ module _ (c : ExchangeCall) (elements workedOut : ℕ) (h : exchangeAnswer c ≡
   reached j r l e =
       let rs = map (setAfter c) (childrenOf a (newTree c) j) in
       subst (ReachedSet (c .table) (symbolOf (getD (newTree c) j 0)) rs) (sym (rule j r l e))
-      (nodeSet-reached a (c .table) (alphabet-accepted a (call .checked .alphabet) .few) (call .checked .automaton) (getD (newTree c) j 0) rs)
+      (nodeSet-reached a (c .table) (alphabet-accepted a (call .checked .alphabet) .counted .few) (call .checked .automaton) (getD (newTree c) j 0) rs)
 
   parts : workedOut ≡ length xs + recomputedIn (behindOf c)
   unfolding outcomes

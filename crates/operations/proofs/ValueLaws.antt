@@ -8,6 +8,7 @@ use lib.ListN.{length}
 use Rattle.words.specs.Limits.{nodesMost}
 use Rattle.automaton.specs.Transition.{automatonOf}
 use Rattle.automaton.specs.StateSet.{sizeFor}
+use Rattle.words.proofs.AnswerLaws.{accepted-values}
 use Rattle.words.specs.Answer.{accepted}
 use Rattle.operations.specs.Compile.{compileAnswer}
 use Rattle.operations.specs.Marks.{sizeOf, nodeSets}
@@ -15,7 +16,7 @@ use Rattle.operations.specs.Run.{runFault, cellsIn, runAnswer}
 use Rattle.operations.specs.Listing.{matchesOf, listFault, listAnswer}
 use Rattle.operations.specs.Exchange.{Outcome, kept, recomputed, recomputedIn, fault, newTree, outcomes, exchangeAnswer}
 use Rattle.operations.specs.ExchangeCall.{ExchangeCall}
-use Rattle.operations.proofs.AcceptedLaws.{accepted-values, run-accepted, list-accepted, call-accepted}
+use Rattle.operations.proofs.AcceptedLaws.{run-accepted, list-accepted, call-accepted}
 use Rattle.operations.proofs.CompileLaws.{compile-result}
 use Rattle.operations.proofs.CellLaws.{cells-nodeSets}
 use Rattle.operations.proofs.MatchLaws.{matchesOf-few}

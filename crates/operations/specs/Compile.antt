@@ -1,9 +1,10 @@
--- Compile: refusals 1 to 7, the answer, and the table slice at exit.
+-- Compile: its refusals (`compileRefusals`), the answer, and the table slice at exit.
 use Prim.Native.Nat.{ℕ}
 use mathlib.Core.List.{List, [], _∷_, _++_}
 use mathlib.Core.Bool.{Bool}
-use lib.ListN.{length, drop}
+use lib.ListN.{length}
 use lib.Dec.{ltb}
+use Rattle.words.specs.Lists.{writtenOver}
 use Rattle.words.specs.Limits.{statesMost}
 use Rattle.words.specs.Refusal.{Refusals, refusal}
 use Rattle.words.specs.Alphabet.{alphabetRefusals}
@@ -24,7 +25,7 @@ tooManyStates a e = ltb statesMost (compiled a e .states)
 unfoldable pub tableTooLong : List ℕ → List ℕ → ℕ → Bool
 tableTooLong a e tableLength = ltb tableLength (length (compiledTable a e))
 
--- 1 2 3 4 5 6, of an alphabet and a rule
+-- of an alphabet and a rule
 abbrev pub ruleRefusals : List ℕ → List ℕ → Refusals
 ruleRefusals a e = alphabetRefusals a ++ (expressionRefusals a e ++ ((6, tooManyStates a e) ∷ []))
 
@@ -40,5 +41,4 @@ compileAnswer a e slice = answerOf (compileFault a e (length slice)) (length (co
 
 -- the table slice at exit: "Words of the slice behind the table are untouched."
 unfoldable pub compileExit : List ℕ → List ℕ → List ℕ → List ℕ
-compileExit a e slice =
-    exitOf (compileFault a e (length slice)) (compiledTable a e ++ drop (length (compiledTable a e)) slice) slice
+compileExit a e slice = exitOf (compileFault a e (length slice)) (writtenOver (compiledTable a e) slice) slice

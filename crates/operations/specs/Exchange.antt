@@ -1,15 +1,15 @@
--- Exchange: refusals 1 2 8 9 10 11 12 14 15 16, which nodes are recomputed (document 01's worked out) and from what, the
--- answer, and both slices at exit. Nothing is assumed of the stored marks.
+-- Exchange: its refusals (`exchangeRefusals`), which nodes are recomputed (document 01's worked out) and from what, the answer,
+-- and both slices at exit. Nothing is assumed of the stored marks.
 use Prim.Native.Nat.{ℕ, suc, _+_, _*_}
 use mathlib.Core.List.{List, [], _∷_, _++_, flatten, map}
-use mathlib.Core.Bool.{Bool, not, cond, _&&_, _||_}
+use mathlib.Core.Bool.{Bool, not, cond, _||_}
 use lib.ListN.{length, getD, take, drop}
 use lib.Dec.{ltb}
-use Rattle.words.specs.Lists.{all, listFrom}
+use Rattle.words.specs.Lists.{listFrom}
 use Rattle.words.specs.Limits.{nodesMost}
 use Rattle.words.specs.Refusal.{Refusals, refusal}
-use Rattle.words.specs.Chapter.{isNode}
-use Rattle.words.specs.Postfix.{arity, oneTree, startOf, isAncestor, splice, valueOn, stackAfter, stackGiven}
+use Rattle.words.specs.Chapter.{notNodes}
+use Rattle.words.specs.Postfix.{arity, notOneTree, startOf, isAncestor, splice, valueOn, stackAfter, stackGiven}
 use Rattle.automaton.specs.StateSet.{StateSet}
 use Rattle.words.specs.Answer.{Answer, answerOf, exitOf}
 use Rattle.operations.specs.Marks.{sizeOf, nodeSet, nodeSets, storedSet, sameWords, refit}
@@ -26,13 +26,13 @@ noElement n i = not (ltb i n)
 
 -- 15: "replacement of 0 or over 4,096 words, or no tree over the alphabet"
 unfoldable pub noReplacement : List ℕ → List ℕ → Bool
-noReplacement a xs = wrongCount (length xs) || not (all (isNode a) xs && oneTree a xs)
+noReplacement a xs = wrongCount (length xs) || notNodes a xs || notOneTree a xs
 
 -- 16: "result over 4,096 elements, the chapter slice or the marks slice", for a result of n elements
 unfoldable pub resultTooLong : List ℕ → ℕ → ℕ → ℕ → Bool
 resultTooLong table n chapterLength marksLength = ltb nodesMost n || ltb chapterLength n || marksTooShort table n marksLength
 
--- 14 15 16, of a change in n used elements
+-- of a change in n used elements
 abbrev pub changeRefusals : List ℕ → List ℕ → ℕ → List ℕ → ℕ → ℕ → ℕ → List ℕ → Refusals
 changeRefusals a table n used chapterLength marksLength i xs =
     (14, noElement n i) ∷ (15, noReplacement a xs)

@@ -5,7 +5,7 @@ use mathlib.Core.Bool.{cond}
 use lib.ListN.{length}
 use lib.Dec.{eqb}
 use Rattle.words.specs.Postfix.{splice}
-use Rattle.words.specs.Answer.{firstValue}
+use Rattle.words.specs.Answer.{valueOr}
 use Rattle.operations.specs.ExchangeCall.{ExchangeCall, exchangeCall}
 use Rattle.operations.specs.Exchange.{exchangeFault, exchangeAnswer, exchangeChapter, exchangeMarks}
 
@@ -29,7 +29,7 @@ unfoldable pub exchange : List ℕ → List ℕ → Memory → Call → Memory
 exchange a table s c = record {
   chapter = exchangeChapter (callOn a table s c);
   marks = exchangeMarks (callOn a table s c);
-  count = firstValue (exchangeAnswer (callOn a table s c)) (s .count);
+  count = valueOr (exchangeAnswer (callOn a table s c)) 0 (s .count);
 }
 
 -- the memory behind a list of calls, "as the call before left them"

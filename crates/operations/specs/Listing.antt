@@ -1,10 +1,10 @@
--- List: refusals 1 2 8 9 12 13, the answer, and the list slice at exit.
+-- List: its refusals (`listRefusals`), the answer, and the list slice at exit.
 use Prim.Native.Nat.{ℕ, suc}
 use mathlib.Core.List.{List, [], _∷_, _++_}
 use mathlib.Core.Bool.{Bool, cond}
-use lib.ListN.{length, drop}
+use lib.ListN.{length}
 use lib.Dec.{ltb}
-use Rattle.words.specs.Lists.{listFrom}
+use Rattle.words.specs.Lists.{listFrom, writtenOver}
 use Rattle.words.specs.Refusal.{Refusals, refusal}
 use Rattle.automaton.specs.StateSet.{StateSet, contains}
 use Rattle.words.specs.Answer.{Answer, answerOf, exitOf}
@@ -40,5 +40,4 @@ listAnswer a table n marks slice =
 -- the list slice at exit: "leaves the rest untouched"
 unfoldable pub listExit : List ℕ → List ℕ → ℕ → List ℕ → List ℕ → List ℕ
 listExit a table n marks slice =
-    exitOf (listFault a table n (length marks) (length slice))
-    (matchesOf table n marks ++ drop (length (matchesOf table n marks)) slice) slice
+    exitOf (listFault a table n (length marks) (length slice)) (writtenOver (matchesOf table n marks) slice) slice

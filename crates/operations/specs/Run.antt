@@ -1,11 +1,11 @@
--- Run: refusals 1 2 8 9 10 11 12, the answer, and the marks slice at exit.
+-- Run: its refusals (`runRefusals`), the answer, and the marks slice at exit.
 use Prim.Native.Nat.{ℕ, _+_, _*_}
 use mathlib.Core.List.{List, [], _∷_, _++_, flatten}
-use mathlib.Core.Bool.{Bool, _||_}
+use mathlib.Core.Bool.{Bool}
 use lib.ListN.{length, drop}
-use lib.Dec.{eqb, ltb}
+use lib.Dec.{ltb}
 use lib.Count.{ones}
-use Rattle.words.specs.Limits.{nodesMost}
+use Rattle.words.specs.Limits.{outside, nodesMost}
 use Rattle.words.specs.Refusal.{Refusals, refusal}
 use Rattle.words.specs.Alphabet.{alphabetRefusals}
 use Rattle.words.specs.Chapter.{treeRefusals}
@@ -15,17 +15,17 @@ use Rattle.operations.specs.Marks.{sizeOf, nodeSets}
 
 -- 9: "chapter of 0 or over 4,096 elements"
 unfoldable pub wrongCount : ℕ → Bool
-wrongCount n = eqb n 0 || ltb nodesMost n
+wrongCount n = outside nodesMost n
 
 -- 12: "fewer marks than elements × S"; `marksLength` is the length of the marks slice
 unfoldable pub marksTooShort : List ℕ → ℕ → ℕ → Bool
 marksTooShort table n marksLength = ltb marksLength (n * sizeOf table)
 
--- 1 2 8, of an alphabet and a table: Run, List and Exchange begin with them
+-- of an alphabet and a table: Run, List and Exchange begin with them
 abbrev pub tableRefusals : List ℕ → List ℕ → Refusals
 tableRefusals a table = alphabetRefusals a ++ ((8, noTable a table) ∷ [])
 
--- 10 11 12, of n elements and a marks slice of that length: Run and Exchange have them
+-- of n elements and a marks slice of that length: Run and Exchange have them
 abbrev pub markedRefusals : List ℕ → List ℕ → ℕ → List ℕ → ℕ → Refusals
 markedRefusals a table n ch marksLength = treeRefusals a ch ++ ((12, marksTooShort table n marksLength) ∷ [])
 

@@ -10,6 +10,7 @@ use syntax::chapter::tree_fault;
 use tables::check::is_table;
 use tables::head::set_size;
 use words::limits::NODES_MOST;
+use words::limits::is_outside;
 
 // Document 01's number 1, 2 or 8, the first that applies, or 0.
 pub(crate) fn table_fault(alphabet: &[u32], table: &[u32]) -> u32
@@ -29,10 +30,7 @@ pub(crate) fn table_fault(alphabet: &[u32], table: &[u32]) -> u32
 pub(crate) fn wrong_count(count: usize) -> bool
     ensures { λ r. ⌜ r ≡ wrongCount count ⌝ }
 {
-    if count == 0 {
-        return true;
-    }
-    NODES_MOST < count
+    is_outside(NODES_MOST, count)
 }
 
 // Whether a marks slice of this length is too short for the state sets of this many elements.

@@ -1,20 +1,19 @@
 -- The output depends only on the words that are kept of the alphabet, the rule and the chapter.
 use mathlib.Core.Path.{_≡_, refl, ap, _∙_, sym}
 use mathlib.Core.Bool.{Bool, true, false}
-use mathlib.Core.List.{List, [], _∷_, _++_}
+use mathlib.Core.List.{List}
 use Prim.Native.Nat.{ℕ, _+_, _<_, _≤_}
 use native.Mathlib.Omega.{arith}
 use native.Mathlib.Decide.{decLe}
 use lib.ListN.{length, take}
 use lib.Seq.{take-all, length-take-le}
-use lib.Dec.{ltb}
-use borrow.Author.Tests.{ltb-true, lt-ltb, ne-eqb}
+use borrow.Author.Tests.{ne-eqb}
 use Rattle.words.specs.Limits.{alphabetMost, expressionMost}
-use Rattle.words.specs.Refusal.{Refusals, refusal}
 use Rattle.words.specs.Alphabet.{noAlphabet, alphabetRefusals}
 use Rattle.words.specs.ExpressionWords.{wrongLength}
-use Rattle.words.proofs.TestLaws.{and-true}
-use Rattle.words.proofs.RefusalLaws.{positive, Found, here, next, found-refusal}
+use Rattle.words.proofs.TestLaws.{or-left}
+use Rattle.words.proofs.LimitLaws.{over-outside}
+use Rattle.words.proofs.RefusalLaws.{here, found-refusal, refusalOr, holds-ends, refusalOr-some}
 use Rattle.operations.specs.Compile.{ruleRefusals}
 use Rattle.lines.specs.Line.{refusedLine}
 use Rattle.report.specs.Stages.{alphabetKept, ruleKept, chapterKept}
@@ -42,41 +41,23 @@ early-output complete a e ch t = rw t
 
 alphabet-long : (a e ch : List ℕ) → alphabetMost < length a → marklistFault a e ch ≡ 1
 unfolding noAlphabet
-alphabet-long a e ch h = rw (ne-eqb (length a) 0 (λ z. omega arith), lt-ltb alphabetMost (length a) h)
+alphabet-long a e ch h = sym (found-refusal (marklistRefusals a e ch) (here (or-left _ _ (over-outside alphabetMost (length a) h))))
 
--- where a condition holds, those behind it make no difference
-abbrev upTo : Refusals → ℕ → ℕ
-upTo rs n = refusal (rs ++ ((n, true) ∷ []))
-
-cut : (rs ks : Refusals) (n : ℕ) {b : Bool} → b ≡ true → Found (rs ++ ((n, b) ∷ ks)) (upTo rs n)
-cut [] ks n h = here h
-cut ((m, true) ∷ rs) ks n h = here refl
-cut ((m, false) ∷ rs) ks n h = next refl (cut rs ks n h)
-
-cut-some : (rs : Refusals) (n : ℕ) → 0 < n → positive rs ≡ true → 0 < upTo rs n
-cut-some [] n h p = h
-cut-some ((m, true) ∷ rs) n h p = ltb-true 0 m (and-true (ltb 0 m) (positive rs) p .0)
-cut-some ((m, false) ∷ rs) n h p = cut-some rs n h (and-true (ltb 0 m) (positive rs) p .1)
-
-rule-long : (a e ch : List ℕ) → expressionMost < length e → marklistFault a e ch ≡ upTo (alphabetRefusals a) 3
+rule-long : (a e ch : List ℕ) → expressionMost < length e → marklistFault a e ch ≡ refusalOr (alphabetRefusals a) 3
 unfolding wrongLength
-rule-long a e ch h = sym (found-refusal (marklistRefusals a e ch) (cut (alphabetRefusals a) _ 3 long))
-  where
-    long : wrongLength e ≡ true
-    long = rw (ne-eqb (length e) 0 (λ z. omega arith), lt-ltb expressionMost (length e) h)
+rule-long a e ch h =
+    sym (found-refusal (marklistRefusals a e ch) (holds-ends (alphabetRefusals a) _ 3 (over-outside expressionMost (length e) h)))
 
-chapter-long : (a e ch : List ℕ) → chapterMost < length ch → marklistFault a e ch ≡ upTo (ruleRefusals a e) 9
+chapter-long : (a e ch : List ℕ) → chapterMost < length ch → marklistFault a e ch ≡ refusalOr (ruleRefusals a e) 9
 unfolding wrongChapter
-chapter-long a e ch h = sym (found-refusal (marklistRefusals a e ch) (cut (ruleRefusals a e) _ 9 long))
-  where
-    long : wrongChapter ch ≡ true
-    long = rw (ne-eqb (length ch) 0 (λ z. omega arith), lt-ltb chapterMost (length ch) h)
+chapter-long a e ch h =
+    sym (found-refusal (marklistRefusals a e ch) (holds-ends (ruleRefusals a e) _ 9 (over-outside chapterMost (length ch) h)))
 
-rule-number : (a : List ℕ) → 0 < upTo (alphabetRefusals a) 3
-rule-number a = cut-some (alphabetRefusals a) 3 (omega arith) refl
+rule-number : (a : List ℕ) → 0 < refusalOr (alphabetRefusals a) 3
+rule-number a = refusalOr-some (alphabetRefusals a) 3 (omega arith) refl
 
-chapter-number : (a e : List ℕ) → 0 < upTo (ruleRefusals a e) 9
-chapter-number a e = cut-some (ruleRefusals a e) 9 (omega arith) refl
+chapter-number : (a e : List ℕ) → 0 < refusalOr (ruleRefusals a e) 9
+chapter-number a e = refusalOr-some (ruleRefusals a e) 9 (omega arith) refl
 
 -- ---- the words that are kept
 

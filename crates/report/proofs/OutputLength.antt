@@ -1,20 +1,19 @@
 -- The output never has more bytes than a buffer.
 use mathlib.Core.Path.{_≡_, refl}
-use mathlib.Core.Bool.{Bool, true, false, cond, _&&_}
+use mathlib.Core.Bool.{Bool, true, false, cond}
 use mathlib.Core.List.{List, [], _∷_, _++_}
 use Prim.Native.Nat.{ℕ, zero, suc, _+_, _-_, _*_, _/_, _^_, _<_, _≤_}
 use native.Mathlib.Omega.{arith}
 use native.Mathlib.Decide.{decLe}
 use native.Mathlib.Nat.{pow-suc}
 use lib.ListN.{length, getD, length-append}
-use lib.Dec.{eqb, ltb, leb}
-use borrow.Author.Tests.{ltb-false, leb-true, eqb-true}
+use lib.Dec.{eqb}
+use borrow.Author.Tests.{ltb-false, eqb-true}
 use Rattle.words.specs.Limits.{statesMost}
-use Rattle.words.specs.Refusal.{Refusals, refusal}
 use Rattle.words.specs.Chapter.{symbolOf}
 use Rattle.words.specs.Postfix.{startOf}
-use Rattle.words.proofs.RefusalLaws.{none-applies}
-use Rattle.words.proofs.TestLaws.{and-true, or-false}
+use Rattle.words.proofs.LimitLaws.{not-outside}
+use Rattle.words.proofs.RefusalLaws.{none-applies, refusal-most}
 use Rattle.automaton.specs.StateSet.{StateSet, contains}
 use Rattle.automaton.specs.Table.{AllBelow}
 use Rattle.automaton.specs.Numbering.{compiled}
@@ -86,16 +85,6 @@ matches-below final (r ∷ rs) i n h = go (contains r final) (matches-below fina
 
 -- ---- the whole output
 
--- every number of a list of refusals is at most m
-abbrev atMost : ℕ → Refusals → Bool
-atMost m [] = true
-atMost m (r ∷ rs) = leb (r .0) m && atMost m rs
-
-refusal-most : (m : ℕ) (rs : Refusals) → atMost m rs ≡ true → refusal rs ≤ m
-refusal-most m [] h = omega arith
-refusal-most m ((n, true) ∷ rs) h = leb-true n m (and-true (leb n m) (atMost m rs) h .0)
-refusal-most m ((n, false) ∷ rs) h = refusal-most m rs (and-true (leb n m) (atMost m rs) h .1)
-
 hits-few : (a e ch : List ℕ) → length (hitsOf a e ch) ≤ length ch
 unfolding hitsOf
 hits-few a e ch =
@@ -112,8 +101,7 @@ hits-below a e ch h =
 pub accepted-few : (a e ch : List ℕ) → marklistFault a e ch ≡ 0 → length ch ≤ chapterMost
 unfolding wrongChapter
 accepted-few a e ch f =
-    let c : wrongChapter ch ≡ false = none-applies (marklistRefusals a e ch) refl f 9 in
-    ltb-false chapterMost (length ch) (or-false (eqb (length ch) 0) (ltb chapterMost (length ch)) c .1)
+    not-outside chapterMost (length ch) (none-applies (marklistRefusals a e ch) refl f 9) .few
 
 accepted-states : (a e ch : List ℕ) → marklistFault a e ch ≡ 0 → compiled a e .states ≤ statesMost
 unfolding tooManyStates

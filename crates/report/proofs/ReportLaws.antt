@@ -8,10 +8,11 @@ use lib.ListN.{length, take, drop, replicate, length-replicate, length-take}
 use Rattle.automaton.specs.Transition.{automatonOf}
 use Rattle.words.specs.Limits.{tableMost}
 use Rattle.words.specs.Answer.{refused, accepted}
+use Rattle.words.proofs.AnswerLaws.{accepted-values}
 use Rattle.operations.specs.Compile.{compiledTable, compileAnswer, compileExit}
 use Rattle.operations.specs.Run.{runAnswer, runExit}
 use Rattle.operations.specs.Listing.{matchesOf, listFault, listAnswer, listExit}
-use Rattle.operations.proofs.AcceptedLaws.{accepted-values, list-accepted}
+use Rattle.operations.proofs.AcceptedLaws.{list-accepted}
 use Rattle.operations.proofs.CompileLaws.{CompileResult, compile-result}
 use Rattle.compiler.specs.declared.Compiled.{Compiled}
 use Rattle.compiler.specs.declared.Compiled.the-variants.{Table, Refused as Compiled·Refused}

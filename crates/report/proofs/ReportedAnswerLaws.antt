@@ -6,27 +6,28 @@ use mathlib.Core.List.{List, [], _∷_, _++_, head-eq-of-cons-eq}
 use Prim.Native.Nat.{ℕ, zero, suc, _*_, _<_, _≤_}
 use native.Mathlib.Omega.{arith}
 use native.Mathlib.Nat.{mul-le-mul}
-use lib.ListN.{length, take, drop}
-use lib.Seq.{take-at}
-use borrow.Author.Tests.{lt-ltb, le-ltb, ne-eqb}
+use lib.ListN.{length, take}
+use borrow.Author.Tests.{le-ltb}
 use Rattle.words.specs.Limits.{tableMost, nodesMost}
 use Rattle.words.specs.Refusal.{Refusals, refusal}
 use Rattle.words.specs.Chapter.{treeRefusals}
-use Rattle.words.proofs.RefusalLaws.{none, next, found-refusal, refusal-found, refuses, passes, first-passes, last-passes}
+use Rattle.words.proofs.ListLaws.{take-over}
+use Rattle.words.proofs.LimitLaws.{over-outside}
+use Rattle.words.proofs.RefusalLaws.{here, found-refusal, refuses, first-passes, last-passes}
 use Rattle.automaton.specs.Transition.{Automaton, automatonOf}
 use Rattle.automaton.specs.StateSet.{sizeFor}
 use Rattle.automaton.specs.Numbering.{compiled}
 use Rattle.automaton.proofs.CompiledTable.{table-most}
 use Rattle.words.specs.Answer.{refused, accepted}
+use Rattle.words.proofs.AnswerLaws.{refused-number, accepted-values}
 use Rattle.operations.specs.Compile.{compiledTable, tableTooLong, ruleRefusals, compileRefusals, compileFault, compileAnswer}
 use Rattle.operations.specs.Marks.{sizeOf, finalOf, nodeSets}
 use Rattle.operations.specs.Run.{wrongCount, marksTooShort, tableRefusals, runFault, runMarks, runAnswer, runExit}
 use Rattle.operations.specs.Listing.{listFault, matchesIn, matchesOf, listAnswer, listExit}
-use Rattle.operations.proofs.AcceptedLaws.{accepted-values, RuleAccepted, rule-accepted}
+use Rattle.operations.proofs.AcceptedLaws.{RuleAccepted, rule-accepted}
 use Rattle.operations.proofs.AcceptedLaws.{accepted-table, run-accepted, accepted-list}
 use Rattle.operations.proofs.RunLaws.{run-exit, run-writes, run-length, matches-nodeSets}
 use Rattle.operations.proofs.CompileLaws.{CompileResult, compile-result}
-use Rattle.operations.proofs.Demand1.{refused-by}
 use Rattle.lines.specs.Line.{refusedLine, headLine, hitLines}
 use Rattle.sets.specs.Size.{setMost}
 use Rattle.report.specs.Stages.{marksLength}
@@ -50,14 +51,14 @@ module _ (a e : List ℕ) where
       go : (n : ℕ) → refusal (ruleRefusals a e) ≡ n → compileFault a e tableMost ≡ refusal (ruleRefusals a e)
       go (suc n) h =
           sym (found-refusal (compileRefusals a e tableMost) (refuses (ruleRefusals a e) _ refl (λ z. omega arith)))
-      go zero h = sym (found-refusal (compileRefusals a e tableMost) (passes (ruleRefusals a e) refl refl h (next (table-enough h) none))) ∙ sym h
+      go zero h = first-passes (ruleRefusals a e) ((7, tableTooLong a e tableMost) ∷ []) refl h ∙ rw (table-enough h) (sym h)
 
   -- a refused Compile: its number is printed
   pub compile-refused : (ch slice : List ℕ) (n : ℕ) → length slice ≡ tableMost → refused n ≡ compileAnswer a e slice
       → marklistOutput a e ch ≡ refusedLine n
   unfolding compileAnswer
   compile-refused ch slice n l h =
-      let q = refused-by (length (compiledTable a e) ∷ []) (compileFault a e (length slice)) n (sym h) in
+      let q = refused-number (compileFault a e (length slice)) (length (compiledTable a e) ∷ []) n (sym h) in
       let f : n ≡ refusal (ruleRefusals a e) = sym (q .1) ∙ ap (compileFault a e) l ∙ compile-rule in
       let some = q .0 in
       refused-output a e ch n (sym (found-refusal (marklistRefusals a e ch) (refuses (ruleRefusals a e) _ f (λ z. omega arith)))) (q .0)
@@ -79,13 +80,14 @@ module _ (a e : List ℕ) where
 
     -- the refusals that are left
     pub left-fault : marklistFault a e ch ≡ refusal (chapterRefusals a ch)
-    left-fault = sym (found-refusal (marklistRefusals a e ch) (passes (ruleRefusals a e) refl refl rule-none (refusal-found (chapterRefusals a ch) refl)))
+    left-fault = first-passes (ruleRefusals a e) (chapterRefusals a ch) refl rule-none
 
     -- "Over 256 elements it says 9"
     pub chapter-over : chapterMost < length ch → marklistOutput a e ch ≡ refusedLine 9
     unfolding wrongChapter
     chapter-over g =
-        refused-output a e ch 9 (left-fault ∙ rw (ne-eqb (length ch) 0 (λ z. omega arith), lt-ltb chapterMost (length ch) g)) (omega arith)
+        refused-output a e ch 9
+        (left-fault ∙ sym (found-refusal (chapterRefusals a ch) (here (over-outside chapterMost (length ch) g)))) (omega arith)
 
     -- the state count of the head
     pub compiled-states : automatonOf (compiledTable a e) .states ≡ compiled a e .states
@@ -123,7 +125,7 @@ module _ (a e : List ℕ) where
           → marklistOutput a e ch ≡ refusedLine n
       unfolding runAnswer
       run-refusal marks n m g =
-          let q = refused-by _ (runFault a (compiledTable a e) ch (length marks)) n (sym g) in
+          let q = refused-number (runFault a (compiledTable a e) ch (length marks)) _ n (sym g) in
           refused-output a e ch n (sym run-fault ∙ ap (runFault a (compiledTable a e) ch) (sym m) ∙ q .1) (q .0)
 
       -- ---- an accepted Run, and List with a slice of a word an element
@@ -180,7 +182,7 @@ module _ (a e : List ℕ) where
           unfolding listExit
           listed =
               let ms = matchesOf (compiledTable a e) (length ch) left in
-              rw list-none (take-at ms (drop (length ms) list) hits hit-count)
+              rw list-none (take-over ms list hits hit-count)
 
           pub listed-long : hits ≡ length (take hits (listExit a (compiledTable a e) (length ch) left list))
           listed-long = sym (ap length listed ∙ hit-count)

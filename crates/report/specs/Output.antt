@@ -1,9 +1,10 @@
 -- What `marklist` prints of an alphabet, a rule and a chapter, as bytes (document 01, "The source's own example").
 use Prim.Native.Nat.{ℕ}
 use mathlib.Core.List.{List, _∷_, _++_}
-use mathlib.Core.Bool.{Bool, cond, _||_}
+use mathlib.Core.Bool.{Bool, cond}
 use lib.ListN.{length}
-use lib.Dec.{eqb, ltb}
+use lib.Dec.{eqb}
+use Rattle.words.specs.Limits.{outside}
 use Rattle.words.specs.Refusal.{Refusals, refusal}
 use Rattle.words.specs.Chapter.{treeRefusals}
 use Rattle.automaton.specs.Numbering.{compiled}
@@ -20,13 +21,14 @@ chapterMost = 256
 
 -- 9 in Run's place: "Over 256 elements it says 9", and a chapter of 0 elements
 unfoldable pub wrongChapter : List ℕ → Bool
-wrongChapter ch = eqb (length ch) 0 || ltb chapterMost (length ch)
+wrongChapter ch = outside chapterMost (length ch)
 
--- 9 10 11, of a chapter: Run's
+-- of a chapter: Run's
 abbrev pub chapterRefusals : List ℕ → List ℕ → Refusals
 chapterRefusals a ch = (9, wrongChapter ch) ∷ treeRefusals a ch
 
--- "the faults of Compile before those of Run"; its memory is so large that 7, 8, 12 and 13 cannot arise
+-- "the faults of Compile before those of Run"; its memory is so large that no refusal of a short slice can arise, nor one of a
+-- table, which is a compiled one
 abbrev pub marklistRefusals : List ℕ → List ℕ → List ℕ → Refusals
 marklistRefusals a e ch = ruleRefusals a e ++ chapterRefusals a ch
 

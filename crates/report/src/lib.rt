@@ -70,7 +70,7 @@ fn report_chapter(alphabet: &[u32], table: &[u32], chapter: &[u32], out: &mut [u
 }
 
 // Writes the output of the words that were read: `complete` says whether the input held all that it announced. The slices
-// of the table, the marks and the hits are so large that 7, 8, 12 and 13 cannot arise.
+// of the table, the marks and the hits are so large that no refusal but those of `marklistRefusals` can arise.
 pub fn report(
     complete: bool,
     alphabet: &[u32],

@@ -1,10 +1,10 @@
 // Whole state sets: two are joined, one is written or copied, two are compared, and the ones of all are counted.
 ghost use mathlib.Core.Path.{_≡_};
-ghost use mathlib.Core.List.{_++_};
 ghost use Prim.Native.Nat.{_+_, _≤_};
 ghost use lib.Count.{ones};
 ghost use lib.ListN.{length, take, drop};
 ghost use lib.Seq.{paste};
+ghost use Rattle.words.specs.Lists.{writtenOver};
 ghost use Rattle.operations.specs.Marks.{sameWords};
 ghost use Rattle.operations.specs.Run.{cellsIn};
 ghost use Rattle.sets.specs.Copyable.{Copyable};
@@ -27,7 +27,7 @@ pub fn join(set: &mut [u32], other: &[u32])
 // Writes the words of one set to the front of the part that is lent.
 pub fn write_set(part: &mut [u32], set: &[u32])
     requires { ⌜ length (now set) ≤ length (now part) ⌝ }
-    ensures { λ _. ⌜ now (part .exit) ≡ now (set .entry) ++ drop (length (now (set .entry))) (now (part .entry)) ⌝ }
+    ensures { λ _. ⌜ now (part .exit) ≡ writtenOver (now (set .entry)) (now (part .entry)) ⌝ }
 {
     let mut k = 0;
     while k < set.len() {

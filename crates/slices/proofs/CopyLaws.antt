@@ -7,6 +7,7 @@ use native.Mathlib.Nat.{zero-add}
 use native.Mathlib.Numerals.{add-one}
 use lib.ListN.{length, getD, take, drop, set, replicate, length-set, getD-replicate, take-append-drop}
 use lib.Seq.{paste, paste-zero, paste-suc, getD-drop, drop-drop, drop-paste, take-length}
+use Rattle.words.specs.Lists.{writtenOver}
 
 -- k of n words stand from index `at` on; the rest of the slice is as it was
 pub record Copied (s₀ : List ℕ) (at : ℕ) (ws : List ℕ) (n : ℕ) (s : List ℕ) (k : ℕ) : Type 0 where
@@ -52,7 +53,7 @@ zero-at n k h = sym (getD-replicate n k 0 0 h)
 
 -- ---- all words copied to the front
 
-pub paste-front : (s₀ ws : List ℕ) → paste s₀ 0 ws (length ws) ≡ ws ++ drop (length ws) s₀
+pub paste-front : (s₀ ws : List ℕ) → paste s₀ 0 ws (length ws) ≡ writtenOver ws s₀
 paste-front s₀ ws = ap₂ (λ (l : List ℕ) (i : ℕ). l ++ drop i s₀) (take-length ws) (zero-add (length ws))
 
 -- ---- words copied onto themselves

@@ -5,6 +5,7 @@ use Prim.Native.Nat.{ℕ, _+_, _-_}
 use native.Mathlib.Omega.{arith}
 use lib.ListN.{length, take, drop, length-drop, drop-of-length-le}
 use lib.Seq.{paste, take-all, drop-drop}
+use Rattle.words.specs.Lists.{writtenOver}
 use Rattle.words.proofs.ScanLaws.{drop-part}
 use borrow.Rule.Slice.PartMut.{midOf, postOf, putMid}
 
@@ -16,11 +17,11 @@ module _ (m : List ℕ) (a : ℕ) where
   tail-post = drop-of-length-le (drop a m) {i = length m - a} (rw length-drop (omega arith))
 
   -- the words ws were written to the front of the part
-  pub tail-part : (ws part : List ℕ) → part ≡ ws ++ drop (length ws) (midOf a (length m - a) m)
+  pub tail-part : (ws part : List ℕ) → part ≡ writtenOver ws (midOf a (length m - a) m)
       → putMid a (length m - a) m part ≡ paste m a ws (length ws)
   tail-part ws part e =
       ap (λ (p : List ℕ). take a m ++ (part ++ p)) tail-post
-      ∙ ap (λ (p : List ℕ). take a m ++ p) (append-nil part ∙ e ∙ ap (λ (p : List ℕ). ws ++ drop (length ws) p) tail-mid)
+      ∙ ap (λ (p : List ℕ). take a m ++ p) (append-nil part ∙ e ∙ ap (writtenOver ws) tail-mid)
       ∙ ap (λ (p : List ℕ). take a m ++ (ws ++ p)) (drop-drop (length ws) a m)
       ∙ sym (append-assoc (take a m) ws (drop (a + length ws) m))
       ∙ ap (λ (p : List ℕ). (take a m ++ p) ++ drop (a + length ws) m) (sym (take-all (length ws) ws (omega arith)))

@@ -6,6 +6,7 @@ use Prim.Native.Nat.{ℕ, zero, suc, _+_, _-_, _≤_, max}
 use native.Mathlib.Omega.{arith}
 use lib.ListN.{length, take, drop, replicate, length-append, length-replicate}
 use lib.Seq.{paste, slice, length-slice, length-take-le, take-all, take-at, drop-drop, drop-append-add}
+use Rattle.words.specs.Lists.{writtenOver}
 use Rattle.operations.specs.Marks.{refit}
 
 pub take-drop : (t n : ℕ) (l : List ℕ) → t ≤ n → take (n - t) (drop t l) ≡ slice t n l
@@ -28,13 +29,13 @@ module _ (l : List ℕ) (at t n : ℕ) (h : t ≤ n) (inside : n ≤ length l) (
   length-moved =
       length-append (take at l) (slice t n l) ∙ ap₂ (λ (i j : ℕ). i + j) (length-take-le at l (omega arith)) (length-slice t n l inside)
 
-  pub moved-tail : paste l at (drop t l) (n - t) ≡ words ++ drop (length words) l
+  pub moved-tail : paste l at (drop t l) (n - t) ≡ writtenOver words l
   moved-tail =
       ap₂ (λ (u : List ℕ) (i : ℕ). (take at l ++ u) ++ drop i l) (take-drop t n l h) (sym length-moved)
 
 -- words behind the used ones become zero
 module _ (l ws : List ℕ) (n : ℕ) where
-  pub cleared : paste (ws ++ drop (length ws) l) (length ws) (replicate (n - length ws) 0) (n - length ws) ≡ refit n ws l
+  pub cleared : paste (writtenOver ws l) (length ws) (replicate (n - length ws) 0) (n - length ws) ≡ refit n ws l
   unfolding refit
   cleared =
       let k = length ws in

@@ -1,16 +1,18 @@
 -- The check of a chapter in one pass: what is judged already, and what the rest decides.
 use mathlib.Core.Path.{_≡_, refl, ap, _∙_, sym}
-use mathlib.Core.Bool.{Bool, true, false}
+use mathlib.Core.Bool.{Bool, true, false, not}
 use mathlib.Core.List.{List}
 use Prim.Native.Nat.{ℕ, _+_, _-_, _<_, _≤_}
 use native.Mathlib.Omega.{arith}
 use lib.ListN.{length, getD, take, drop}
+use lib.Dec.{eqb}
 use borrow.Author.Tests.{eq-eqb, ne-eqb}
 use Rattle.words.specs.Lists.{all}
 use Rattle.words.specs.Alphabet.{rankOf}
 use Rattle.words.specs.Postfix.{arity, trees, notOneTree}
-use Rattle.words.specs.Chapter.{symbolOf, isNode, notNodes, treeFault}
+use Rattle.words.specs.Chapter.{symbolOf, isNode, notNodes, treeRefusals}
 use Rattle.words.proofs.ScanLaws.{drop-part, all-fails, all-continues, all-end, trees-lacks, trees-continues, trees-end}
+use Rattle.words.proofs.RefusalLaws.{Found, none, here, next}
 use Rattle.words.proofs.WordLaws.{isNode-facts}
 
 -- the words before word i are nodes and make `made` trees: the words from i on decide
@@ -25,26 +27,34 @@ judged-none a words = record { few = omega arith; below = omega arith; nodes = r
 
 module _ {a words : List ℕ} {made i : ℕ} (s : ChapterJudged a words made i) where
   -- behind the last word
-  pub judged-one : length words ≤ i → made ≡ 1 → 0 ≡ treeFault a words
-  unfolding notNodes notOneTree
-  judged-one h e = sym (rw (s .nodes ∙ all-end (isNode a) words i h, s .shape ∙ trees-end (arity a) words made i 1 h, eq-eqb made 1 e))
+  module _ (h : length words ≤ i) where
+    no-other : notNodes a words ≡ false
+    unfolding notNodes
+    no-other = ap not (s .nodes ∙ all-end (isNode a) words i h)
 
-  pub judged-not-one : length words ≤ i → (made ≡ 1 → ⊥) → 11 ≡ treeFault a words
-  unfolding notNodes notOneTree
-  judged-not-one h e = sym (rw (s .nodes ∙ all-end (isNode a) words i h, s .shape ∙ trees-end (arity a) words made i 1 h, ne-eqb made 1 e))
+    made-decides : notOneTree a words ≡ not (eqb made 1)
+    unfolding notOneTree
+    made-decides = ap not (s .shape ∙ trees-end (arity a) words made i 1 h)
+
+    pub judged-one : made ≡ 1 → Found (treeRefusals a words) 0
+    judged-one e = next no-other (next (made-decides ∙ ap not (eq-eqb made 1 e)) none)
+
+    pub judged-not-one : (made ≡ 1 → ⊥) → Found (treeRefusals a words) 11
+    judged-not-one e = next no-other (here (made-decides ∙ ap not (ne-eqb made 1 e)))
 
   -- b tells whether the part `&words[i..]` has nodes only
-  rest : (b : Bool) → b ≡ all (isNode a) (take (length words - i) (drop i words)) → all (isNode a) words ≡ b
-  rest b e = s .nodes ∙ sym (e ∙ ap (all (isNode a)) (drop-part words i))
+  module _ (b : Bool) (e : b ≡ all (isNode a) (take (length words - i) (drop i words))) where
+    rest-decides : notNodes a words ≡ not b
+    unfolding notNodes
+    rest-decides = ap not (s .nodes ∙ sym (e ∙ ap (all (isNode a)) (drop-part words i)))
 
-  pub judged-later : (b : Bool) → b ≡ all (isNode a) (take (length words - i) (drop i words)) → b ≡ false → 10 ≡ treeFault a words
-  unfolding notNodes
-  judged-later b e f = sym (rw (rest b e ∙ f))
+    pub judged-later : b ≡ false → Found (treeRefusals a words) 10
+    judged-later f = here (rest-decides ∙ ap not f)
 
   module _ (h : i < length words) where
-    pub judged-no-node : isNode a (getD words i 0) ≡ false → 10 ≡ treeFault a words
+    pub judged-no-node : isNode a (getD words i 0) ≡ false → Found (treeRefusals a words) 10
     unfolding notNodes
-    judged-no-node e = sym (rw (s .nodes ∙ all-fails (isNode a) words i h e))
+    judged-no-node e = here (ap not (s .nodes ∙ all-fails (isNode a) words i h e))
 
     -- word i is a node, and r is its symbol's rank
     module _ (node : isNode a (getD words i 0) ≡ true) (r : ℕ) (e : r ≡ rankOf a (symbolOf (getD words i 0))) where
@@ -52,9 +62,10 @@ module _ {a words : List ℕ} {made i : ℕ} (s : ChapterJudged a words made i) 
       rank-arity = e ∙ sym (isNode-facts a (getD words i 0) node .arity-rank)
 
       pub judged-lacks : made < r → (b : Bool) → b ≡ all (isNode a) (take (length words - i) (drop i words)) → b ≡ true
-          → 11 ≡ treeFault a words
-      unfolding notNodes notOneTree
-      judged-lacks l b eb t = sym (rw (rest b eb ∙ t, s .shape ∙ trees-lacks (arity a) words made i 1 r h rank-arity l))
+          → Found (treeRefusals a words) 11
+      unfolding notOneTree
+      judged-lacks l b eb t =
+          next (rest-decides b eb ∙ ap not t) (here (ap not (s .shape ∙ trees-lacks (arity a) words made i 1 r h rank-arity l)))
 
       pub judged-more : r ≤ made → ChapterJudged a words (made - r + 1) (i + 1)
       judged-more l =

@@ -5,6 +5,7 @@ ghost use Rattle.words.specs.ExpressionWords.{isExpressionWord, expressionFault
 use super::postfix::one_tree;
 use alphabet::is_constant;
 use words::limits::EXPRESSION_MOST;
+use words::limits::is_outside;
 use words::word::Kind;
 use words::word::SYMBOL_RANGE;
 use words::word::kind_of;
@@ -47,11 +48,7 @@ fn expression_words_only(alphabet: &[u32], expression: &[u32]) -> bool
 pub fn expression_fault(alphabet: &[u32], expression: &[u32]) -> u32
     ensures { λ r. ⌜ r ≡ expressionFault (now (alphabet .entry)) (now (expression .entry)) ⌝ }
 {
-    let size = expression.len();
-    if size == 0 {
-        return 3;
-    }
-    if size > EXPRESSION_MOST {
+    if is_outside(EXPRESSION_MOST, expression.len()) {
         return 3;
     }
     if !expression_words_only(alphabet, expression) {

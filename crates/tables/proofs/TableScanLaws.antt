@@ -1,14 +1,16 @@
 -- The check of a table, word by word.
 use mathlib.Core.Path.{_≡_, refl, ap, _∙_, sym}
-use mathlib.Core.Bool.{Bool, true, false, _&&_}
+use mathlib.Core.Bool.{Bool, true, false, _&&_, true≢false}
 use mathlib.Core.List.{List, [], _∷_}
 use Prim.Native.Nat.{ℕ, _+_, _-_, _<_, _≤_}
 use native.Mathlib.Omega.{arith}
 use lib.ListN.{length, getD, drop}
-use lib.Dec.{eqb}
-use borrow.Author.Tests.{le-leb, lt-leb}
+use lib.Dec.{leb, eqb}
+use borrow.Author.Tests.{le-leb, leb-true}
+use Rattle.words.specs.Limits.{outside, tableMost}
 use Rattle.words.specs.Word.{countAbove}
 use Rattle.words.proofs.ScanLaws.{drop-step, drop-end}
+use Rattle.words.proofs.LimitLaws.{Within, is-within}
 use Rattle.words.proofs.TestLaws.{Tested, holds, fails, tested}
 use Rattle.automaton.specs.Table.{isTable, isHead, isTableWord, sourcesLeft, areTransitions}
 use Rattle.tables.proofs.CheckLaws.{Next}
@@ -52,31 +54,24 @@ module _ {a : List ℕ} {n : ℕ} {table : List ℕ} {left i : ℕ} (s : Checked
 -- ---- the whole table
 
 module _ (a : List ℕ) where
-  pub table-empty : (table : List ℕ) → length table ≡ 0 → false ≡ isTable a table
+  pub table-outside : (table : List ℕ) → outside tableMost (length table) ≡ true → false ≡ isTable a table
   unfolding isTable
-  table-empty [] h = refl
-  table-empty (x ∷ ws) h = absurd (omega arith)
+  table-outside [] h = refl
+  table-outside (x ∷ ws) h = go (tested (leb (length (x ∷ ws)) tableMost))
+    where
+      go : Tested (leb (length (x ∷ ws)) tableMost) → false ≡ isTable a (x ∷ ws)
+      go (holds e) =
+          let few = leb-true (length (x ∷ ws)) tableMost e in
+          absurd (true≢false (sym h ∙ is-within tableMost (length (x ∷ ws)) (record { some = omega arith; few = few })))
+      go (fails e) = sym (rw e)
 
-  pub table-long : (table : List ℕ) → 2048 < length table → false ≡ isTable a table
+  pub table-no-head : (table : List ℕ) → Within tableMost (length table) → isHead (getD table 0 0) ≡ false → false ≡ isTable a table
   unfolding isTable
-  table-long [] h = refl
-  table-long (x ∷ ws) h = sym (rw (lt-leb (length (x ∷ ws)) 2048 h))
+  table-no-head [] g e = refl
+  table-no-head (x ∷ ws) g e = sym (rw (le-leb (length (x ∷ ws)) tableMost (g .few), e))
 
-  module _ (table : List ℕ) (few : length table ≤ 2048) where
-    pub table-no-head : isHead (getD table 0 0) ≡ false → false ≡ isTable a table
-    unfolding isTable
-    table-no-head e = go table few e
-      where
-        go : (table : List ℕ) → length table ≤ 2048 → isHead (getD table 0 0) ≡ false → false ≡ isTable a table
-        go [] h e = refl
-        go (x ∷ ws) h e = sym (rw (le-leb (length (x ∷ ws)) 2048 h, e))
-
-    pub table-value : (length table ≡ 0 → ⊥) → isHead (getD table 0 0) ≡ true → (r : Bool)
-        → r ≡ areTransitions a (countAbove (getD table 0 0)) 0 (drop 1 table) → r ≡ isTable a table
-    unfolding isTable
-    table-value n e r h = go table few n e h
-      where
-        go : (table : List ℕ) → length table ≤ 2048 → (length table ≡ 0 → ⊥) → isHead (getD table 0 0) ≡ true
-            → r ≡ areTransitions a (countAbove (getD table 0 0)) 0 (drop 1 table) → r ≡ isTable a table
-        go [] l n e h = absurd (n refl)
-        go (x ∷ ws) l n e h = h ∙ sym (rw (le-leb (length (x ∷ ws)) 2048 l, e))
+  pub table-value : (table : List ℕ) → Within tableMost (length table) → isHead (getD table 0 0) ≡ true → (r : Bool)
+      → r ≡ areTransitions a (countAbove (getD table 0 0)) 0 (drop 1 table) → r ≡ isTable a table
+  unfolding isTable
+  table-value [] g e r h = absurd (omega (arith, g .some))
+  table-value (x ∷ ws) g e r h = h ∙ sym (rw (le-leb (length (x ∷ ws)) tableMost (g .few), e))

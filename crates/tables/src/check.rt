@@ -7,6 +7,7 @@ ghost use Rattle.automaton.specs.Table.{isHead, isTableWord, sourcesLeft, areTr
 use alphabet::rank;
 use words::limits::STATES_MOST;
 use words::limits::TABLE_MOST;
+use words::limits::is_outside;
 use words::word::COUNT_RANGE;
 use words::word::Kind;
 use words::word::STATE_RANGE;
@@ -89,10 +90,7 @@ fn are_transitions(alphabet: &[u32], states: usize, table: &[u32]) -> bool
 pub fn is_table(alphabet: &[u32], table: &[u32]) -> bool
     ensures { λ r. ⌜ r ≡ isTable (now (alphabet .entry)) (now (table .entry)) ⌝ }
 {
-    if table.len() == 0 {
-        return false;
-    }
-    if table.len() > TABLE_MOST {
+    if is_outside(TABLE_MOST, table.len()) {
         return false;
     }
     let head = table[0];

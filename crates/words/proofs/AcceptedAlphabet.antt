@@ -1,29 +1,28 @@
 -- What holds of an alphabet that refusals 1 and 2 let pass.
-use Prim.Native.Nat.{ℕ, zero, suc, _<_, _≤_}
+use Prim.Native.Nat.{ℕ, zero, suc, _≤_}
 use mathlib.Core.Path.{_≡_, refl}
-use mathlib.Core.Bool.{true, not, _||_, false}
+use mathlib.Core.Bool.{true, not, false}
 use mathlib.Core.List.{List, [], _∷_}
 use native.Mathlib.Omega.{arith}
 use lib.ListN.{length}
-use lib.Dec.{ltb, leb, eqb}
-use borrow.Author.Tests.{leb-true, ltb-false, eqb-false, not-false}
+use lib.Dec.{leb}
+use borrow.Author.Tests.{leb-true, not-false}
 use Rattle.words.specs.Lists.{all}
-use Rattle.words.specs.Limits.{alphabetMost, constantsMost, rankMost}
+use Rattle.words.specs.Limits.{outside, alphabetMost, constantsMost, rankMost}
 use Rattle.words.specs.Word.{entryKind, kindOf, isOf, lowByte}
 use Rattle.words.specs.Alphabet.{entryRank, isEntry, rankOf, constantsOf, noAlphabet, wrongConstants, alphabetRefusals, alphabetFault}
 use Rattle.words.specs.Postfix.{arity}
 use Rattle.words.proofs.TestLaws.{and-true, or-false}
+use Rattle.words.proofs.LimitLaws.{Within, not-outside}
 use Rattle.words.proofs.RefusalLaws.{conditionOf, none-applies}
 use Rattle.words.proofs.WordLaws.{arityAt-most}
 
 pub record AcceptedAlphabet (a : List ℕ) : Type 0 where
   -- 1
-  pub some : 0 < length a
-  pub few : length a ≤ alphabetMost
+  pub counted : Within alphabetMost (length a)
   pub ranks : (s : ℕ) → rankOf a s ≤ rankMost
   -- 2
-  pub someConstant : 0 < length (constantsOf a)
-  pub fewConstants : length (constantsOf a) ≤ constantsMost
+  pub constants : Within constantsMost (length (constantsOf a))
 
 -- "rank, 0 to 4"
 rank-most : (a : List ℕ) → all isEntry a ≡ true → (s : ℕ) → rankOf a s ≤ rankMost
@@ -38,17 +37,11 @@ pub alphabet-accepted : (a : List ℕ) → alphabetFault a ≡ 0 → AcceptedAlp
 unfolding noAlphabet wrongConstants
 alphabet-accepted a h =
     let not-so : (n : ℕ) → conditionOf n (alphabetRefusals a) ≡ false = none-applies (alphabetRefusals a) refl h in
-    let p = or-false (eqb (length a) 0 || ltb alphabetMost (length a)) (not (all isEntry a)) (not-so 1) in
-    let q = or-false (eqb (length a) 0) (ltb alphabetMost (length a)) (p .0) in
-    let r = or-false (eqb (length (constantsOf a)) 0) (ltb constantsMost (length (constantsOf a))) (not-so 2) in
-    let z = eqb-false (length a) 0 (q .0) in
-    let c = eqb-false (length (constantsOf a)) 0 (r .0) in
+    let p = or-false (outside alphabetMost (length a)) (not (all isEntry a)) (not-so 1) in
     record {
-      some = omega arith;
-      few = ltb-false alphabetMost (length a) (q .1);
+      counted = not-outside alphabetMost (length a) (p .0);
       ranks = rank-most a (not-false (all isEntry a) (p .1));
-      someConstant = omega arith;
-      fewConstants = ltb-false constantsMost (length (constantsOf a)) (r .1);
+      constants = not-outside constantsMost (length (constantsOf a)) (not-so 2);
     }
 
 -- no word takes more children than the highest rank

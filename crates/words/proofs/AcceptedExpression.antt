@@ -2,22 +2,19 @@
 use mathlib.Core.Path.{_≡_, refl}
 use mathlib.Core.Bool.{true, false}
 use mathlib.Core.List.{List}
-use Prim.Native.Nat.{ℕ, _<_, _≤_}
-use native.Mathlib.Omega.{arith}
+use Prim.Native.Nat.{ℕ}
 use lib.ListN.{length}
-use lib.Dec.{ltb, eqb}
-use borrow.Author.Tests.{ltb-false, eqb-false, not-false}
+use borrow.Author.Tests.{not-false}
 use Rattle.words.specs.Lists.{all}
 use Rattle.words.specs.Limits.{expressionMost}
 use Rattle.words.specs.Postfix.{oneTree, notOneTree}
 use Rattle.words.specs.ExpressionWords.{isExpressionWord, wrongLength, notExpressionWords, expressionRefusals, expressionFault}
-use Rattle.words.proofs.TestLaws.{or-false}
+use Rattle.words.proofs.LimitLaws.{Within, not-outside}
 use Rattle.words.proofs.RefusalLaws.{conditionOf, none-applies}
 
 pub record AcceptedExpression (a e : List ℕ) : Type 0 where
   -- 3
-  pub some : 0 < length e
-  pub few : length e ≤ expressionMost
+  pub counted : Within expressionMost (length e)
   -- 4
   pub words : all (isExpressionWord a) e ≡ true
   -- 5
@@ -27,11 +24,8 @@ pub expression-passed : (a e : List ℕ) → expressionFault a e ≡ 0 → Accep
 unfolding wrongLength notExpressionWords notOneTree
 expression-passed a e h =
     let not-so : (n : ℕ) → conditionOf n (expressionRefusals a e) ≡ false = none-applies (expressionRefusals a e) refl h in
-    let p = or-false (eqb (length e) 0) (ltb expressionMost (length e)) (not-so 3) in
-    let z = eqb-false (length e) 0 (p .0) in
     record {
-      some = omega arith;
-      few = ltb-false expressionMost (length e) (p .1);
+      counted = not-outside expressionMost (length e) (not-so 3);
       words = not-false (all (isExpressionWord a) e) (not-so 4);
       shape = not-false (oneTree a e) (not-so 5);
     }

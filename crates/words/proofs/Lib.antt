@@ -13,7 +13,9 @@ pub mod PostfixLaws
 pub mod StackLaws
 pub mod ListLaws
 pub mod TestLaws
+pub mod LimitLaws
 pub mod RefusalLaws
+pub mod AnswerLaws
 pub mod ReadingLaws
 pub mod KindLaws
 pub mod DecodedLaws

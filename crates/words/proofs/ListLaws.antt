@@ -1,14 +1,14 @@
--- Laws of lists: map over parts of a list, lists by their index, parts side by side, runs of stores, counts, and lists of
--- numbers below a bound.
+-- Laws of lists: map over parts of a list, lists by their index, parts side by side, runs of stores, words in front of a
+-- slice, counts, and lists of numbers below a bound.
 use mathlib.Core.Path.{_≡_, refl, ap, ap₂, _∙_, sym}
 use mathlib.Core.Bool.{Bool, cond, _&&_}
 use mathlib.Core.List.{List, [], _∷_, _++_, map, reverse, reverseAux}
 use Prim.Native.Nat.{ℕ, zero, suc, _+_, _<_, _≤_}
 use native.Mathlib.Omega.{arith}
 use native.Mathlib.Nat.{zero-add, add-zero, add-suc, suc-add, add-assoc}
-use lib.ListN.{length, getD, take, drop, set, take-append-drop}
-use lib.Seq.{slice, sets, sets-eq, getD-set-other, take-take, length-take-le, drop-append-le}
-use Rattle.words.specs.Lists.{all, count, listFrom}
+use lib.ListN.{length, getD, take, drop, set, take-append-drop, length-append, length-drop}
+use lib.Seq.{slice, sets, sets-eq, getD-set-other, take-take, take-at, length-take-le, drop-append-le}
+use Rattle.words.specs.Lists.{all, count, listFrom, writtenOver}
 
 -- ---- map
 
@@ -87,8 +87,16 @@ pub sets-append : (vs us l : List ℕ) (i : ℕ) → sets l i (vs ++ us) ≡ set
 sets-append [] us l i = rw (add-zero i)
 sets-append (v ∷ vs) us l i = rw (add-suc, ← suc-add) (sets-append vs us _ (suc i))
 
--- a run of stores from the first place on, where there is room
-pub sets-whole : (vs l : List ℕ) → length vs ≤ length l → sets l 0 vs ≡ vs ++ drop (length vs) l
+-- ---- words in front of a slice, where there is room
+
+pub length-over : (ws slice : List ℕ) → length ws ≤ length slice → length (writtenOver ws slice) ≡ length slice
+length-over ws slice h = simp (length-append, length-drop) (omega arith)
+
+pub take-over : (ws slice : List ℕ) (k : ℕ) → length ws ≡ k → take k (writtenOver ws slice) ≡ ws
+take-over ws slice k e = take-at ws (drop (length ws) slice) k e
+
+-- a run of stores from the first place on
+pub sets-whole : (vs l : List ℕ) → length vs ≤ length l → sets l 0 vs ≡ writtenOver vs l
 sets-whole vs l h =
     let e : 0 + length vs ≡ length vs = omega arith in
     sets-eq vs l 0 (omega arith) ∙ ap (λ (n : ℕ). vs ++ drop n l) e

@@ -1,12 +1,13 @@
 -- Laws of refusals: the number is that of the first condition that holds, and a call that is not refused has none that does.
--- They pass on `NoneHolds`, of which they speak.
+-- `Found` is the evidence from which the laws of published `First` and `NoneHolds` follow. They pass on `NoneHolds`, of which
+-- they speak.
 use mathlib.Core.Path.{_≡_, refl, _∙_, sym}
-use mathlib.Core.Bool.{Bool, true, false, cond, _&&_}
+use mathlib.Core.Bool.{Bool, true, false, not, cond, _&&_, _||_}
 use mathlib.Core.List.{[], _∷_, _++_}
-use Prim.Native.Nat.{ℕ, _<_}
+use Prim.Native.Nat.{ℕ, _<_, _≤_}
 use native.Mathlib.Omega.{arith}
-use lib.Dec.{ltb, eqb}
-use borrow.Author.Tests.{ltb-true}
+use lib.Dec.{ltb, leb, eqb}
+use borrow.Author.Tests.{ltb-true, leb-true, ne-eqb}
 use Rattle.words.specs.Refusal.{Refusals, refusal, First, here as first-here, later}
 pub use Rattle.words.specs.Refusal.{NoneHolds}
 use Rattle.words.proofs.TestLaws.{and-true}
@@ -33,21 +34,45 @@ refusal-found rs e = rw e (go rs)
     go ((n, true) ∷ rs) = here refl
     go ((n, false) ∷ rs) = next refl (go rs)
 
--- ---- a call that is not refused: no condition holds
+-- ---- the numbers of a list: where they are written out, `refl` proves that they are so
 
--- every number is above 0; of a list whose numbers are written out, `refl` proves it
+-- every number is above 0
 abbrev pub positive : Refusals → Bool
 positive [] = true
 positive (r ∷ rs) = ltb 0 (r .0) && positive rs
 
+first-above : (n : ℕ) (rs : Refusals) → ltb 0 n && positive rs ≡ true → 0 < n
+first-above n rs p = ltb-true 0 n (and-true (ltb 0 n) (positive rs) p .0)
+
+rest-above : (n : ℕ) (rs : Refusals) → ltb 0 n && positive rs ≡ true → positive rs ≡ true
+rest-above n rs p = and-true (ltb 0 n) (positive rs) p .1
+
+-- every number is at most m
+abbrev pub atMost : ℕ → Refusals → Bool
+atMost m [] = true
+atMost m (r ∷ rs) = leb (r .0) m && atMost m rs
+
+pub refusal-most : (m : ℕ) (rs : Refusals) → atMost m rs ≡ true → refusal rs ≤ m
+refusal-most m [] h = omega arith
+refusal-most m ((n, true) ∷ rs) h = leb-true n m (and-true (leb n m) (atMost m rs) h .0)
+refusal-most m ((n, false) ∷ rs) h = refusal-most m rs (and-true (leb n m) (atMost m rs) h .1)
+
+-- ---- a call that is not refused: no condition holds
+
+none-found : (rs : Refusals) → NoneHolds rs → Found rs 0
+none-found [] h = none
+none-found (r ∷ rs) h = next (h .0) (none-found rs (h .1))
+
+found-none : (rs : Refusals) → positive rs ≡ true → Found rs 0 → NoneHolds rs
+found-none [] p none = tt
+found-none ((n, b) ∷ rs) p (here e) = absurd (omega (arith, first-above n rs p))
+found-none ((n, b) ∷ rs) p (next e r) = (e, found-none rs (rest-above n rs p) r)
+
 pub none-refusal : (rs : Refusals) → NoneHolds rs → refusal rs ≡ 0
-none-refusal [] h = refl
-none-refusal (r ∷ rs) h = rw (h .0) (none-refusal rs (h .1))
+none-refusal rs h = sym (found-refusal rs (none-found rs h))
 
 pub refusal-none : (rs : Refusals) → positive rs ≡ true → refusal rs ≡ 0 → NoneHolds rs
-refusal-none [] p h = tt
-refusal-none ((n, true) ∷ rs) p h = let q = ltb-true 0 n (and-true (ltb 0 n) (positive rs) p .0) in absurd (omega arith)
-refusal-none ((n, false) ∷ rs) p h = (refl, refusal-none rs (and-true (ltb 0 n) (positive rs) p .1) h)
+refusal-none rs p h = found-none rs p (refusal-found rs (sym h))
 
 -- the condition of a number
 abbrev pub conditionOf : ℕ → Refusals → Bool
@@ -64,6 +89,19 @@ none-applies rs p h = none-of rs (refusal-none rs p h)
         go : (b : Bool) → conditionOf n rs ≡ false → cond b (r .1) (conditionOf n rs) ≡ false
         go true i = h .0
         go false i = i
+
+-- some condition of the list holds: then the call is refused, and only then
+abbrev pub someHolds : Refusals → Bool
+someHolds [] = false
+someHolds (r ∷ rs) = r .1 || someHolds rs
+
+pub refused-some : (rs : Refusals) {f : ℕ} → positive rs ≡ true → f ≡ refusal rs → not (eqb f 0) ≡ someHolds rs
+refused-some rs p e = rw e (go rs p)
+  where
+    go : (rs : Refusals) → positive rs ≡ true → not (eqb (refusal rs) 0) ≡ someHolds rs
+    go [] p = refl
+    go ((n, true) ∷ rs) p = let q = first-above n rs p in rw (ne-eqb n 0 (λ z. omega arith))
+    go ((n, false) ∷ rs) p = go rs (rest-above n rs p)
 
 -- ---- a part of the list that is judged as a whole, with number f
 
@@ -87,31 +125,50 @@ passes rs {ks} {g = g} p e h r = go rs (refusal-none rs p (sym e ∙ h))
 -- where the whole list does not refuse, neither part does
 pub parts-pass : (rs ks : Refusals) → positive rs ≡ true → refusal (rs ++ ks) ≡ 0 → (refusal rs ≡ 0) × (refusal ks ≡ 0)
 parts-pass [] ks p h = (refl, h)
-parts-pass ((n, true) ∷ rs) ks p h = let q = ltb-true 0 n (and-true (ltb 0 n) (positive rs) p .0) in absurd (omega arith)
-parts-pass ((n, false) ∷ rs) ks p h = parts-pass rs ks (and-true (ltb 0 n) (positive rs) p .1) h
+parts-pass ((n, true) ∷ rs) ks p h = absurd (omega (arith, first-above n rs p))
+parts-pass ((n, false) ∷ rs) ks p h = parts-pass rs ks (rest-above n rs p) h
 
 -- where one part does not refuse, the other decides
 pub first-passes : (rs ks : Refusals) → positive rs ≡ true → refusal rs ≡ 0 → refusal (rs ++ ks) ≡ refusal ks
-first-passes [] ks p h = refl
-first-passes ((n, true) ∷ rs) ks p h = let q = ltb-true 0 n (and-true (ltb 0 n) (positive rs) p .0) in absurd (omega arith)
-first-passes ((n, false) ∷ rs) ks p h = first-passes rs ks (and-true (ltb 0 n) (positive rs) p .1) h
+first-passes rs ks p h = sym (found-refusal (rs ++ ks) (passes rs p refl h (refusal-found ks refl)))
 
 pub last-passes : (rs ks : Refusals) → refusal ks ≡ 0 → refusal (rs ++ ks) ≡ refusal rs
 last-passes [] ks h = h
 last-passes ((n, true) ∷ rs) ks h = refl
 last-passes ((n, false) ∷ rs) ks h = last-passes rs ks h
 
+-- the first number of the list that applies, or n
+abbrev pub refusalOr : Refusals → ℕ → ℕ
+refusalOr rs n = refusal (rs ++ ((n, true) ∷ []))
+
+-- where n's condition holds, those behind it make no difference
+pub holds-ends : (rs ks : Refusals) (n : ℕ) {b : Bool} → b ≡ true → Found (rs ++ ((n, b) ∷ ks)) (refusalOr rs n)
+holds-ends [] ks n h = here h
+holds-ends ((m, true) ∷ rs) ks n h = here refl
+holds-ends ((m, false) ∷ rs) ks n h = next refl (holds-ends rs ks n h)
+
+pub refusalOr-some : (rs : Refusals) (n : ℕ) → 0 < n → positive rs ≡ true → 0 < refusalOr rs n
+refusalOr-some [] n h p = h
+refusalOr-some ((m, true) ∷ rs) n h p = first-above m rs p
+refusalOr-some ((m, false) ∷ rs) n h p = refusalOr-some rs n h (rest-above m rs p)
+
 -- ---- the first that applies: both ways
 
 pub refusal-is-first : (rs : Refusals) (n : ℕ) → 0 < n → refusal rs ≡ n → First n rs
-refusal-is-first [] n p h = absurd (omega arith)
-refusal-is-first ((m, true) ∷ rs) n p h = rw h (first-here refl)
-refusal-is-first ((m, false) ∷ rs) n p h = later refl (refusal-is-first rs n p h)
+refusal-is-first rs n p h = go p (refusal-found rs (sym h))
+  where
+    go : {rs : Refusals} {n : ℕ} → 0 < n → Found rs n → First n rs
+    go p none = absurd (omega arith)
+    go p (here e) = first-here e
+    go p (next e r) = later e (go p r)
+
+first-found : {rs : Refusals} {n : ℕ} → First n rs → Found rs n
+first-found (first-here e) = here e
+first-found (later e f) = next e (first-found f)
 
 pub first-is-refusal : {rs : Refusals} {n : ℕ} → First n rs → refusal rs ≡ n
-first-is-refusal (first-here e) = rw e
-first-is-refusal (later e f) = rw e (first-is-refusal f)
+first-is-refusal {rs} f = sym (found-refusal rs (first-found f))
 
 pub first-positive : {rs : Refusals} {n : ℕ} → positive rs ≡ true → First n rs → 0 < n
-first-positive {rs = (m, b) ∷ rs} {n = n} p (first-here e) = ltb-true 0 n (and-true (ltb 0 n) (positive rs) p .0)
-first-positive {rs = (m, b) ∷ rs} p (later e f) = first-positive (and-true (ltb 0 m) (positive rs) p .1) f
+first-positive {rs = (m, b) ∷ rs} {n = n} p (first-here e) = first-above n rs p
+first-positive {rs = (m, b) ∷ rs} p (later e f) = first-positive (rest-above m rs p) f

@@ -42,6 +42,13 @@ or-false false c e = (refl, e)
 pub false-or : (b c : Bool) → b ≡ false → c ≡ false → b || c ≡ false
 false-or b c e f = rw (e, f)
 
+pub or-left : (b c : Bool) → b ≡ true → b || c ≡ true
+or-left b c e = rw e
+
+pub or-none : (b : Bool) → b || false ≡ b
+or-none true = refl
+or-none false = refl
+
 pub or-true : (b c : Bool) → b || c ≡ true → (b ≡ true) ⊎ (c ≡ true)
 or-true true c e = inl refl
 or-true false c e = inr e

@@ -5,7 +5,7 @@ use mathlib.Core.Bool.{Bool, not, cond, _&&_, _||_}
 use lib.ListN.{length, getD}
 use lib.Dec.{ltb, leb, eqb}
 use Rattle.words.specs.Lists.{all}
-use Rattle.words.specs.Limits.{alphabetMost, constantsMost, rankMost}
+use Rattle.words.specs.Limits.{outside, alphabetMost, constantsMost, rankMost}
 use Rattle.words.specs.Refusal.{Refusals, refusal}
 use Rattle.words.specs.Word.{entryKind, isOf, lowByte}
 
@@ -40,11 +40,11 @@ constantsOf a = constantsFrom 0 a
 
 -- 1: "alphabet of 0 or over 64 words, or a word that is no alphabet entry"
 unfoldable pub noAlphabet : List ℕ → Bool
-noAlphabet a = eqb (length a) 0 || ltb alphabetMost (length a) || not (all isEntry a)
+noAlphabet a = outside alphabetMost (length a) || not (all isEntry a)
 
 -- 2: "no constant or over 16"
 unfoldable pub wrongConstants : List ℕ → Bool
-wrongConstants a = eqb (length (constantsOf a)) 0 || ltb constantsMost (length (constantsOf a))
+wrongConstants a = outside constantsMost (length (constantsOf a))
 
 abbrev pub alphabetRefusals : List ℕ → Refusals
 alphabetRefusals a = (1, noAlphabet a) ∷ (2, wrongConstants a) ∷ []

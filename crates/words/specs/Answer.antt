@@ -1,8 +1,9 @@
 -- Answers of the four operations (document 01, "Refused calls").
 use Prim.Native.Nat.{ℕ}
-use mathlib.Core.List.{List, [], _∷_}
+use mathlib.Core.List.{List}
 use mathlib.Core.Bool.{cond}
 use lib.Dec.{eqb}
+use lib.ListN.{getD}
 
 -- a refusal's number, or the values of an accepted call
 pub data Answer : Type 0 where
@@ -17,8 +18,7 @@ answerOf fault values = cond (eqb fault 0) (accepted values) (refused fault)
 abbrev pub exitOf : ℕ → List ℕ → List ℕ → List ℕ
 exitOf fault after before = cond (eqb fault 0) after before
 
--- the first value of an accepted call; of a refused one, what stood before
-abbrev pub firstValue : Answer → ℕ → ℕ
-firstValue (refused r) before = before
-firstValue (accepted []) before = before
-firstValue (accepted (v ∷ vs)) before = v
+-- value i of an accepted call, where it has one; of a refused call, what stood before
+abbrev pub valueOr : Answer → ℕ → ℕ → ℕ
+valueOr (refused number) i before = before
+valueOr (accepted values) i before = getD values i before

@@ -1,11 +1,10 @@
 -- The words of a rule (document 01, kinds 2 to 6) and refusals 3, 4 and 5.
 use Prim.Native.Nat.{ℕ}
 use mathlib.Core.List.{List, [], _∷_}
-use mathlib.Core.Bool.{Bool, true, false, not, _&&_, _||_}
+use mathlib.Core.Bool.{Bool, true, false, not, _&&_}
 use lib.ListN.{length}
-use lib.Dec.{ltb, eqb}
 use Rattle.words.specs.Lists.{all}
-use Rattle.words.specs.Limits.{expressionMost}
+use Rattle.words.specs.Limits.{outside, expressionMost}
 use Rattle.words.specs.Refusal.{Refusals, refusal}
 use Rattle.words.specs.Word.{Kind, entryKind, symbolKind, emptyKind, unionKind, productKind, closureKind, nodeKind}
 use Rattle.words.specs.Word.{headKind, transitionKind, epsilonKind, sourceKind, noKind, kindOf, spareBitsClear, lowByte}
@@ -33,7 +32,7 @@ isExpressionWord a w = spareBitsClear w && namesAt a (lowByte w) (kindOf w)
 
 -- 3: "rule of 0 or over 64 words"
 unfoldable pub wrongLength : List ℕ → Bool
-wrongLength e = eqb (length e) 0 || ltb expressionMost (length e)
+wrongLength e = outside expressionMost (length e)
 
 -- 4: "a word that is no rule word, an unknown symbol, or a c that is no constant"
 unfoldable pub notExpressionWords : List ℕ → List ℕ → Bool

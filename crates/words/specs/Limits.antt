@@ -1,5 +1,11 @@
--- The limits (document 01, "Words").
+-- The limits (document 01, "Words"), and what is outside of one.
 use Prim.Native.Nat.{ℕ}
+use mathlib.Core.Bool.{Bool, _||_}
+use lib.Dec.{ltb, eqb}
+
+-- "of 0 or over .."
+abbrev pub outside : ℕ → ℕ → Bool
+outside most n = eqb n 0 || ltb most n
 
 -- "An alphabet has 1 to 64 words and 1 to 16 constants"
 abbrev pub alphabetMost : ℕ

@@ -1,7 +1,8 @@
--- Tests over a list, and lists by their index.
+-- Tests over a list, lists by their index, and words written into a slice.
 use Prim.Native.Nat.{ℕ, zero, suc, _+_}
-use mathlib.Core.List.{List, [], _∷_}
+use mathlib.Core.List.{List, [], _∷_, _++_}
 use mathlib.Core.Bool.{Bool, true, cond, _&&_}
+use lib.ListN.{length, drop}
 
 -- the test holds of every number of the list
 abbrev pub all : (ℕ → Bool) → List ℕ → Bool
@@ -17,3 +18,7 @@ count f (x ∷ xs) = cond (f x) 1 0 + count f xs
 abbrev pub listFrom : {A : Type 0} → (ℕ → A) → ℕ → ℕ → List A
 listFrom f j zero = []
 listFrom f j (suc n) = f j ∷ listFrom f (suc j) n
+
+-- a slice in front of which these words are written; "leaves the rest untouched"
+abbrev pub writtenOver : List ℕ → List ℕ → List ℕ
+writtenOver ws slice = ws ++ drop (length ws) slice

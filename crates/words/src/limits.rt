@@ -1,4 +1,6 @@
 // Document 01's limits; specs/Limits.antt has them for the definitions.
+ghost use mathlib.Core.Path.{_≡_};
+ghost use Rattle.words.specs.Limits.{outside};
 
 // The most entries of an alphabet.
 pub const ALPHABET_MOST: usize = 64;
@@ -20,3 +22,10 @@ pub const TABLE_MOST: usize = 2048;
 
 // The most elements of a chapter.
 pub const NODES_MOST: usize = 4096;
+
+// Whether a number is 0 or over the most.
+pub fn is_outside(most: usize, n: usize) -> bool
+    ensures { λ r. ⌜ r ≡ outside most n ⌝ }
+{
+    n == 0 || n > most
+}

@@ -1,6 +1,6 @@
 -- `compiler::compile` meets its contract: where no refusal applies the table fits the slice, and the words behind it stay.
 use borrow.Author.Needs.{needs}
-use Rattle.compiler.proofs.FaultLaws.{refused-answer, refused-exit, accepted-answer, accepted-rule, accepted-exit}
+use Rattle.compiler.proofs.FaultLaws.{compile-refuses, accepted-rule, compile-accepts}
 use Rattle.compiler.proofs.compile.Statement.{statement}
 use Rattle.compiler.proofs.compile.Tie as tie
 
@@ -8,9 +8,7 @@ compile-fault-requires : tie.Need-compile-fault-requires
 compile-fault-requires c κs = search needs
 
 returns : tie.Need-returns
-returns c =
-    let f = c .before .compile-fault .ensures in
-    (refused-answer _ _ _ _ f (c .if1 .taken), refused-exit _ _ _ _ f (c .if1 .taken))
+returns c = compile-refuses _ _ _ _ (c .before .compile-fault .ensures) (c .if1 .taken)
 
 write-table-requires : tie.Need-write-table-requires
 write-table-requires c κs =
@@ -25,7 +23,7 @@ returns-2 c =
     let f = c .before .before .before .before .before .compile-fault .ensures in
     let z = c .before .before .before .before .if1 .left in
     let w = c .before .before .write-table .ensures in
-    (accepted-answer _ _ _ _ f _ z (w .next), accepted-exit _ _ _ _ f z _ (w .words))
+    compile-accepts _ _ _ _ f z _ _ (w .next) (w .words)
 
 pub compile-spec : {M : Type 1} → statement M
 compile-spec =

@@ -55,7 +55,7 @@ states-after-requires c κs =
     let first = second .before .before in (
       states-countable _ _ (alphabet-accepted _ (sym (first .before .alphabet-fault .ensures) ∙ first .if1 .left))
           (c .count-constants .ensures),
-      expression-passed _ _ (sym (second .before .expression-fault .ensures) ∙ second .if2 .left) .few,
+      expression-passed _ _ (sym (second .before .expression-fault .ensures) ∙ second .if2 .left) .counted .few,
     )
 
 cast-if3 : tie.Need-cast-if3

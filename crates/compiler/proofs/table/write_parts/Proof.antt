@@ -17,7 +17,7 @@ use Rattle.compiler.proofs.table.write_parts.Tie as tie
 
 sub-last : tie.Need-sub-last
 sub-last c =
-    let some = accepted-expression _ _ (c .before .before .before .before .pre .accepted) .some in
+    let some = accepted-expression _ _ (c .before .before .before .before .pre .accepted) .counted .some in
     omega arith
 
 mul-w : tie.Need-mul-w
@@ -25,7 +25,7 @@ mul-w c = search needs
 
 shared-slice-read-w : tie.Need-shared-slice-read-w
 shared-slice-read-w c =
-    let some = accepted-expression _ _ (c .before .before .before .before .before .pre .accepted) .some in
+    let some = accepted-expression _ _ (c .before .before .before .before .before .pre .accepted) .counted .some in
     omega arith
 
 slice-aggregate-states-after : tie.Need-slice-aggregate-states-after
@@ -37,7 +37,7 @@ states-after-requires : tie.Need-states-after-requires
 states-after-requires c κs =
     let p = c .before .before .before .before .before .before .pre in
     let l = c .before .before .before .before .before .before .args .expression .now in
-    let few = accepted-expression _ _ (p .accepted) .few in
+    let few = accepted-expression _ _ (p .accepted) .counted .few in
     let t = length-take-most l (length l - 1) in
     (states-countable _ _ (accepted-alphabet _ _ (p .accepted)) (ap length (p .constants)), omega arith)
 
@@ -51,7 +51,7 @@ exit-low : (c : tie.After-states-after) → c .states-after .result ≤ wordStat
 exit-low c =
     let start = c .before .before .before .before .before .before .before in
     let l = start .args .expression .now in
-    states-few l (length l - 1) _ (accepted-expression _ _ (start .pre .accepted) .few) (c .states-after .ensures .1)
+    states-few l (length l - 1) _ (accepted-expression _ _ (start .pre .accepted) .counted .few) (c .states-after .ensures .1)
 
 add-states : tie.Need-add-states
 add-states c =
@@ -65,8 +65,8 @@ word-port-requires c κs =
     let e = accepted-expression _ _ (start .pre .accepted) in
     let x = exit-low (c .before) in
     record {
-      symbols = accepted-alphabet _ _ (start .pre .accepted) .few;
-      word = word-last _ (start .args .expression .now) (e .some) (e .words);
+      symbols = accepted-alphabet _ _ (start .pre .accepted) .counted .few;
+      word = word-last _ (start .args .expression .now) (e .counted .some) (e .words);
       low = omega arith;
     }
 
@@ -100,8 +100,8 @@ push-constants-requires c κs =
     let h = accepted-alphabet _ _ (p .accepted) in
     let n = words-written-next _ _ _ _ _ _ (c .before .before .before .push .ensures) in
     record {
-      few = rw (p .constants) (h .fewConstants);
-      symbols = constants-symbols _ _ (p .constants) (h .few);
+      few = rw (p .constants) (h .constants .few);
+      symbols = constants-symbols _ _ (p .constants) (h .counted .few);
       fits = omega arith;
     }
 
@@ -126,7 +126,7 @@ returns c =
     c .before .before .before .before .before .before .before .before .before .before .before .before .before .before .before .before
     .before .before .before .before .before .args in
     let e = accepted-expression _ _ (p .accepted) in
-    table-written (a .alphabet .now) (a .constants .now) (a .expression .now) (e .some) _ _ _ _ _ _ _ _ _ _ (p .constants)
+    table-written (a .alphabet .now) (a .constants .now) (a .expression .now) (e .counted .some) _ _ _ _ _ _ _ _ _ _ (p .constants)
     (c .before .before .before .before .before .before .before .before .before .before .before .before .before .before .states-after
     .ensures .0)
     (c .before .before .before .before .before .before .before .before .before .before .before .before .before .states-of .ensures .0)

@@ -40,7 +40,7 @@ sub-base c = emitted-children (c .before .before .before .loop .inv) _ (c .befor
 height-low : (c : tie.After-arity Inv-loop μ-loop) → c .before .before .before .loop .height < expressionMost
 height-low c =
     emitted-height (c .before .before .before .loop .inv) (c .before .before .loop-test .taken)
-    (accepted-expression _ _ (c .before .before .before .before .before .before .before .before .pre .accepted) .few)
+    (accepted-expression _ _ (c .before .before .before .before .before .before .before .before .pre .accepted) .counted .few)
 
 mul-push-own : tie.Need-mul-push-own Inv-loop μ-loop
 mul-push-own c = let h = height-low c in omega arith
@@ -64,8 +64,8 @@ push-own-requires c κs =
     let e = accepted-expression _ _ (p .accepted) in
     let h = c .before .before .before .before .before .loop-test .taken in
     let r = c .before .before .before .arity .ensures in (
-      emitted-emittable m _ _ (p .constants) (accepted-alphabet _ _ (p .accepted)) h (e .few) (p .fits) r refl,
-      emitted-own-emittable m _ _ (p .constants) h (e .few) r refl,
+      emitted-emittable m _ _ (p .constants) (accepted-alphabet _ _ (p .accepted)) h (e .counted .few) (p .fits) r refl,
+      emitted-own-emittable m _ _ (p .constants) h (e .counted .few) r refl,
     )
 
 word-port-requires : tie.Need-word-port-requires Inv-loop μ-loop
@@ -74,9 +74,9 @@ word-port-requires c κs =
     let m = c .before .before .before .before .before .before .before .before .before .loop .inv in
     let h = c .before .before .before .before .before .before .before .before .loop-test .taken in
     let e = accepted-expression _ _ (p .accepted) in
-    let few = e .few in
+    let few = e .counted .few in
     let low = m .low in
-    record { symbols = accepted-alphabet _ _ (p .accepted) .few; word = emitted-word m h; low = omega arith }
+    record { symbols = accepted-alphabet _ _ (p .accepted) .counted .few; word = emitted-word m h; low = omega arith }
 
 mul-stack : tie.Need-mul-stack Inv-loop μ-loop
 mul-stack c = let h = height-low (c .before .before .before .before .before .before .before) in omega arith
@@ -100,7 +100,7 @@ add-state c =
     .before .pre in
     let low = c .before .before .before .before .before .before .before .before .before .before .before .loop .inv .low in
     let h = c .before .before .before .before .before .before .before .before .before .before .loop-test .taken in
-    let few = accepted-expression _ _ (p .accepted) .few in
+    let few = accepted-expression _ _ (p .accepted) .counted .few in
     let s = c .states-of .ensures .1 in
     omega arith
 
@@ -118,7 +118,7 @@ loop-again c =
     let m = c .before .before .before .before .before .before .before .before .before .before .before .loop .inv in
     let e = accepted-expression _ _ (p .accepted) in
     emitted-more m _ _ _ _ _ _ (p .constants)
-    (c .before .before .before .before .before .before .before .before .before .before .loop-test .taken) (e .few)
+    (c .before .before .before .before .before .before .before .before .before .before .loop-test .taken) (e .counted .few)
     (c .before .before .before .before .before .before .before .before .arity .ensures) refl
     (c .before .before .before .before .push-own .ensures) (c .before .before .before .before .push-own .kept .1 .1 .0) (rw (p .constants)
     (c .before .word-port .ensures)) (c .states-of .ensures .0) (c .states-of .ensures .1)
@@ -129,7 +129,7 @@ same-length c = c .before .loop .inv .long
 returns : tie.Need-returns Inv-loop μ-loop
 returns c =
     emitted-end (c .before .loop .inv) (c .loop-test .left) (accepted-expression _ _
-    (c .before .before .before .before .before .before .pre .accepted) .few)
+    (c .before .before .before .before .before .before .pre .accepted) .counted .few)
 
 pub write-words-spec : {M : Type 1} → statement M
 write-words-spec =

@@ -1,8 +1,10 @@
 -- `refusals::exchange::no_replacement` meets its contract: it asks for the length, and then for a tree over the alphabet.
-use mathlib.Core.Path.{sym, _∙_}
+use mathlib.Core.Path.{refl, sym, _∙_}
 use borrow.Author.Needs.{needs}
+use Rattle.words.specs.Chapter.{treeRefusals}
+use Rattle.words.proofs.TestLaws.{or-none}
+use Rattle.words.proofs.RefusalLaws.{refused-some}
 use Rattle.operations.specs.Exchange.{noReplacement}
-use Rattle.refusals.proofs.ReplacementRefusalLaws.{tree-refused}
 use Rattle.refusals.proofs.exchange.no_replacement.Statement.{statement}
 use Rattle.refusals.proofs.exchange.no_replacement.Tie as tie
 
@@ -20,7 +22,8 @@ returns-2 : tie.Need-returns-2
 unfolding noReplacement
 returns-2 c =
     let d = c .before in
-    tree-refused _ _ _ (c .tree-fault .ensures) ∙ sym (simp (sym (d .before .wrong-count .ensures) ∙ d .if1 .left))
+    refused-some (treeRefusals _ _) refl (c .tree-fault .ensures)
+    ∙ simp or-none (sym (simp (sym (d .before .wrong-count .ensures) ∙ d .if1 .left)))
 
 pub no-replacement-spec : {M : Type 1} → statement M
 no-replacement-spec = tie.close (tie.spec wrong-count-requires returns tree-fault-requires returns-2)

@@ -1,16 +1,15 @@
--- `refusals::shared::wrong_count` meets its contract: it asks both conditions in their order.
-use borrow.Author.Tests.{eq-eqb, ne-eqb}
+-- `refusals::shared::wrong_count` meets its contract: the definition is the same test.
+use borrow.Author.Needs.{needs}
 use Rattle.operations.specs.Run.{wrongCount}
 use Rattle.refusals.proofs.shared.wrong_count.Statement.{statement}
 use Rattle.refusals.proofs.shared.wrong_count.Tie as tie
 
+is-outside-requires : tie.Need-is-outside-requires
+is-outside-requires c κs = search needs
+
 returns : tie.Need-returns
 unfolding wrongCount
-returns c = simp (eq-eqb _ _ (c .if1 .taken))
-
-returns-2 : tie.Need-returns-2
-unfolding wrongCount
-returns-2 c = simp (ne-eqb _ _ (c .if1 .left))
+returns c = c .is-outside .ensures
 
 pub wrong-count-spec : {M : Type 1} → statement M
-wrong-count-spec = tie.close (tie.spec returns returns-2)
+wrong-count-spec = tie.close (tie.spec is-outside-requires returns)

@@ -5,6 +5,8 @@ use Prim.Native.Nat.{_-_}
 use lib.ListN.{length}
 use borrow.Author.Needs.{needs}
 use borrow.Author.Tests.{not-true, not-false}
+use Rattle.words.specs.Chapter.{treeRefusals}
+use Rattle.words.proofs.RefusalLaws.{found-refusal}
 use Rattle.syntax.proofs.ChapterLaws.{ChapterJudged, judged-none, judged-no-node, judged-lacks}
 use Rattle.syntax.proofs.ChapterLaws.{judged-later, judged-more, judged-one, judged-not-one}
 use Rattle.syntax.proofs.chapter.tree_fault.Statement.{statement}
@@ -31,7 +33,8 @@ is-node-requires c κs = search needs
 returns : tie.Need-returns Inv-loop μ-loop
 returns c =
     let t = c .before .before .before in
-    judged-no-node (t .before .loop .inv) (t .loop-test .taken) (sym (c .before .is-node .ensures) ∙ not-true _ (c .if1 .taken))
+    found-refusal (treeRefusals _ _)
+    (judged-no-node (t .before .loop .inv) (t .loop-test .taken) (sym (c .before .is-node .ensures) ∙ not-true _ (c .if1 .taken)))
 
 cast-rank : tie.Need-cast-rank Inv-loop μ-loop
 cast-rank c = search needs
@@ -57,15 +60,16 @@ nodes-only-requires c κs = search needs
 returns-2 : tie.Need-returns-2 Inv-loop μ-loop
 returns-2 c =
     let t = c .before .before .before .before .before .before .before .before in
-    judged-later (t .before .loop .inv) _ (c .before .nodes-only .ensures) (not-true _ (c .if3 .taken))
+    found-refusal (treeRefusals _ _) (judged-later (t .before .loop .inv) _ (c .before .nodes-only .ensures) (not-true _ (c .if3 .taken)))
 
 returns-3 : tie.Need-returns-3 Inv-loop μ-loop
 returns-3 c =
     let l = c .before .before .before in
     let n = l .before .before in
     let t = n .before .before .before in
-    judged-lacks (t .before .loop .inv) (t .loop-test .taken) (sym (n .before .is-node .ensures) ∙ not-false _ (n .if1 .left)) _
-    (l .before .rank .ensures) (l .if2 .taken) _ (c .before .nodes-only .ensures) (not-false _ (c .if3 .left))
+    found-refusal (treeRefusals _ _)
+    (judged-lacks (t .before .loop .inv) (t .loop-test .taken) (sym (n .before .is-node .ensures) ∙ not-false _ (n .if1 .left)) _
+    (l .before .rank .ensures) (l .if2 .taken) _ (c .before .nodes-only .ensures) (not-false _ (c .if3 .left)))
 
 add-made : tie.Need-add-made Inv-loop μ-loop
 add-made c = search needs
@@ -84,10 +88,12 @@ loop-again c =
     (c .before .rank .ensures) (c .if2 .left)
 
 returns-4 : tie.Need-returns-4 Inv-loop μ-loop
-returns-4 c = judged-one (c .before .before .loop .inv) (c .before .loop-test .left) (c .if4 .taken)
+returns-4 c =
+    found-refusal (treeRefusals _ _) (judged-one (c .before .before .loop .inv) (c .before .loop-test .left) (c .if4 .taken))
 
 returns-5 : tie.Need-returns-5 Inv-loop μ-loop
-returns-5 c = judged-not-one (c .before .before .loop .inv) (c .before .loop-test .left) (c .if4 .left)
+returns-5 c =
+    found-refusal (treeRefusals _ _) (judged-not-one (c .before .before .loop .inv) (c .before .loop-test .left) (c .if4 .left))
 
 pub tree-fault-spec : {M : Type 1} → statement M
 tree-fault-spec =

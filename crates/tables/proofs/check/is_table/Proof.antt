@@ -2,24 +2,31 @@
 use mathlib.Core.Path.{sym, _∙_}
 use borrow.Author.Needs.{needs}
 use borrow.Author.Tests.{not-true, not-false}
-use Rattle.tables.proofs.TableScanLaws.{table-empty, table-long, table-no-head, table-value}
+use lib.ListN.{length}
+use Rattle.words.specs.Limits.{tableMost}
+use Rattle.words.proofs.LimitLaws.{Within, not-outside}
+use Rattle.tables.proofs.TableScanLaws.{table-outside, table-no-head, table-value}
 use Rattle.tables.proofs.check.is_table.Statement.{statement}
 use Rattle.tables.proofs.check.is_table.Tie as tie
 
-returns : tie.Need-returns
-returns c = table-empty _ _ (c .if1 .taken)
+-- there are words, and not too many
+within : (c : tie.Else1) → Within tableMost (length (c .before .before .before .before .args .table .now))
+within c = not-outside _ _ (sym (c .before .is-outside .ensures) ∙ c .if1 .left)
 
-returns-2 : tie.Need-returns-2
-returns-2 c = table-long _ _ (c .if2 .taken)
+is-outside-requires : tie.Need-is-outside-requires
+is-outside-requires c κs = search needs
+
+returns : tie.Need-returns
+returns c = table-outside _ _ (sym (c .before .is-outside .ensures) ∙ c .if1 .taken)
 
 shared-slice-read-head : tie.Need-shared-slice-read-head
-shared-slice-read-head c = search needs
+shared-slice-read-head c = within (c .before) .some
 
 is-head-requires : tie.Need-is-head-requires
 is-head-requires c κs = search needs
 
-returns-3 : tie.Need-returns-3
-returns-3 c = table-no-head _ _ (c .before .before .before .if2 .left) (sym (c .before .is-head .ensures) ∙ not-true _ (c .if3 .taken))
+returns-2 : tie.Need-returns-2
+returns-2 c = table-no-head _ _ (within (c .before .before .before)) (sym (c .before .is-head .ensures) ∙ not-true _ (c .if2 .taken))
 
 cast-are-transitions : tie.Need-cast-are-transitions
 cast-are-transitions c = search needs
@@ -27,21 +34,21 @@ cast-are-transitions c = search needs
 are-transitions-requires : tie.Need-are-transitions-requires
 are-transitions-requires c κs = search needs
 
-returns-4 : tie.Need-returns-4
-returns-4 c =
-    let d = c .before .before .before .before in
-    table-value _ _ (d .if2 .left) (d .before .if1 .left) (sym (c .before .before .is-head .ensures) ∙ not-false _ (c .before .if3 .left)) _
+returns-3 : tie.Need-returns-3
+returns-3 c =
+    let head = c .before in
+    table-value _ _ (within (head .before .before .before)) (sym (head .before .is-head .ensures) ∙ not-false _ (head .if2 .left)) _
     (c .are-transitions .ensures)
 
 pub is-table-spec : {M : Type 1} → statement M
 is-table-spec =
     tie.close
     (tie.spec
+    is-outside-requires
     returns
-    returns-2
     shared-slice-read-head
     is-head-requires
-    returns-3
+    returns-2
     cast-are-transitions
     are-transitions-requires
-    returns-4)
+    returns-3)
