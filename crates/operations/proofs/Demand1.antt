@@ -64,10 +64,11 @@ demand1 = record {
   exchange = λ c.
       let vs = length (newTree c) ∷ recomputedIn (outcomes c) ∷ [] in
       let rs = refusalsOf c in
+      let marks = refit (c .count * sizeOf (c .table)) (flatten (map setIn (outcomes c))) (c .marks) in
       judged vs rs _ refl
       (λ n h. (
         refused-exit (refusal rs) vs n (refit (c .count) (newTree c) (c .chapter)) (c .chapter) h,
-        (refused-exit (refusal rs) vs n (refit (c .count * sizeOf (c .table)) (flatten (map setIn (outcomes c))) (c .marks)) (c .marks) h, tt),
+        (refused-exit (refusal rs) vs n marks (c .marks) h, tt),
       )) (
         chapter-length c,
         (marks-length c, tt),

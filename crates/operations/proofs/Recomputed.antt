@@ -102,7 +102,8 @@ module _ (c : ExchangeCall) (elements workedOut : ℕ) (h : exchangeAnswer c ≡
   reached j r l e =
       let rs = map (setAfter c) (childrenOf a (newTree c) j) in
       subst (ReachedSet (c .table) (symbolOf (getD (newTree c) j 0)) rs) (sym (rule j r l e))
-      (nodeSet-reached a (c .table) (alphabet-accepted a (call .checked .alphabet) .counted .few) (call .checked .automaton) (getD (newTree c) j 0) rs)
+      (nodeSet-reached a (c .table) (alphabet-accepted a (call .checked .alphabet) .counted .few) (call .checked .automaton)
+      (getD (newTree c) j 0) rs)
 
   parts : workedOut ≡ length xs + recomputedIn (behindOf c)
   unfolding outcomes

@@ -161,7 +161,9 @@ module _ (a e : List ℕ) where
 
         pub list-not-refused : (f : ℕ) → refused f ≡ listAnswer a (compiledTable a e) (length ch) left list → ⊥
         unfolding listAnswer
-        list-not-refused f g = let z : _≡_ {A = ℕ} 0 1 = let k : refused f ≡ accepted _ = rw list-none at g in cc in omega arith
+        list-not-refused f g =
+            let q = refused-number (listFault a (compiledTable a e) (length ch) (length left) (length list)) _ f (sym g) in
+            omega (arith, list-none)
 
         module _ (hits : ℕ) (lists : accepted (hits ∷ []) ≡ listAnswer a (compiledTable a e) (length ch) left list) where
           matches-are : matchesOf (compiledTable a e) (length ch) left ≡ hitsOf a e ch

@@ -1,6 +1,6 @@
 -- Laws of refusals: the number is that of the first condition that holds, and a call that is not refused has none that does.
--- `Found` is the evidence from which the laws of published `First` and `NoneHolds` follow. They pass on `NoneHolds`, of which
--- they speak.
+-- `Found` is the evidence; the laws of `First` and of `NoneHolds`, of which the claims speak, follow from it. `NoneHolds` is passed
+-- on.
 use mathlib.Core.Path.{_≡_, refl, _∙_, sym}
 use mathlib.Core.Bool.{Bool, true, false, not, cond, _&&_, _||_}
 use mathlib.Core.List.{[], _∷_, _++_}
