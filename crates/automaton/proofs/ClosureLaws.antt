@@ -2,15 +2,16 @@
 use mathlib.Core.Path.{_≡_, _∙_, sym}
 use mathlib.Core.Logic.{_↔_}
 use mathlib.Core.Bool.{true, false, true≢false}
-use mathlib.Core.List.{List, _∷_, List·Memᴰ, List·Memᴰ·head, List·Memᴰ·tail}
+use mathlib.Core.List.{List, List·Memᴰ}
 use Prim.Native.Nat.{ℕ, _<_, _≤_}
 use native.Mathlib.Omega.{arith}
 use lib.ListN.{length, replicate, length-replicate}
 use Rattle.words.proofs.TestLaws.{Tested, holds, fails, tested, same-truth}
+use Rattle.words.proofs.AllLaws.{each-at}
 use Rattle.automaton.specs.Transition.{Transition, Automaton, onSymbol, epsilon}
 use Rattle.automaton.specs.StateSet.{StateSet, sizeFor, contains, symbolPass, stateSet}
 use Rattle.automaton.specs.Reached.{Reached, bySymbol, byEpsilon}
-use Rattle.automaton.specs.Table.{TransitionOver, TransitionsOver, AutomatonOver}
+use Rattle.automaton.specs.Table.{TransitionOver, AutomatonOver}
 use Rattle.automaton.proofs.BitLaws.{Words, words-replicate, words-insert, contains-replicate, contains-determines}
 use Rattle.automaton.proofs.KeepLaws.{symbolPass-keeps, epsilonClosure-keeps}
 use Rattle.automaton.proofs.SetLength.{length-symbolPass, length-stateSet}
@@ -27,13 +28,8 @@ targetOf (epsilon p q) = q
 abbrev pub TargetsBelow : ℕ → List Transition → Type 0
 TargetsBelow n ts = (t : Transition) → List·Memᴰ t ts → targetOf t < n
 
-pub transition-over : (a : List ℕ) (n : ℕ) (ts : List Transition) → TransitionsOver a n ts → {t : Transition} → List·Memᴰ t ts
-    → TransitionOver a n t
-transition-over a n (u ∷ ts) o (List·Memᴰ·head e) = rw e (o .0)
-transition-over a n (u ∷ ts) o (List·Memᴰ·tail m) = transition-over a n ts (o .1) m
-
 pub targets-below : {a : List ℕ} {A : Automaton} → AutomatonOver a A → TargetsBelow (A .states) (A .transitions)
-targets-below {a} {A} o t m = go t (transition-over a (A .states) (A .transitions) (o .transitions) m)
+targets-below {a} {A} o t m = go t (each-at (TransitionOver a (A .states)) (A .transitions) (o .transitions) m)
   where
     go : (t : Transition) → TransitionOver a (A .states) t → targetOf t < A .states
     go (onSymbol f ps q) h = h .3

@@ -9,13 +9,12 @@ use native.Mathlib.Decide.{decLe}
 use native.Mathlib.Nat.{mul-le-mul-left}
 use lib.ListN.{length}
 use lib.Dec.{leb, eqb}
-use borrow.Author.Tests.{leb-true, leb-false, eqb-true, eqb-false, not-false}
+use borrow.Author.Tests.{leb-true, leb-false, eqb-true, eqb-false}
 use Rattle.words.specs.Alphabet.{constantsOf, alphabetFault}
 use Rattle.words.specs.Shape.{treesBy}
-use Rattle.words.specs.Postfix.{arity, trees, oneTree, notOneTree}
-use Rattle.words.specs.ExpressionWords.{expressionRefusals, expressionFault}
+use Rattle.words.specs.Postfix.{arity, trees}
+use Rattle.words.specs.ExpressionWords.{expressionFault}
 use Rattle.words.proofs.TestLaws.{picked}
-use Rattle.words.proofs.RefusalLaws.{none-applies}
 use Rattle.words.proofs.AcceptedAlphabet.{AcceptedAlphabet, alphabet-accepted, arity-most}
 use Rattle.automaton.specs.Transition.{tableWords}
 use Rattle.automaton.specs.Numbering.{hasEntries, compiled}

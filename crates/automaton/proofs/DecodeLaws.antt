@@ -8,9 +8,10 @@ use lib.ListN.{length}
 use borrow.Author.Tests.{eq-eqb, ne-eqb}
 use Rattle.words.specs.Word.{transitionKind, epsilonKind, sourceKind, numberOf, hasKind}
 use Rattle.words.specs.Word.{wordOf, symbolAbove, countAbove, stateAbove, stateBelow, kindNumber}
+use Rattle.words.specs.Lists.{AllBelow}
 use Rattle.automaton.specs.Transition.{Transition, Automaton, onSymbol, epsilon, sourceWords, transitionsWords}
 use Rattle.automaton.specs.Transition.{headWord, tableWords, sourcesAt, transitionsAt, automatonOf}
-use Rattle.automaton.specs.Table.{AllBelow, TransitionsOver, AutomatonOver}
+use Rattle.automaton.specs.Table.{TransitionsOver, AutomatonOver}
 
 -- ---- one word
 

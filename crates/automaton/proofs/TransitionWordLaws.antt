@@ -11,10 +11,11 @@ use borrow.Author.Tests.{eq-eqb, ne-eqb, eqb-true, lt-ltb, ltb-true}
 use Rattle.words.specs.Word.{transitionKind, epsilonKind, sourceKind, numberOf, isOf}
 use Rattle.words.specs.Word.{fieldRange, wordOf, symbolAbove, stateAbove, stateBelow, kindNumber, aboveState}
 use Rattle.words.specs.Alphabet.{isSymbol, rankOf}
+use Rattle.words.specs.Lists.{AllBelow}
 use Rattle.words.proofs.TestLaws.{and-true, true-and, or-true}
 use Rattle.words.proofs.KindLaws.{isOf-facts, isOf-wordOf}
 use Rattle.automaton.specs.Transition.{Transition, onSymbol, epsilon, sourceWords, transitionsWords}
-use Rattle.automaton.specs.Table.{isTableWord, sourcesLeft, areTransitions, AllBelow, TransitionsOver}
+use Rattle.automaton.specs.Table.{isTableWord, sourcesLeft, areTransitions, TransitionsOver}
 
 -- ---- one word from its fields
 

@@ -1,5 +1,5 @@
 -- The closure of a state, from a closed set to the end of the search, and the row that it is kept in.
-use mathlib.Core.Path.{_≡_, refl, ap, _∙_, sym, subst}
+use mathlib.Core.Path.{_≡_, ap, _∙_, sym, subst}
 use mathlib.Core.Bool.{Bool, true, false, true≢false}
 use mathlib.Core.Logic.{inl, inr, ⊎-elim}
 use mathlib.Core.List.{List, List·Memᴰ}
@@ -10,14 +10,14 @@ use lib.ListN.{length, getD, set, take, drop, replicate, length-set, length-repl
 use lib.Seq.{paste, length-paste, getD-set-same, getD-set-other}
 use Rattle.automaton.proofs.PassLaws.{closed-test, test-closed}
 use Rattle.automaton.specs.Transition.{epsilon, automatonOf}
-use Rattle.automaton.specs.StateSet.{StateSet, contains, insert}
+use Rattle.automaton.specs.StateSet.{StateSet}
 use Rattle.automaton.proofs.BitLaws.{contains-replicate, words-replicate}
 use Rattle.operations.specs.Marks.{storedSet}
 use Rattle.sets.proofs.StoredLaws.{stored-written, stored-other}
 use Rattle.sets.specs.Joined.{joined}
 use Rattle.sets.proofs.JoinLaws.{joined-length, words-joined, joined-cases, joined-left, joined-right}
 use Rattle.closures.specs.Closure.{PendingStack, Settled, Puttable, Put, Followed, Closable, ClosureOf}
-use Rattle.closures.specs.Closure.{Closures, ClosedSet, Addable, Added, Keepable, Kept, Joinable, JoinedClosure}
+use Rattle.closures.specs.Closure.{ClosedSet, Addable, Added, Keepable, Kept, Joinable, JoinedClosure}
 use Rattle.closures.proofs.TransitionStartLaws.{member-starts, table-transitions}
 use Rattle.closures.proofs.KeyedWordLaws.{closed-at}
 use Rattle.closures.proofs.PendingStackLaws.{missing-most, stack-puttable, stack-put, put-cases}

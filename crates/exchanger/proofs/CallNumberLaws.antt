@@ -8,7 +8,7 @@ use native.Mathlib.Nat.{add-mul, one-mul}
 use lib.ListN.{length, take}
 use lib.Seq.{slice, length-take-le}
 use Rattle.words.specs.Limits.{nodesMost}
-use Rattle.words.specs.Postfix.{arity, startOf, splice}
+use Rattle.words.specs.Postfix.{arity, startOf}
 use Rattle.words.proofs.PostfixLaws.{start-le}
 use Rattle.automaton.proofs.TableLaws.{isTable-sizes}
 use Rattle.operations.specs.Marks.{sizeOf, refit}

@@ -11,7 +11,7 @@ use lib.ListN.{length, getD, take, drop, length-map, length-append, List·getD-a
 use lib.Seq.{paste, slice, getD-drop, getD-append-add, getD-set-same, getD-set-other, take-take}
 use Rattle.words.specs.Lists.{listFrom}
 use Rattle.words.specs.Shape.{spliceBy}
-use Rattle.words.specs.Postfix.{arity, startOf, isAncestor, splice}
+use Rattle.words.specs.Postfix.{arity, isAncestor, splice}
 use Rattle.words.proofs.TestLaws.{Tested, holds, fails, tested}
 use Rattle.words.proofs.ListLaws.{length-listFrom}
 use Rattle.words.proofs.PostfixLaws.{length-splice}

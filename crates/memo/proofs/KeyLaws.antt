@@ -1,11 +1,12 @@
 -- Laws of keys: they fit into 64 bits, they are not 0, and different steps have different keys.
-use mathlib.Core.Path.{_≡_, refl, ap, ap₂, _∙_, sym}
+use mathlib.Core.Path.{_≡_, refl, ap, ap₂}
 use mathlib.Core.List.{List, [], _∷_}
 use Prim.Native.Nat.{ℕ, zero, suc, _+_, _-_, _*_, _/_, _^_, _<_, _≤_}
 use native.Mathlib.Omega.{arith}
 use lib.ListN.{length, getD, drop, length-drop}
-use Rattle.words.proofs.ListLaws.{below-drop}
-use Rattle.automaton.specs.Table.{AllBelow}
+use Rattle.words.specs.Lists.{AllBelow}
+use Rattle.words.specs.Limits.{nodesMost}
+use Rattle.words.proofs.AllLaws.{each-drop}
 use Rattle.memo.specs.Key.{packed, stepKey, Packable, Keyable}
 
 -- four digits of 13 bits
@@ -106,7 +107,7 @@ key-few {f} {four} {rank} g =
     let e = g .nodes .length-is in
     let n =
     packed-few (drop (4 - rank) four) (rw (length-drop (4 - rank) four) (omega arith))
-    (below-drop 4096 (4 - rank) four (g .nodes .below)) in
+    (each-drop (λ c. c < nodesMost) (4 - rank) four (g .nodes .below)) in
     omega arith
 
 pub key-is : (f : ℕ) (cs : List ℕ) (number : ℕ) → number ≡ packed cs → number * 512 + f + 1 ≡ stepKey f cs

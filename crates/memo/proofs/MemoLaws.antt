@@ -1,21 +1,20 @@
 -- The memo: an empty one, what a slot with the key says, and that it stays right when node i is marked.
-use mathlib.Core.Path.{_≡_, refl, ap, ap₂, _∙_, sym, subst}
-use mathlib.Core.List.{List, [], _∷_}
-use Prim.Native.Nat.{ℕ, suc, _+_, _-_, _*_, _<_, _≤_}
+use mathlib.Core.Path.{_≡_, ap, ap₂, _∙_, sym}
+use mathlib.Core.List.{List}
+use Prim.Native.Nat.{ℕ, _+_, _-_, _*_, _<_, _≤_}
 use native.Mathlib.Omega.{arith}
-use native.Mathlib.Numerals.{add-one}
 use native.Mathlib.Decide.{ℕ-discrete}
 use lib.ListN.{length, getD, take, drop, set, replicate, length-set, length-drop, length-replicate, getD-replicate}
 use lib.Seq.{paste, take-all, getD-set-same, getD-set-other}
-use Rattle.words.proofs.ListLaws.{below-more, map-below}
-use Rattle.automaton.specs.Table.{AllBelow}
+use Rattle.words.specs.Lists.{AllBelow}
+use Rattle.words.proofs.AllLaws.{map-below, below-more}
 use Rattle.automaton.specs.Transition.{automatonOf}
 use Rattle.automaton.specs.StateSet.{StateSet, stateSet}
 use Rattle.operations.specs.Marks.{sizeOf, storedSet}
 use Rattle.closures.specs.Closure.{Closures}
 use Rattle.sets.specs.Copyable.{Copyable}
 use Rattle.sets.proofs.StoredLaws.{row-inside, stored-before}
-use Rattle.memo.specs.Key.{packed, stepKey}
+use Rattle.memo.specs.Key.{stepKey}
 use Rattle.memo.specs.Memo.{setOver, Slot, empty, known, Remembered, NewMarkable, NextMarkable, MarkedNew, MarkedNext}
 use Rattle.memo.proofs.KeyLaws.{packed-same, stepKey-symbol, key-nodes, key-some}
 use Rattle.memo.proofs.MarkingLaws.{length-setOver, size-few}
@@ -55,7 +54,7 @@ remembered-later {table} {marks} {i} {keys} {nodes} g = record {
   where
     go : (key node : ℕ) → Slot table marks i key node → Slot table marks (i + 1) key node
     go key node (empty h) = empty h
-    go key node (known f cs hf b k l q) = known f cs hf (rw (add-one i) (below-more i cs b)) k (omega arith) q
+    go key node (known f cs hf b k l q) = known f cs hf (below-more i (i + 1) (omega arith) cs b) k (omega arith) q
 
 -- ---- node i's words are written
 
@@ -75,7 +74,7 @@ module _ (table marks : List ℕ) (i : ℕ) (v : StateSet) (e : length v ≡ siz
   pub slot-kept : (key node : ℕ) → Slot table marks i key node → Slot table marks′ (i + 1) key node
   slot-kept key node (empty h) = empty h
   slot-kept key node (known f cs hf b k l q) =
-      known f cs hf (rw (add-one i) (below-more i cs b)) k (omega arith) (stored-kept node l ∙ q ∙ sym (set-kept f cs b))
+      known f cs hf (below-more i (i + 1) (omega arith) cs b) k (omega arith) (stored-kept node l ∙ q ∙ sym (set-kept f cs b))
 
 -- ---- marking node i
 
@@ -197,7 +196,7 @@ module _ {table index : List ℕ} {f : ℕ} {marks four : List ℕ} {rank i : �
             let ke = g .remembered .memo .keys-are in
             let ne = g .remembered .memo .nodes-are in
             rw (e, getD-set-same keys s key 0 (omega arith), getD-set-same nodes s r 0 (omega arith))
-            (known f cs (g .keyable .symbol) (rw (add-one i) (below-more i cs (g .below))) k (n .low)
+            (known f cs (g .keyable .symbol) (below-more i (i + 1) (omega arith) cs (g .below)) k (n .low)
             (n .same ∙ sym (set-kept table marks i v len (g .new .row) marks′ (n .words) f cs (g .below))))
         go t h (no e) =
             rw (getD-set-other keys s t key 0 e, getD-set-other nodes s t r 0 e)

@@ -6,7 +6,7 @@ use lib.ListN.{length, getD, drop}
 use lib.Seq.{paste}
 use Rattle.words.specs.Limits.{rankMost, statesMost, nodesMost}
 use Rattle.words.specs.Word.{symbolRange}
-use Rattle.automaton.specs.Table.{AllBelow}
+use Rattle.words.specs.Lists.{AllBelow}
 use Rattle.automaton.specs.Transition.{automatonOf}
 use Rattle.automaton.specs.StateSet.{StateSet, stateSet}
 use Rattle.operations.specs.Marks.{sizeOf, storedSet}

@@ -1,7 +1,7 @@
 -- One node marked by the memo: the children's representatives are on top of the stack, node i gets the state set that it has over its
 -- children, and the stack and the memo are then those before the next node.
 use mathlib.Core.Path.{_≡_, ap, ap₂, _∙_, sym}
-use mathlib.Core.List.{List, [], _∷_, _++_, reverse, map}
+use mathlib.Core.List.{List, _++_, reverse, map}
 use Prim.Native.Nat.{ℕ, _+_, _-_, _*_, _<_, _≤_}
 use native.Mathlib.Omega.{arith}
 use lib.ListN.{length, getD, take, drop, set, replicate, length-drop}
@@ -9,9 +9,11 @@ use lib.Seq.{paste, length-take-le, drop-drop, drop-append-add}
 use Rattle.words.specs.Alphabet.{rankOf}
 use Rattle.words.specs.Chapter.{symbolOf}
 use Rattle.words.specs.Shape.{childrenOfBy}
-use Rattle.words.specs.Postfix.{arity, childrenOf}
-use Rattle.words.proofs.ListLaws.{below-drop, map-drop}
-use Rattle.automaton.specs.Table.{AllBelow}
+use Rattle.words.specs.Postfix.{arity, childrenOf, rootsOf}
+use Rattle.words.specs.Lists.{AllBelow}
+use Rattle.words.specs.Limits.{nodesMost}
+use Rattle.words.proofs.ListLaws.{map-drop, drop-reverse}
+use Rattle.words.proofs.AllLaws.{each-drop, each-getD, below-more}
 use Rattle.automaton.specs.Transition.{automatonOf}
 use Rattle.automaton.specs.StateSet.{StateSet, stateSet}
 use Rattle.operations.specs.Marks.{sizeOf, nodeSet, storedSet}
@@ -22,15 +24,10 @@ use Rattle.sets.proofs.StoredLaws.{row-inside, stored-written}
 use Rattle.memo.specs.Memo.{setOver, NextMarkable, MarkedNext}
 use Rattle.memo.proofs.MarkingLaws.{length-setOver}
 use Rattle.memo.proofs.MemoLaws.{stored-kept}
-use Rattle.nodes.specs.Nodes.{rootsOf, setFrom, markedAt, BoundedTree}
+use Rattle.nodes.specs.Nodes.{setFrom, markedAt, BoundedTree}
 use Rattle.nodes.specs.Marking.{Represented, NodeMarkable, Maintained}
-use Rattle.nodes.proofs.RootLaws.{drop-reverse, below-getD, roots-few}
 use Rattle.nodes.proofs.WorkableLaws.{node-arity}
 use Rattle.nodes.proofs.RootStackLaws.{nodes-fit, stack-fits, stack-height, represented-more}
-
-below-up : (m n : ℕ) → m ≤ n → (l : List ℕ) → AllBelow m l → AllBelow n l
-below-up m n h [] b = tt
-below-up m n h (x ∷ l) b = (let y = b .0 in omega arith, below-up m n h l (b .1))
 
 module _ {a table index ch : List ℕ} {i : ℕ} {marks array : List ℕ} {height : ℕ} {keys known places owners rows pending : List ℕ}
     (g : NodeMarkable a table index ch i marks array height keys known places owners rows pending) (r : ℕ)
@@ -89,8 +86,8 @@ module _ {a table index ch : List ℕ} {i : ℕ} {marks array : List ℕ} {heigh
   four-below =
       let h = few in
       rw (four-is, g .maintained .represented .held .words)
-      (below-drop 4096 (height - 4) (replicate 4 0 ++ nodes)
-      (omega arith, (omega arith, (omega arith, (omega arith, below-up i 4096 (omega arith) nodes (g .maintained .represented .below))))))
+      (each-drop (λ x. x < nodesMost) (height - 4) (replicate 4 0 ++ nodes)
+      (omega arith, (omega arith, (omega arith, (omega arith, below-more i nodesMost (omega arith) nodes (g .maintained .represented .below))))))
 
   fits : r ≤ length (g .maintained .represented .nodes)
   fits = nodes-fit (g .maintained .represented) (g .workable .tree) (g .inside) r e
@@ -109,7 +106,7 @@ module _ {a table index ch : List ℕ} {i : ℕ} {marks array : List ℕ} {heigh
       ∙ ap (λ (k : ℕ). drop k (replicate 4 0 ++ nodes)) part-place ∙ drop-append-add (replicate 4 0) nodes (length nodes - r)
 
   part-below : AllBelow i (drop (4 - r) four)
-  part-below = rw part-is (below-drop i (length nodes - r) nodes (g .maintained .represented .below))
+  part-below = rw part-is (each-drop (λ x. x < i) (length nodes - r) nodes (g .maintained .represented .below))
 
   part-length : length (drop (4 - r) four) ≡ r
   part-length =
@@ -130,7 +127,7 @@ module _ {a table index ch : List ℕ} {i : ℕ} {marks array : List ℕ} {heigh
   rows-inside k l =
       let h = g .inside in
       row-inside (getD (drop (4 - r) four) k 0) (length ch) (sizeOf table) (length marks)
-      (omega (arith, below-getD i (drop (4 - r) four) k part-below l)) (g .workable .marks-fit)
+      (omega (arith, each-getD (λ x. x < i) 0 (drop (4 - r) four) k part-below l)) (g .workable .marks-fit)
 
   row : i * sizeOf table + sizeOf table ≤ length marks
   row = row-inside i (length ch) (sizeOf table) (length marks) (g .inside) (g .workable .marks-fit)

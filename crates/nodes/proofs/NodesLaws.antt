@@ -5,11 +5,12 @@ use Prim.Native.Nat.{ℕ, suc, _+_, _-_, _*_, _<_, _≤_}
 use native.Mathlib.Omega.{arith}
 use lib.ListN.{length, replicate}
 use Rattle.words.specs.Limits.{statesMost}
+use Rattle.words.specs.Postfix.{rootsOf}
 use Rattle.sets.specs.Size.{setMost}
 use Rattle.closures.specs.Closure.{rowsMost}
 use Rattle.memo.specs.Memo.{placesMost, slotsMost}
 use Rattle.memo.proofs.MemoLaws.{nothing-remembered}
-use Rattle.nodes.specs.Nodes.{rootsOf, stackLength, Held, markedAt, markedFrom}
+use Rattle.nodes.specs.Nodes.{stackLength, Held, markedAt, markedFrom}
 use Rattle.nodes.specs.Marking.{Maintained, NodeMarkable, NodesMarkable}
 use Rattle.nodes.proofs.WorkableLaws.{workable-long}
 use Rattle.nodes.proofs.RootStackLaws.{represent-roots}

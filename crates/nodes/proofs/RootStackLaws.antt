@@ -9,15 +9,14 @@ use lib.Seq.{length-take-le, take-take, take-suc-set, take-append-add}
 use Rattle.words.specs.Alphabet.{rankOf}
 use Rattle.words.specs.Chapter.{symbolOf}
 use Rattle.words.specs.Shape.{stackGivenBy}
-use Rattle.words.specs.Postfix.{arity}
-use Rattle.words.proofs.ListLaws.{below-more, map-append, map-take, map-below}
-use Rattle.words.proofs.ChildLaws.{numbers-more, numbers-below}
-use Rattle.automaton.specs.Table.{AllBelow}
+use Rattle.words.specs.Postfix.{arity, rootsOf}
+use Rattle.words.proofs.ListLaws.{map-append, map-take, take-reverse}
+use Rattle.words.proofs.ChildLaws.{roots-more, roots-below, arity-fits, roots-few}
+use Rattle.words.proofs.AllLaws.{map-below, below-more, each-append, each-take, each-reverse}
 use Rattle.automaton.specs.StateSet.{StateSet}
 use Rattle.operations.specs.Marks.{sizeOf, storedSet}
-use Rattle.nodes.specs.Nodes.{rootsOf, Held, Pushable, BoundedTree, Stackable}
+use Rattle.nodes.specs.Nodes.{Held, Pushable, BoundedTree, Stackable}
 use Rattle.nodes.specs.Marking.{Represented}
-use Rattle.nodes.proofs.RootLaws.{take-reverse, below-take, below-reverse, arity-fits, roots-few}
 use Rattle.nodes.proofs.WorkableLaws.{node-arity}
 
 -- r nodes are taken and one is put in their place: one store
@@ -44,18 +43,14 @@ module _ (a ch : List ℕ) (tree : BoundedTree a ch) (i : ℕ) (inside : i < len
 
   -- no node lacks children
   pub rank-fits : r ≤ length (rootsOf a ch i)
-  rank-fits = omega (arith, arity-is, arity-fits a ch i (tree .tree) inside)
+  rank-fits = omega (arith, arity-is, arity-fits (arity a) ch i (tree .tree) inside)
 
   -- node i in the place of its children
   pub roots-next : rootsOf a ch (i + 1) ≡ i ∷ drop r (rootsOf a ch i)
   roots-next =
-      ap (rootsOf a ch) (add-one i) ∙ numbers-more (arity a) ch i inside ∙ ap (λ (k : ℕ). i ∷ drop k (rootsOf a ch i)) (sym arity-is)
+      ap (rootsOf a ch) (add-one i) ∙ roots-more (arity a) ch i inside ∙ ap (λ (k : ℕ). i ∷ drop k (rootsOf a ch i)) (sym arity-is)
 
 -- ---- representatives
-
-below-snoc : (n : ℕ) (l : List ℕ) (x : ℕ) → AllBelow n l → x < n → AllBelow n (l ++ x ∷ [])
-below-snoc n [] x b h = (h, tt)
-below-snoc n (y ∷ l) x b h = (b .0, below-snoc n l x (b .1) h)
 
 -- the roots themselves
 pub represent-roots : {a table ch marks array : List ℕ} {i height : ℕ} → length array ≡ 4100 → i ≤ length ch
@@ -66,7 +61,7 @@ represent-roots {a} {table} {ch} {marks} {array} {i} l h g =
       held = g;
       long = l;
       count = length-reverse (rootsOf a ch i);
-      below = below-reverse i (rootsOf a ch i) [] (numbers-below (arity a) ch i h) tt;
+      below = each-reverse (λ x. x < i) (rootsOf a ch i) (roots-below (arity a) ch i h);
       same = refl;
     }
 
@@ -89,7 +84,7 @@ module _ {a table ch : List ℕ} {i : ℕ} {marks array : List ℕ} {height : �
   pub stack-height : height < length array
   stack-height =
       let few = tree .few in
-      let f = roots-few a ch i (omega arith) in
+      let f = roots-few (arity a) ch i (omega arith) in
       omega (arith, g .held .height-is, g .count, g .long)
 
   pub stack-pushable : Pushable a ch i array height
@@ -118,7 +113,7 @@ module _ {a table ch : List ℕ} {i : ℕ} {marks array : List ℕ} {height : �
     same =
         map-below stored (storedSet (sizeOf table) marks) i nodes (g .below) kept ∙ g .same
         ∙ sym (map-below stored (storedSet (sizeOf table) marks) i (reverse roots)
-        (below-reverse i roots [] (numbers-below (arity a) ch i (omega arith)) tt) kept)
+        (each-reverse (λ x. x < i) roots (roots-below (arity a) ch i (omega arith))) kept)
 
     same-left : map (storedSet (sizeOf table) marks′) left ≡ map (storedSet (sizeOf table) marks′) (reverse (drop r (rootsOf a ch i)))
     same-left =
@@ -136,7 +131,9 @@ module _ {a table ch : List ℕ} {i : ℕ} {marks array : List ℕ} {height : �
           count =
               length-append left (node ∷ []) ∙ ap (λ (k : ℕ). k + 1) (length-take-le (length nodes - r) nodes (omega arith))
               ∙ add-one (length nodes - r) ∙ ap (λ (k : ℕ). suc (k - r)) (g .count) ∙ sym (ap length next ∙ ap suc (length-drop r roots));
-          below = below-snoc (i + 1) left node (rw (add-one i) (below-more i left (below-take i (length nodes - r) nodes (g .below)))) low;
+          below =
+              each-append (λ x. x < i + 1) left (node ∷ [])
+              (below-more i (i + 1) (omega arith) left (each-take (λ x. x < i) (length nodes - r) nodes (g .below))) (low, tt);
           same =
               map-append stored left (node ∷ []) ∙ ap₂ (λ (l : List StateSet) (x : StateSet). l ++ x ∷ []) same-left (sym own)
               ∙ sym (ap (map stored) (ap reverse next ∙ reverse-cons i (drop r roots))

@@ -3,14 +3,14 @@
 use Prim.Native.Nat.{ℕ, zero, suc, _+_, _*_, _<_, _≤_}
 use mathlib.Core.Path.{_≡_}
 use mathlib.Core.Bool.{true}
-use mathlib.Core.List.{List, [], _++_, map}
+use mathlib.Core.List.{List, _++_, map}
 use lib.ListN.{length, getD, take, replicate}
 use lib.Seq.{paste}
 use Rattle.words.specs.Limits.{alphabetMost, rankMost, nodesMost}
 use Rattle.words.specs.Alphabet.{rankOf}
 use Rattle.words.specs.Lists.{all}
 use Rattle.words.specs.Chapter.{isNode, symbolOf}
-use Rattle.words.specs.Postfix.{oneTree, stackGiven, childrenOf}
+use Rattle.words.specs.Postfix.{oneTree, childrenOf}
 use Rattle.automaton.specs.Table.{isTable}
 use Rattle.automaton.specs.StateSet.{StateSet}
 use Rattle.operations.specs.Marks.{sizeOf, nodeSet, storedSet}
@@ -31,10 +31,6 @@ markedFrom a table ch i zero marks = marks
 markedFrom a table ch i (suc n) marks = markedAt a table ch (i + n) (markedFrom a table ch i n marks)
 
 -- ---- the stack
-
--- the roots of the trees that the first j nodes make, the last one first
-abbrev pub rootsOf : List ℕ → List ℕ → ℕ → List ℕ
-rootsOf a ch j = stackGiven a (λ k. k) 0 (take j ch) []
 
 -- the zeros at the bottom of the stack: there are always as many words to read at its top as a node has children
 abbrev pub stackBase : ℕ

@@ -13,10 +13,10 @@ use Rattle.words.specs.Limits.{statesMost}
 use Rattle.words.specs.Refusal.{Refusals, refusal}
 use Rattle.words.specs.Chapter.{symbolOf}
 use Rattle.words.specs.Postfix.{startOf}
+use Rattle.words.specs.Lists.{AllBelow}
 use Rattle.words.proofs.RefusalLaws.{none-applies}
 use Rattle.words.proofs.TestLaws.{and-true, or-false}
 use Rattle.automaton.specs.StateSet.{StateSet, contains}
-use Rattle.automaton.specs.Table.{AllBelow}
 use Rattle.automaton.specs.Numbering.{compiled}
 use Rattle.operations.specs.Compile.{compiledTable, tooManyStates}
 use Rattle.operations.specs.Marks.{nodeSets}

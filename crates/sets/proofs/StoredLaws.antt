@@ -6,7 +6,7 @@ use native.Mathlib.Omega.{arith}
 use native.Mathlib.Decide.{decLt}
 use native.Mathlib.Nat.{suc-mul, le-trans, mul-le-mul-left, mul-le-mul-right}
 use lib.ListN.{length, take, drop}
-use lib.Seq.{paste, slice, length-take-le, take-all, take-at, drop-at, drop-drop, drop-paste, take-take}
+use lib.Seq.{paste, length-take-le, take-all, take-at, drop-at, drop-drop, drop-paste, take-take}
 use Rattle.automaton.specs.StateSet.{StateSet}
 use Rattle.operations.specs.Marks.{storedSet}
 use Rattle.slices.proofs.RefitLaws.{take-drop}

@@ -18,7 +18,7 @@ use Rattle.automaton.proofs.TableLaws.{isTable-automaton, isTable-sizes}
 use Rattle.operations.specs.Marks.{sizeOf}
 use Rattle.index.specs.Index.{IndexedTable}
 use Rattle.step.specs.NodeSteppable.{NodeSteppable, childSets}
-use Rattle.step.specs.Node.{Growing, Steppable, SymbolFollowable, SymbolFollowed}
+use Rattle.step.specs.Node.{Steppable, SymbolFollowable, SymbolFollowed}
 use Rattle.closures.proofs.TransitionStartLaws.{member-starts, table-transitions}
 use Rattle.closures.proofs.KeyedWordLaws.{starts-symbol, starts-target}
 

@@ -1,8 +1,8 @@
 -- The chain of a node's symbol, followed from its first word to its end: the set holds what the transitions on the symbol
 -- lead to, and stays closed.
-use mathlib.Core.Path.{_≡_, refl, ap, _∙_, sym, subst}
+use mathlib.Core.Path.{_≡_, refl, _∙_, sym, subst}
 use mathlib.Core.Logic.{⊎-elim}
-use mathlib.Core.Bool.{Bool, true, false, true≢false}
+use mathlib.Core.Bool.{true}
 use mathlib.Core.List.{List}
 use Prim.Native.Nat.{ℕ, _+_, _<_, _≤_}
 use native.Mathlib.Omega.{arith}
@@ -10,19 +10,19 @@ use native.Mathlib.Decide.{ℕ-discrete, decLt}
 use lib.ListN.{length, getD, drop}
 use Rattle.words.specs.Word.{stateBelow}
 use Rattle.automaton.specs.Transition.{Transition, automatonOf, sourcesAt}
-use Rattle.automaton.specs.StateSet.{StateSet, contains, allContained}
+use Rattle.automaton.specs.StateSet.{StateSet, allContained}
 use Rattle.automaton.specs.Reached.{Reached, byEpsilon}
 use Rattle.automaton.proofs.ClosureLaws.{targets-below, reached-below}
 use Rattle.automaton.proofs.TableLaws.{isTable-automaton}
 use Rattle.index.specs.Index.{keyOf}
 use Rattle.index.specs.Index.{IndexedTable}
-use Rattle.step.specs.NodeSteppable.{NodeSteppable, RowsInside, childSets}
-use Rattle.closures.specs.Closure.{ReachedFrom, itself, onward, Closures, Joinable, JoinedClosure}
-use Rattle.step.specs.Node.{SourcesReadable, Growing, Satisfied, Steppable}
+use Rattle.step.specs.NodeSteppable.{RowsInside, childSets}
+use Rattle.closures.specs.Closure.{ReachedFrom, itself, onward, Joinable, JoinedClosure}
+use Rattle.step.specs.Node.{SourcesReadable, Growing, Satisfied}
 use Rattle.step.specs.Node.{SymbolFollowable, SymbolFollowed, TransitionFollowable, TransitionFollowed}
 use Rattle.index.proofs.ChainLaws.{FirstWith, SymbolWord, nextWith, next-some, next-none, keyed-symbol}
 use Rattle.closures.proofs.KeyedWordLaws.{symbol-below, symbol-reached, symbol-sources}
-use Rattle.closures.proofs.FollowLaws.{InChain, left, states-most, keyed, chain-first, in-chain, chain-next, left-less}
+use Rattle.closures.proofs.FollowLaws.{InChain, left, keyed, chain-first, in-chain, chain-next, left-less}
 
 -- what is reached from a reached state is reached
 reached-on : {ts : List Transition} {f : ℕ} {rs : List StateSet} {s q : ℕ} → ReachedFrom ts s q → Reached ts f rs s → Reached ts f rs q

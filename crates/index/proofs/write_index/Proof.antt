@@ -1,5 +1,5 @@
 -- `index::write_index` meets its contract: before each turn the words from i on are indexed.
-use mathlib.Core.Path.{ap, sym, _∙_, subst}
+use mathlib.Core.Path.{ap, sym, _∙_}
 use native.Mathlib.Omega.{arith}
 use lib.ListN.{length, length-replicate}
 use Prim.Native.Nat.{ℕ}
