@@ -6,13 +6,17 @@ use native.Mathlib.Omega.{arith}
 use native.Mathlib.Nat.{zero-add}
 use lib.ListN.{length, getD, drop, set}
 use lib.Seq.{paste}
+use Rattle.memo.specs.Memo.{setOver}
+use Rattle.memo.proofs.MarkingLaws.{length-setOver}
 use Rattle.words.specs.Lists.{listFrom}
 use Rattle.words.specs.Postfix.{arity, childrenOf}
+use Rattle.words.specs.Chapter.{symbolOf}
 use Rattle.words.proofs.AllLaws.{map-below}
 use Rattle.words.proofs.ChildLaws.{children-below}
-use Rattle.automaton.specs.StateSet.{StateSet}
+use Rattle.automaton.specs.StateSet.{StateSet, stateSet}
+use Rattle.automaton.specs.Transition.{automatonOf}
 use Rattle.operations.specs.Marks.{sizeOf, nodeSet, storedSet}
-use Rattle.operations.proofs.MarksLaws.{Sized, length-nodeSet, storedSet-flatten}
+use Rattle.operations.proofs.MarksLaws.{Sized, storedSet-flatten}
 use Rattle.nodes.proofs.LoopLaws.{setAt}
 use Rattle.nodes.proofs.LoopLaws as loops
 use Rattle.sets.proofs.RowLaws.{paste-row, sized-set, sized-stored, stored-split}
@@ -54,15 +58,15 @@ module _ (a table ch : List ℕ) where
 
   pub length-setFrom : (marks : List ℕ) (i : ℕ) → length (setFrom a table ch marks i) ≡ sizeOf table
   unfolding setFrom
-  length-setFrom marks i = length-nodeSet table (getD ch i 0) _
+  length-setFrom marks i = length-setOver table _ marks _
 
   -- node i's state set from the marks is the one from the list of state sets
   pub setFrom-rows : (marks : List ℕ) (rows : List StateSet) (rest : List ℕ) (i : ℕ) → MarksHolding (sizeOf table) marks rows rest
       → i ≤ length rows
       → i ≤ length ch → setFrom a table ch marks i ≡ loops.setFromSets a table ch i rows
-  unfolding setFrom loops.setFromSets
+  unfolding setFrom setOver nodeSet loops.setFromSets
   setFrom-rows marks rows rest i g l h =
-      ap (nodeSet table (getD ch i 0))
+      ap (stateSet (automatonOf table) (symbolOf (getD ch i 0)))
       (map-below (storedSet size marks) (setAt rows) i (childrenOf a ch i) (children-below (arity a) ch i h)
       (λ k m. holding-set size marks rows rest k g (omega arith)))
 

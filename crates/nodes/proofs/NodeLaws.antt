@@ -16,7 +16,7 @@ use Rattle.words.proofs.ListLaws.{map-drop, drop-reverse}
 use Rattle.words.proofs.AllLaws.{each-drop, each-getD, below-more}
 use Rattle.automaton.specs.Transition.{automatonOf}
 use Rattle.automaton.specs.StateSet.{StateSet, stateSet}
-use Rattle.operations.specs.Marks.{sizeOf, nodeSet, storedSet}
+use Rattle.operations.specs.Marks.{sizeOf, storedSet}
 use Rattle.step.specs.NodeSteppable.{RowsInside, NodeSteppable}
 use Rattle.closures.proofs.FollowLaws.{states-most}
 use Rattle.slices.proofs.RefitLaws.{take-drop}
@@ -24,10 +24,10 @@ use Rattle.sets.proofs.StoredLaws.{row-inside, stored-written}
 use Rattle.memo.specs.Memo.{setOver, NextMarkable, MarkedNext}
 use Rattle.memo.proofs.MarkingLaws.{length-setOver}
 use Rattle.memo.proofs.MemoLaws.{stored-kept}
-use Rattle.nodes.specs.Nodes.{setFrom, markedAt, BoundedTree}
-use Rattle.nodes.specs.Marking.{Represented, NodeMarkable, Maintained}
+use Rattle.nodes.specs.Nodes.{Pushable, setFrom, markedAt, BoundedTree}
+use Rattle.nodes.specs.Marking.{NodeMarkable, Maintained}
 use Rattle.nodes.proofs.WorkableLaws.{node-arity}
-use Rattle.nodes.proofs.RootStackLaws.{nodes-fit, stack-fits, stack-height, represented-more}
+use Rattle.nodes.proofs.RootStackLaws.{nodes-fit, stack-height, stack-pushable, represented-more}
 
 module _ {a table index ch : List ℕ} {i : ℕ} {marks array : List ℕ} {height : ℕ} {keys known places owners rows pending : List ℕ}
     (g : NodeMarkable a table index ch i marks array height keys known places owners rows pending) (r : ℕ)
@@ -41,9 +41,6 @@ module _ {a table index ch : List ℕ} {i : ℕ} {marks array : List ℕ} {heigh
   abbrev roots : List ℕ
   roots = rootsOf a ch i
 
-  stacked : Represented a table ch i marks array height
-  stacked = g .maintained .represented
-
   tree : BoundedTree a ch
   tree = g .workable .tree
 
@@ -56,17 +53,17 @@ module _ {a table index ch : List ℕ} {i : ℕ} {marks array : List ℕ} {heigh
   few : i < 4096
   few = let h = g .inside in omega (arith, g .workable .tree .few)
 
-  pub node-low : 4 ≤ height
+  node-low : 4 ≤ height
   node-low = omega (arith, g .maintained .represented .held .height-is)
-
-  pub node-fits : r ≤ height
-  node-fits = stack-fits (g .maintained .represented) (g .workable .tree) (g .inside) r e
 
   pub node-height : height < length array
   node-height = stack-height (g .maintained .represented) (g .workable .tree) (g .inside) r e
 
   pub node-few : height ≤ 4100
   node-few = let m = node-height in omega (arith, g .maintained .represented .long)
+
+  pub node-pushable : (node : ℕ) → node < i + 1 → Pushable array height r node
+  node-pushable = stack-pushable (g .maintained .represented) (g .workable .tree) (g .inside) r e
 
   -- the four words on top of the stack
   abbrev four : List ℕ
@@ -164,7 +161,7 @@ module _ {a table index ch : List ℕ} {i : ℕ} {marks array : List ℕ} {heigh
       }
 
   set-is : setOver table (symbolOf (getD ch i 0)) marks (drop (4 - r) four) ≡ setFrom a table ch marks i
-  unfolding setOver setFrom nodeSet
+  unfolding setOver setFrom
   set-is = ap (stateSet (automatonOf table) (symbolOf w)) part-same
 
   -- node i is marked, and its representative is on the stack
@@ -178,13 +175,13 @@ module _ {a table index ch : List ℕ} {i : ℕ} {marks array : List ℕ} {heigh
     unfolding markedAt
     node-words = n .new .words ∙ ap (λ (l : List ℕ). paste marks (i * size) l size) set-is
 
-    pub node-kept : Maintained a table ch (i + 1) marks′ (set array (height - r) node)
-        (height - r + 1) keys′ known′ places′ owners′ rows′ pending′
-    node-kept =
+    pub node-kept : {array′ : List ℕ} {height′ : ℕ} → height′ ≡ height - r + 1 → array′ ≡ set array (height - r) node
+        → Maintained a table ch (i + 1) marks′ array′ height′ keys′ known′ places′ owners′ rows′ pending′
+    node-kept p q =
         let long = length-setOver table (symbolOf w) marks (drop (4 - r) four) in
-        record {
+        rw (p, q) (record {
           represented = represented-more (g .maintained .represented) (g .workable .tree) (g .inside) r e node (n .new .low) marks′
               (stored-kept table marks i v long row marks′ (n .new .words))
               (ap (λ (m : List ℕ). storedSet size m i) (n .new .words) ∙ stored-written size marks i v long row ∙ sym (n .new .same));
           remembered = n .remembered;
-        }
+        })

@@ -77,7 +77,7 @@ module _ {a table ch : List ℕ} {i : ℕ} {marks array : List ℕ} {height : �
   pub nodes-fit : r ≤ length (g .nodes)
   nodes-fit = omega (arith, rank-fits a ch tree i inside r e, g .count)
 
-  pub stack-fits : r ≤ height
+  stack-fits : r ≤ height
   stack-fits = let f = nodes-fit in omega (arith, g .held .height-is)
 
   -- the stack has a place above its top
@@ -87,19 +87,13 @@ module _ {a table ch : List ℕ} {i : ℕ} {marks array : List ℕ} {height : �
       let f = roots-few (arity a) ch i (omega arith) in
       omega (arith, g .held .height-is, g .count, g .long)
 
-  pub stack-pushable : Pushable a ch i array height
-  stack-pushable =
+  -- node i is put in the place of its children, or an earlier node
+  pub stack-pushable : (node : ℕ) → node < i + 1 → Pushable array height r node
+  stack-pushable node low =
       let few = tree .few in
-      record {
-        inside = inside;
-        few = omega arith;
-        fits = rw (← e) stack-fits;
-        height-inside = stack-height;
-        small = omega
-            (arith, g .long);
-      }
+      record { few = omega arith; fits = stack-fits; height-inside = stack-height; small = omega (arith, g .long) }
 
-  -- node i is put in the place of its children, or an earlier node with the same words; earlier words have not changed
+  -- the node has the same words; earlier words have not changed
   module _ (node : ℕ) (low : node < i + 1) (marks′ : List ℕ)
       (kept : (j : ℕ) → j < i → storedSet (sizeOf table) marks′ j ≡ storedSet (sizeOf table) marks j)
       (own : storedSet (sizeOf table) marks′ i ≡ storedSet (sizeOf table) marks′ node) where
@@ -156,26 +150,25 @@ module _ {a ch : List ℕ} {count : ℕ} {array₀ : List ℕ} (pre : Stackable 
   itself : i ≤ length ch → Represented a ch ch i array array height
   itself h = represent-roots (g .long) h (g .held)
 
-  module _ (l : i < count) where
+  module _ (l : i < count) (r : ℕ) (e : r ≡ rankOf a (symbolOf (getD ch i 0))) where
     inside : i < length ch
     inside = omega (arith, pre .within)
 
-    pub stacking-pushable : Pushable a ch i array height
-    stacking-pushable = stack-pushable (itself (omega (arith, inside))) (pre .tree) inside (rankOf a (symbolOf (getD ch i 0))) refl
+    pub stacking-pushable : Pushable array height r i
+    stacking-pushable = stack-pushable (itself (omega (arith, inside))) (pre .tree) inside r e i (omega arith)
 
-    pub stacking-more : (array′ : List ℕ) (height′ : ℕ) → height′ ≡ height - rankOf a (symbolOf (getD ch i 0)) + 1
-        → array′ ≡ set array (height - rankOf a (symbolOf (getD ch i 0))) i → Stacking a ch array′ height′ count (i + 1)
+    pub stacking-more : (array′ : List ℕ) (height′ : ℕ) → height′ ≡ height - r + 1 → array′ ≡ set array (height - r) i
+        → Stacking a ch array′ height′ count (i + 1)
     stacking-more array′ height′ p q =
-        let r = rankOf a (symbolOf (getD ch i 0)) in
         let roots = rootsOf a ch i in
         let rep = itself (omega (arith, inside)) in
         let pushed =
         held-push array height (reverse roots) r i (g .held)
-        (omega (arith, rank-fits a ch (pre .tree) i inside r refl, length-reverse roots))
-        (stack-height rep (pre .tree) inside r refl) in
+        (omega (arith, rank-fits a ch (pre .tree) i inside r e, length-reverse roots))
+        (stack-height rep (pre .tree) inside r e) in
         let same : take (length (reverse roots) - r) (reverse roots) ++ i ∷ [] ≡ reverse (rootsOf a ch (i + 1))
         = ap (λ (l : List ℕ). l ++ i ∷ []) (ap (λ (k : ℕ). take (k - r) (reverse roots)) (length-reverse roots) ∙ take-reverse r roots)
-        ∙ sym (ap reverse (roots-next a ch (pre .tree) i inside r refl) ∙ reverse-cons i (drop r roots)) in
+        ∙ sym (ap reverse (roots-next a ch (pre .tree) i inside r e) ∙ reverse-cons i (drop r roots)) in
         rw (p, q) (record {
           high = omega arith;
           long = length-set array (height - r) i ∙ g .long;
