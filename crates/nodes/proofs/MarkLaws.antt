@@ -7,7 +7,7 @@ use native.Mathlib.Nat.{zero-add}
 use lib.ListN.{length, getD, drop, set}
 use lib.Seq.{paste}
 use Rattle.memo.specs.Memo.{setOver}
-use Rattle.memo.proofs.MarkingLaws.{length-setOver}
+use Rattle.memo.proofs.NodeWritingLaws.{length-setOver}
 use Rattle.words.specs.Lists.{listFrom}
 use Rattle.words.specs.Postfix.{arity, childrenOf}
 use Rattle.words.specs.Chapter.{symbolOf}

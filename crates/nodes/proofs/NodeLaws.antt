@@ -22,7 +22,7 @@ use Rattle.closures.proofs.FollowLaws.{states-most}
 use Rattle.slices.proofs.RefitLaws.{take-drop}
 use Rattle.sets.proofs.StoredLaws.{row-inside, stored-written}
 use Rattle.memo.specs.Memo.{setOver, NextMarkable, MarkedNext}
-use Rattle.memo.proofs.MarkingLaws.{length-setOver}
+use Rattle.memo.proofs.NodeWritingLaws.{length-setOver}
 use Rattle.memo.proofs.MemoLaws.{stored-kept}
 use Rattle.nodes.specs.Nodes.{Pushable, setFrom, markedAt, BoundedTree}
 use Rattle.nodes.specs.Marking.{NodeMarkable, Maintained}

@@ -1,4 +1,4 @@
-pub mod Constants
+pub mod ComputedTest
 pub mod MaskLaws
 pub mod JoinLaws
 pub mod CompareLaws

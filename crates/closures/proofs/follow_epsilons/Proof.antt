@@ -43,8 +43,8 @@ shared-slice-read-target c =
 cast-target : tie.Need-cast-target Inv-loop μ-loop
 cast-target c = search needs
 
-reach-requires : tie.Need-reach-requires Inv-loop μ-loop
-reach-requires c κs =
+put-state-requires : tie.Need-put-state-requires Inv-loop μ-loop
+put-state-requires c κs =
     let t = c .before .before .before in
     epsilons-puttable (t .before .loop .inv) (t .loop-test .taken)
 
@@ -78,7 +78,7 @@ loop-less c =
 loop-again : tie.Need-loop-again Inv-loop μ-loop
 loop-again c =
     let t = c .before .before .before .before .before .before .before .before .before in
-    epsilons-more (t .before .loop .inv) (t .loop-test .taken) (c .before .before .before .before .before .reach .ensures)
+    epsilons-more (t .before .loop .inv) (t .loop-test .taken) (c .before .before .before .before .before .put-state .ensures)
 
 same-length : tie.Need-same-length Inv-loop μ-loop
 same-length c =
@@ -104,7 +104,7 @@ follow-epsilons-spec =
     mul-target
     shared-slice-read-target
     cast-target
-    reach-requires
+    put-state-requires
     add-i-2
     mul-i-2
     shared-slice-read-i-2

@@ -3,7 +3,7 @@
 use mathlib.Core.Path.{sym, _∙_}
 use Prim.Native.Nat.{_-_}
 use native.Mathlib.Omega.{arith}
-use Rattle.nodes.proofs.NodesLaws.{Marking, marking-none, marking-at, marking-more, marking-end}
+use Rattle.nodes.proofs.NodesLaws.{NodesMarking, marking-none, marking-at, marking-more, marking-end}
 use borrow.Author.Needs.{needs}
 use Rattle.nodes.proofs.marking.mark_nodes.Statement.{statement}
 use Rattle.nodes.proofs.marking.mark_nodes.Tie as tie
@@ -11,7 +11,7 @@ use Rattle.nodes.proofs.marking.mark_nodes.Tie as tie
 abbrev Inv-loop : tie.InvT-loop
 Inv-loop alphabet table index nodes from to marks₀ stack₀ height keys₀ known₀ places₀ owners₀ rows₀ pending₀ top₀ i₀ marks stack keys known
     places owners rows pending top i =
-    Marking alphabet table nodes from to marks₀ marks stack top keys known places owners rows pending i
+    NodesMarking alphabet table nodes from to marks₀ marks stack top keys known places owners rows pending i
 
 abbrev μ-loop : tie.MeasureT-loop
 μ-loop alphabet table index nodes from to marks₀ stack₀ height keys₀ known₀ places₀ owners₀ rows₀ pending₀ top₀ i₀ marks stack keys known
@@ -82,9 +82,9 @@ same-length-3 c =
 
 same-length-4 : tie.Need-same-length-4 Inv-loop μ-loop
 same-length-4 c =
-    c .before .loop .inv .maintained .remembered .memo .nodes-are
+    c .before .loop .inv .maintained .remembered .memo .known-are
     ∙ sym (c .before .before .before .before .before .before .before .before .before .before .before .before .before .before .pre .maintained
-    .remembered .memo .nodes-are)
+    .remembered .memo .known-are)
 
 same-length-5 : tie.Need-same-length-5 Inv-loop μ-loop
 same-length-5 c =

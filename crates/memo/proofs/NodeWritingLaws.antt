@@ -1,4 +1,5 @@
--- A node that is worked out: what its parts ask, and that the marks and the representative are right.
+-- A node's words are written: where they are worked out, what the parts of this ask, and that the marks and the representative
+-- are right; and a set of one word that is copied.
 use mathlib.Core.Path.{_≡_, ap, ap₂, _∙_, sym}
 use mathlib.Core.List.{List, _++_}
 use Prim.Native.Nat.{ℕ, _+_, _-_, _*_, _≤_}
@@ -92,19 +93,19 @@ module _ {table index : List ℕ} {f : ℕ} {marks cs : List ℕ} {i : ℕ} {pla
 
 -- ---- a set of one word is copied
 
-module _ (marks : List ℕ) (known i size : ℕ) (g : Copyable marks (known * size) (i * size) size) (e : size ≡ 1) where
+module _ (marks : List ℕ) (node i size : ℕ) (g : Copyable marks (node * size) (i * size) size) (e : size ≡ 1) where
   times-one : (n : ℕ) → n * size ≡ n
   times-one n = ap (λ (k : ℕ). n * k) e ∙ mul-one n
 
-  pub one-copyable : Copyable marks known i 1
+  pub one-copyable : Copyable marks node i 1
   one-copyable = record {
     small = omega arith;
-    source = omega (arith, g .source, times-one known, e);
+    source = omega (arith, g .source, times-one node, e);
     target = omega (arith, g .target, times-one i, e);
   }
 
-  pub one-copied : (marks′ : List ℕ) → marks′ ≡ paste marks i (take 1 (drop known marks)) 1
-      → marks′ ≡ paste marks (i * size) (take size (drop (known * size) marks)) size
+  pub one-copied : (marks′ : List ℕ) → marks′ ≡ paste marks i (take 1 (drop node marks)) 1
+      → marks′ ≡ paste marks (i * size) (take size (drop (node * size) marks)) size
   one-copied marks′ q =
-      q ∙ ap (λ (n : ℕ). paste marks i (take n (drop known marks)) n) (sym e)
-      ∙ ap₂ (λ (j k : ℕ). paste marks j (take size (drop k marks)) size) (sym (times-one i)) (sym (times-one known))
+      q ∙ ap (λ (n : ℕ). paste marks i (take n (drop node marks)) n) (sym e)
+      ∙ ap₂ (λ (j k : ℕ). paste marks j (take size (drop k marks)) size) (sym (times-one i)) (sym (times-one node))
