@@ -12,6 +12,7 @@ use Rattle.words.specs.Alphabet.{constantsOf, isConstant}
 use Rattle.words.specs.Postfix.{arity}
 use Rattle.words.specs.ExpressionWords.{expressionFault}
 use Rattle.words.specs.Lists.{All, AllBelow}
+use Rattle.words.specs.Limits.{statesMost}
 use Rattle.words.proofs.AllLaws.{each-append, each-map, each-both, each-self, below-more}
 use Rattle.words.proofs.AlphabetLaws.{constantsOf-isConstant, isConstant-zero}
 use Rattle.words.proofs.Ascending.{Ascending, end, next, ascending-le, ascending-append, ascending-one}
@@ -122,7 +123,7 @@ module _ (a : List ℕ) where
       (each-both (λ e. isConstant a (e .0) ≡ true) (λ e. e .1 < n) (P .entries) (entries-constants (p .shape))
       (entries-below (P .entries) (p .states))))
 
-  pub compiled-over : (e : List ℕ) → expressionFault a e ≡ 0 → compiled a e .states ≤ 1024 → AutomatonOver a (compiled a e)
+  pub compiled-over : (e : List ℕ) → expressionFault a e ≡ 0 → compiled a e .states ≤ statesMost → AutomatonOver a (compiled a e)
   unfolding compiled
   compiled-over e f m =
       let N = statesAfter a 0 e in

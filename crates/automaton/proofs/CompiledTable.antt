@@ -14,6 +14,7 @@ use Rattle.words.specs.Alphabet.{constantsOf, alphabetFault}
 use Rattle.words.specs.Shape.{treesBy}
 use Rattle.words.specs.Postfix.{arity, trees}
 use Rattle.words.specs.ExpressionWords.{expressionFault}
+use Rattle.words.specs.Limits.{constantsMost, expressionMost, rankMost, statesMost}
 use Rattle.words.proofs.TestLaws.{picked}
 use Rattle.words.proofs.AcceptedAlphabet.{AcceptedAlphabet, alphabet-accepted, arity-most}
 use Rattle.automaton.specs.Transition.{tableWords}
@@ -53,7 +54,7 @@ module _ (a : List ℕ) (h : AcceptedAlphabet a) where
       r : ℕ
       r = arity a w
 
-      l : r ≤ 4
+      l : r ≤ rankMost
       l = arity-most h w
 
       go : (b c : Bool) → eqb r 0 ≡ b → leb 2 r ≡ c → r ≤ d → d - r + 1 + leafWords a ws ≤ t + 3 * branchingWords a ws
@@ -64,19 +65,19 @@ module _ (a : List ℕ) (h : AcceptedAlphabet a) where
       go false false e f g i = omega (arith, l, eqb-false r 0 e, leb-false 2 r f)
 
 -- T table words, B branching words, S states, n words, of which i have entries and l do not, and k constants
-few-words : (T B S n i l k : ℕ) → T + B ≤ S + (n + i) → S ≡ i * suc k + l → i + l ≡ n → n ≤ 64 → 1 ≤ l → l ≤ 1 + 3 * B → k ≤ 16
-    → S ≤ 1024 → T ≤ 1147
+few-words : (T B S n i l k : ℕ) → T + B ≤ S + (n + i) → S ≡ i * suc k + l → i + l ≡ n → n ≤ expressionMost → 1 ≤ l → l ≤ 1 + 3 * B
+    → k ≤ constantsMost → S ≤ statesMost → T ≤ 1147
 few-words T B S n i l k t s c n≤ l≥ l≤ k≤ S≤ = go (decLe k 15)
   where
     go : Dec (k ≤ 15) → T ≤ 1147
     go (yes h) = let p : i * suc k ≤ i * 16 = mul-le-mul-left i (omega arith) in omega arith
     go (no h) =
-        let e : k ≡ 16 = omega arith in
+        let e : k ≡ constantsMost = omega arith in
         let s′ : S ≡ i * 17 + l = rw e at s in
         omega arith
 
 -- "No compiled table takes more than 1,147 words."
-pub table-most : (a e : List ℕ) → alphabetFault a ≡ 0 → expressionFault a e ≡ 0 → compiled a e .states ≤ 1024
+pub table-most : (a e : List ℕ) → alphabetFault a ≡ 0 → expressionFault a e ≡ 0 → compiled a e .states ≤ statesMost
     → length (tableWords (compiled a e)) ≤ 1147
 table-most a e g f m =
     let h = alphabet-accepted a g in
@@ -87,7 +88,7 @@ table-most a e g f m =
     (table-length a e f) (states-counted a e) (inner-leaf a e) (accepted .few)
     (omega (arith, leaves-some a e 0 1 o)) (omega (arith, leaves-branching a h e 0 1 o)) (h .fewConstants) m
 
-pub compiled-isTable : (a e : List ℕ) → alphabetFault a ≡ 0 → expressionFault a e ≡ 0 → compiled a e .states ≤ 1024
+pub compiled-isTable : (a e : List ℕ) → alphabetFault a ≡ 0 → expressionFault a e ≡ 0 → compiled a e .states ≤ statesMost
     → isTable a (tableWords (compiled a e)) ≡ true
 compiled-isTable a e h f m =
     let l = table-most a e h f m in

@@ -10,8 +10,10 @@ use native.Mathlib.Numerals.{add-one}
 use lib.ListN.{length}
 use lib.Dec.{eqb, eqb·suc-zero}
 use Rattle.words.specs.Word.{Kind, symbolKind, emptyKind, unionKind, productKind, closureKind, kindNumber, hasKind, wordOf, lowByte}
+use Rattle.words.specs.Word.{symbolRange}
 use Rattle.words.specs.Alphabet.{rankOf, constantsOf}
 use Rattle.words.specs.Postfix.{arity, arityAt}
+use Rattle.words.specs.Limits.{alphabetMost}
 use Rattle.words.proofs.KindLaws.{numberOf-wordOf, kindOf-wordOf, lowByte-wordOf}
 use Rattle.words.proofs.AlphabetLaws.{isConstant-zero}
 use Rattle.language.specs.Expression.{Expression, Expressions, symbol, empty, union, product}
@@ -36,14 +38,14 @@ parts (closure c F) = moreᵉ F noneᵉ
 
 -- ---- words of a kind
 
-module _ (k : Kind) (b : ℕ) (h : b < 256) where
+module _ (k : Kind) (b : ℕ) (h : b < symbolRange) where
   hasKind-other : (j : Kind) → hasKind j (wordOf k b) ≡ eqb (kindNumber k) (kindNumber j)
   hasKind-other j = ap (λ x. eqb x (kindNumber j)) (numberOf-wordOf k b (omega arith))
 
   lowByte-word : lowByte (wordOf k b) ≡ b
   lowByte-word = lowByte-wordOf k b (omega arith) ∙ low b h
     where
-      low : (b : ℕ) → b < 256 → b % 256 ≡ b
+      low : (b : ℕ) → b < symbolRange → b % symbolRange ≡ b
       low b h = omega arith
 
   arity-word : (a : List ℕ) → arity a (wordOf k b) ≡ arityAt (rankOf a b) k
@@ -92,7 +94,7 @@ module _ (a : List ℕ) where
     pub own-are : ownTransitions (lastWord E) (port cs E n) (ports cs (parts E) n) ≡ own cs E n
 
   -- which transitions a word has is told by its kind
-  module _ (b : ℕ) (h : b < 256) (E P : Port) (Ps : List Port) where
+  module _ (b : ℕ) (h : b < symbolRange) (E P : Port) (Ps : List Port) where
     own-symbol : ownTransitions (wordOf symbolKind b) E (P ∷ Ps) ≡ symbolTransitions b E (P ∷ Ps)
     unfolding ownTransitions
     own-symbol = rw (hasKind-other symbolKind b h symbolKind, lowByte-word symbolKind b h)
@@ -118,10 +120,10 @@ module _ (a : List ℕ) where
           lowByte-word closureKind b h,
         )
 
-  pub last-word : length a ≤ 64 → (E : Expression) (n : ℕ) → ExpressionOver a E → LastWord E n
+  pub last-word : length a ≤ alphabetMost → (E : Expression) (n : ℕ) → ExpressionOver a E → LastWord E n
   unfolding ownTransitions
   last-word l (symbol c noneᵉ) n o =
-      let h : c < 256 = omega (arith, o .0) in
+      let h : c < symbolRange = omega (arith, o .0) in
       let e : arity a (wordOf symbolKind c) ≡ 0 = arity-word symbolKind c h a ∙ o .1 in
       record {
         arity-is = e;
@@ -130,7 +132,7 @@ module _ (a : List ℕ) where
         own-are = refl;
       }
   last-word l (symbol f (moreᵉ e es)) n o =
-      let h : f < 256 = omega (arith, o .0) in
+      let h : f < symbolRange = omega (arith, o .0) in
       let q : arity a (wordOf symbolKind f) ≡ suc (numberᵉ es) = arity-word symbolKind f h a ∙ o .1 in
       let x = exitState cs (symbol f (moreᵉ e es)) n in
       record {
@@ -157,7 +159,7 @@ module _ (a : List ℕ) where
         own-are = refl;
       }
   last-word l (product c F G) n o =
-      let h : c < 256 = omega (arith, isConstant-zero a c (o .0) .0) in
+      let h : c < symbolRange = omega (arith, isConstant-zero a c (o .0) .0) in
       let e : arity a (wordOf productKind c) ≡ 2 = arity-word productKind c h a in
       let x = exitState cs (product c F G) n in
       record {
@@ -167,7 +169,7 @@ module _ (a : List ℕ) where
         own-are = own-product c h (withEntries x) (port cs F n) (port cs G (next cs F n) ∷ []);
       }
   last-word l (closure c F) n o =
-      let h : c < 256 = omega (arith, isConstant-zero a c (o .0) .0) in
+      let h : c < symbolRange = omega (arith, isConstant-zero a c (o .0) .0) in
       let e : arity a (wordOf closureKind c) ≡ 1 = arity-word closureKind c h a in
       let x = exitState cs (closure c F) n in
       record {

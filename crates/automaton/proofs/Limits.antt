@@ -9,6 +9,7 @@ use Rattle.words.specs.Alphabet.{isEntry, rankOf, isConstant, constantsFrom, co
 use Rattle.words.specs.Shape.{treesBy}
 use Rattle.words.specs.Postfix.{arity, notOneTree}
 use Rattle.words.specs.ExpressionWords.{isExpressionWord, wrongLength, notExpressionWords, expressionFault}
+use Rattle.words.specs.Limits.{statesMost}
 use Rattle.automaton.specs.Transition.{tableWords}
 use Rattle.automaton.specs.Numbering.{hasEntries, statesOf, portOf, ownTransitions, portsFrom, statesAfter, transitionsFrom, compiled}
 
@@ -27,7 +28,7 @@ overLimit = 0x2000_0000 ∷ replicate 61 0x6000_0000
 pub record Limits : Type 0 where
   pub alphabet-accepted : alphabetFault alphabet ≡ 0
   pub largest-accepted : expressionFault alphabet largest ≡ 0
-  pub largest-states : compiled alphabet largest .states ≡ 1024
+  pub largest-states : compiled alphabet largest .states ≡ statesMost
   pub largest-words : length (tableWords (compiled alphabet largest)) ≡ 1147
   pub over-accepted : expressionFault alphabet overLimit ≡ 0
   pub over-states : compiled alphabet overLimit .states ≡ 1038

@@ -15,8 +15,9 @@ use Rattle.automaton.proofs.BitLaws.{contains-replicate, words-replicate}
 use Rattle.operations.specs.Marks.{storedSet}
 use Rattle.sets.proofs.StoredLaws.{stored-written, stored-other}
 use Rattle.sets.specs.Joined.{joined}
+use Rattle.sets.specs.Size.{setMost}
 use Rattle.sets.proofs.JoinLaws.{joined-length, words-joined, joined-cases, joined-left, joined-right}
-use Rattle.closures.specs.Closure.{PendingStack, Settled, Puttable, Put, Followed, Closable, ClosureOf}
+use Rattle.closures.specs.Closure.{PendingStack, Settled, Puttable, Put, Followed, Closable, ClosureOf, rowsMost}
 use Rattle.closures.specs.Closure.{ClosedSet, Addable, Added, Keepable, Kept, Joinable, JoinedClosure}
 use Rattle.closures.proofs.TransitionStartLaws.{member-starts, table-transitions}
 use Rattle.closures.proofs.KeyedWordLaws.{closed-at}
@@ -72,84 +73,88 @@ module _ {table index : List ℕ} {s : ℕ} {pending : List ℕ} {r : StateSet} 
 -- ---- a set of its own
 
 pub close-empty : {table index : List ℕ} {s : ℕ} {pending : List ℕ} → Closable table index s pending
-    → Addable table index s pending (replicate 32 0)
+    → Addable table index s pending (replicate setMost 0)
 close-empty {table} g =
     record {
       closable = g;
       set = record {
-        size = length-replicate {A = ℕ} 32 0;
-        words = words-replicate 32;
-        below = λ q e. absurd (true≢false (sym e ∙ contains-replicate 32 q));
+        size = length-replicate {A = ℕ} setMost 0;
+        words = words-replicate setMost;
+        below = λ q e. absurd (true≢false (sym e ∙ contains-replicate setMost q));
         closed =
-            test-closed (automatonOf table .transitions) (replicate 32 0)
-            (λ p q m e. absurd (true≢false (sym e ∙ contains-replicate 32 p)));
+            test-closed (automatonOf table .transitions) (replicate setMost 0)
+            (λ p q m e. absurd (true≢false (sym e ∙ contains-replicate setMost p)));
       };
     }
 
-pub close-end : {table : List ℕ} {s : ℕ} {t : StateSet} → Added table s (replicate 32 0) t → ClosureOf table s t
+pub close-end : {table : List ℕ} {s : ℕ} {t : StateSet} → Added table s (replicate setMost 0) t → ClosureOf table s t
 close-end a =
     record {
       size = a .size;
       words = a .words;
       holds = a .holds;
       closed = a .closed;
-      within = λ q e. ⊎-elim (λ d. absurd (true≢false (sym d ∙ contains-replicate 32 q))) (λ d. d) (a .within q e);
+      within = λ q e. ⊎-elim (λ d. absurd (true≢false (sym d ∙ contains-replicate setMost q))) (λ d. d) (a .within q e);
     }
 
 -- ---- the row
 
 module _ {table index : List ℕ} {s : ℕ} {owners rows pending : List ℕ} (g : Keepable table index s owners rows pending) where
-  row-small : s % 64 < 64
+  row-small : s % rowsMost < rowsMost
   row-small = omega arith
 
-  pub owner-inside : s % 64 < length owners
+  pub owner-inside : s % rowsMost < length owners
   owner-inside = omega (arith, g .closures .owners-are)
 
-  pub closure-fits : s % 64 * 32 + 32 ≤ length rows
+  pub closure-fits : s % rowsMost * setMost + setMost ≤ length rows
   closure-fits = omega (arith, g .closures .rows-are)
 
-  pub keep-known : getD owners (s % 64) 0 ≡ s + 1 → Kept table s true owners rows
-  keep-known e = record { closures = g .closures; closure = λ _. g .closures .filled (s % 64) s row-small e }
+  pub keep-known : getD owners (s % rowsMost) 0 ≡ s + 1 → Kept table s true owners rows
+  keep-known e = record { closures = g .closures; closure = λ _. g .closures .filled (s % rowsMost) s row-small e }
 
   -- the row is another state's
   pub keep-other : Kept table s false owners rows
   keep-other = record { closures = g .closures; closure = λ e. absurd (true≢false (sym e)) }
 
-  pub keep-new : {closure rows′ : List ℕ} → ClosureOf table s closure → rows′ ≡ paste rows (s % 64 * 32) closure (length closure)
-      → Kept table s true (set owners (s % 64) (s + 1)) rows′
+  pub keep-new : {closure rows′ : List ℕ} → ClosureOf table s closure → rows′ ≡ paste rows (s % rowsMost * setMost) closure (length closure)
+      → Kept table s true (set owners (s % rowsMost) (s + 1)) rows′
   keep-new {closure} {rows′} c e =
       record {
         closures = record {
-          owners-are = length-set owners (s % 64) (s + 1) ∙ g .closures .owners-are;
+          owners-are = length-set owners (s % rowsMost) (s + 1) ∙ g .closures .owners-are;
           rows-are =
-              ap length written ∙ length-paste rows (s % 64 * 32) closure 32 (omega (arith, closure-fits)) (omega (arith, c .size))
+              ap length written
+              ∙ length-paste rows (s % rowsMost * setMost) closure setMost (omega (arith, closure-fits)) (omega (arith, c .size))
               ∙ g .closures .rows-are;
-          filled = λ k t h o. filled k t h o (ℕ-discrete k (s % 64));
+          filled = λ k t h o. filled k t h o (ℕ-discrete k (s % rowsMost));
         };
         closure = λ _. here;
       }
     where
-      written : rows′ ≡ paste rows (s % 64 * 32) closure 32
-      written = e ∙ ap (paste rows (s % 64 * 32) closure) (c .size)
+      written : rows′ ≡ paste rows (s % rowsMost * setMost) closure setMost
+      written = e ∙ ap (paste rows (s % rowsMost * setMost) closure) (c .size)
 
-      here : ClosureOf table s (storedSet 32 rows′ (s % 64))
+      here : ClosureOf table s (storedSet setMost rows′ (s % rowsMost))
       here =
           subst (ClosureOf table s)
-          (sym (ap (λ (l : List ℕ). storedSet 32 l (s % 64)) written ∙ stored-written 32 rows (s % 64) closure (c .size) closure-fits)) c
+          (sym (ap (λ (l : List ℕ). storedSet setMost l (s % rowsMost)) written
+          ∙ stored-written setMost rows (s % rowsMost) closure (c .size) closure-fits)) c
 
-      filled : (k t : ℕ) → k < 64 → getD (set owners (s % 64) (s + 1)) k 0 ≡ t + 1 → Dec (k ≡ s % 64)
-          → ClosureOf table t (storedSet 32 rows′ k)
+      filled : (k t : ℕ) → k < rowsMost → getD (set owners (s % rowsMost) (s + 1)) k 0 ≡ t + 1 → Dec (k ≡ s % rowsMost)
+          → ClosureOf table t (storedSet setMost rows′ k)
       filled k t h o (yes i) =
           let same : s ≡ t =
           omega (
             arith,
-            sym (getD-set-same owners (s % 64) (s + 1) 0 owner-inside)
-                ∙ ap (λ (x : ℕ). getD (set owners (s % 64) (s + 1)) x 0) (sym i) ∙ o,
+            sym (getD-set-same owners (s % rowsMost) (s + 1) 0 owner-inside)
+                ∙ ap (λ (x : ℕ). getD (set owners (s % rowsMost) (s + 1)) x 0) (sym i) ∙ o,
           ) in
           rw (i, ← same) here
       filled k t h o (no i) =
-          let other = ap (λ (l : List ℕ). storedSet 32 l k) written ∙ stored-other 32 rows (s % 64) closure (c .size) closure-fits k i in
-          subst (ClosureOf table t) (sym other) (g .closures .filled k t h (sym (getD-set-other owners (s % 64) k (s + 1) 0 i) ∙ o))
+          let other =
+          ap (λ (l : List ℕ). storedSet setMost l k) written
+          ∙ stored-other setMost rows (s % rowsMost) closure (c .size) closure-fits k i in
+          subst (ClosureOf table t) (sym other) (g .closures .filled k t h (sym (getD-set-other owners (s % rowsMost) k (s + 1) 0 i) ∙ o))
 
 -- ---- the closure in the set
 
@@ -178,9 +183,11 @@ add-again g e =
 -- the row as a part of the rows
 pub join-end : {table : List ℕ} {s : ℕ} {b : Bool} {owners rows : List ℕ} → b ≡ true → Kept table s b owners rows → {r t : StateSet}
     → ClosedSet table r
-    → t ≡ joined r (take (s % 64 * 32 + 32 - s % 64 * 32) (drop (s % 64 * 32) rows)) → JoinedClosure table s r t owners rows
+    → t ≡ joined r (take (s % rowsMost * setMost + setMost - s % rowsMost * setMost) (drop (s % rowsMost * setMost) rows))
+    → JoinedClosure table s r t owners rows
 unfolding storedSet
 join-end {table} {s} {rows = rows} y k {r} {t} c e =
-    let n : s % 64 * 32 + 32 - s % 64 * 32 ≡ 32 = omega arith in
-    let q : t ≡ joined r (storedSet 32 rows (s % 64)) = e ∙ ap (λ (x : ℕ). joined r (take x (drop (s % 64 * 32) rows))) n in
+    let n : s % rowsMost * setMost + setMost - s % rowsMost * setMost ≡ setMost = omega arith in
+    let q : t ≡ joined r (storedSet setMost rows (s % rowsMost)) =
+    e ∙ ap (λ (x : ℕ). joined r (take x (drop (s % rowsMost * setMost) rows))) n in
     record { closures = k .closures; added = subst (Added table s r) (sym q) (added-joined c (k .closure y)) }

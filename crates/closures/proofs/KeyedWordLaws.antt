@@ -18,7 +18,7 @@ use Rattle.automaton.specs.Reached.{Reached, bySymbol}
 use Rattle.automaton.specs.Table.{AutomatonOver, TransitionOver}
 use Rattle.automaton.proofs.ClosureLaws.{targets-below}
 use Rattle.automaton.proofs.TableLaws.{isTable-automaton}
-use Rattle.index.specs.Index.{keyOf}
+use Rattle.index.specs.Index.{keyOf, stateKey}
 use Rattle.index.specs.Index.{IndexedTable}
 use Rattle.closures.specs.Closure.{ReachedFrom, onward, Closed, ClosedAt, startsAt}
 use Rattle.index.proofs.ChainLaws.{SymbolWord, EpsilonWord, key-symbol, key-epsilon}
@@ -54,7 +54,7 @@ module _ (table : List ℕ) (i : ℕ) where
   starts-symbol m = ⊎-elim (λ e. key-symbol (getD table i 0) e (let h = starts-on e m in cc))
       (λ e. let h = starts-from e m in let z : _≡_ {A = ℕ} 0 1 = cc in absurd (omega arith)) (starts-kind m)
 
-  pub starts-epsilon : {p q : ℕ} → List·Memᴰ (epsilon p q) (startsAt table i) → keyOf (getD table i 0) ≡ 256 + p
+  pub starts-epsilon : {p q : ℕ} → List·Memᴰ (epsilon p q) (startsAt table i) → keyOf (getD table i 0) ≡ stateKey p
   starts-epsilon m = ⊎-elim (λ e. let h = starts-on e m in let z : _≡_ {A = ℕ} 0 1 = cc in absurd (omega arith))
       (λ e. key-epsilon (getD table i 0) e (let h = starts-from e m in cc)) (starts-kind m)
 
@@ -95,7 +95,8 @@ module _ {table index : List ℕ} (c : IndexedTable table index) (i : ℕ) (insi
     -- as many part states as the symbol's rank
     pub symbol-sources : rankOf (c .alphabet) f ≡ length (sourcesAt (drop (i + 1) table))
     symbol-sources =
-        each-at (TransitionOver (c .alphabet) (automatonOf table .states)) (automatonOf table .transitions) (over .transitions) symbol-member .1
+        each-at (TransitionOver (c .alphabet) (automatonOf table .states)) (automatonOf table .transitions) (over .transitions)
+        symbol-member .1
 
   module _ {p : ℕ} (s : EpsilonWord (getD table i 0) p) where
     epsilon-member : List·Memᴰ (epsilon p (stateBelow (getD table i 0))) (automatonOf table .transitions)

@@ -15,6 +15,7 @@ use Rattle.language.specs.Expression.{TreeOver, TreesOver, SubjectOf}
 use Rattle.words.proofs.TreeFold.{fold, foldAll}
 use Rattle.words.proofs.TestLaws.{all-left, all-right}
 use Rattle.words.specs.ExactlyOne.{ExactlyOne}
+use Rattle.words.specs.Limits.{alphabetMost}
 use Rattle.words.proofs.WordLaws.{symbolOf-wordOf}
 use Rattle.words.proofs.RelabelLaws.{relabelAll}
 use Rattle.words.proofs.SubtreeLaws.{subtree-tree, value-subtree}
@@ -28,7 +29,7 @@ subtree-nodes a ch i h =
     all-right (isNode a) (take (startOf a ch i) (take (i + 1) ch)) (subtreeOf a ch i)
     (rw (take-append-drop (startOf a ch i) (take (i + 1) ch)) l)
 
-module _ (a : List ℕ) (m : length a ≤ 64) where
+module _ (a : List ℕ) (m : length a ≤ alphabetMost) where
   pub exactly-one-subtree : (ch : List ℕ) (i : ℕ) → all (isNode a) ch ≡ true → oneTree a ch ≡ true → i < length ch
       → ExactlyOne (SubjectOf a (subtreeOf a ch i))
   exactly-one-subtree ch i h o hi = exactly-one-subject a m (subtreeOf a ch i) (subtree-nodes a ch i h) (subtree-tree (arity a) ch i hi o)

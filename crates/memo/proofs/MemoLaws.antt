@@ -7,35 +7,38 @@ use native.Mathlib.Decide.{ℕ-discrete}
 use lib.ListN.{length, getD, take, drop, set, replicate, length-set, length-drop, length-replicate, getD-replicate}
 use lib.Seq.{paste, take-all, getD-set-same, getD-set-other}
 use Rattle.words.specs.Lists.{AllBelow}
+use Rattle.words.specs.Limits.{nodesMost, rankMost, statesMost}
 use Rattle.words.proofs.AllLaws.{map-below, below-more}
 use Rattle.automaton.specs.Transition.{automatonOf}
 use Rattle.automaton.specs.StateSet.{StateSet, stateSet}
 use Rattle.operations.specs.Marks.{sizeOf, storedSet}
-use Rattle.closures.specs.Closure.{Closures}
+use Rattle.closures.specs.Closure.{Closures, rowsMost}
 use Rattle.sets.specs.Copyable.{Copyable}
+use Rattle.sets.specs.Size.{setMost}
 use Rattle.sets.proofs.StoredLaws.{row-inside, stored-before}
 use Rattle.memo.specs.Key.{stepKey}
-use Rattle.memo.specs.Memo.{setOver, Slot, empty, occupied, Remembered, NewMarkable, NextMarkable, MarkedNew, MarkedNext}
+use Rattle.memo.specs.Memo.{setOver, Slot, empty, occupied, Remembered, NewMarkable, NextMarkable, MarkedNew, MarkedNext, placesMost}
+use Rattle.memo.specs.Memo.{slotsMost}
 use Rattle.memo.proofs.KeyLaws.{packed-same, stepKey-symbol, key-nodes, key-some}
 use Rattle.memo.proofs.NodeWritingLaws.{length-setOver, size-few}
 
 -- an array of zeros of every kind: nothing is remembered
 pub nothing-remembered : (table marks : List ℕ) (i : ℕ)
-    → Remembered table marks i (replicate 1024 0) (replicate 1024 0) (replicate 1021 0) (replicate 64 0) (replicate 2048 0)
-    (replicate 1024 0)
+    → Remembered table marks i (replicate slotsMost 0) (replicate slotsMost 0) (replicate placesMost 0) (replicate rowsMost 0)
+    (replicate (rowsMost * setMost) 0) (replicate statesMost 0)
 nothing-remembered table marks i = record {
   memo = record {
-    keys-are = length-replicate {A = ℕ} 1024 0;
-    known-are = length-replicate {A = ℕ} 1024 0;
-    slots = λ s l. empty (getD-replicate {A = ℕ} 1024 s 0 0 l);
+    keys-are = length-replicate {A = ℕ} slotsMost 0;
+    known-are = length-replicate {A = ℕ} slotsMost 0;
+    slots = λ s l. empty (getD-replicate {A = ℕ} slotsMost s 0 0 l);
   };
-  places-are = length-replicate {A = ℕ} 1021 0;
+  places-are = length-replicate {A = ℕ} placesMost 0;
   closures = record {
-    owners-are = length-replicate {A = ℕ} 64 0;
-    rows-are = length-replicate {A = ℕ} 2048 0;
-    filled = λ k s l e. absurd (omega (arith, sym e ∙ getD-replicate {A = ℕ} 64 k 0 0 l));
+    owners-are = length-replicate {A = ℕ} rowsMost 0;
+    rows-are = length-replicate {A = ℕ} (rowsMost * setMost) 0;
+    filled = λ k s l e. absurd (omega (arith, sym e ∙ getD-replicate {A = ℕ} rowsMost k 0 0 l));
   };
-  pending-are = length-replicate {A = ℕ} 1024 0;
+  pending-are = length-replicate {A = ℕ} statesMost 0;
 }
 
 -- node i is passed and its words stay
@@ -81,7 +84,7 @@ module _ (table marks : List ℕ) (i : ℕ) (v : StateSet) (e : length v ≡ siz
 module _ {table index : List ℕ} {f : ℕ} {marks four : List ℕ} {rank i : ℕ} {keys known places owners rows pending : List ℕ}
     (g : NextMarkable table index f marks four rank i keys known places owners rows pending) where
   abbrev cs : List ℕ
-  cs = drop (4 - rank) four
+  cs = drop (rankMost - rank) four
 
   abbrev v : StateSet
   v = setOver table f marks cs
@@ -90,23 +93,25 @@ module _ {table index : List ℕ} {f : ℕ} {marks four : List ℕ} {rank i : �
   size = sizeOf table
 
   abbrev part : List ℕ
-  part = take (4 - (4 - rank)) cs
+  part = take (rankMost - (rankMost - rank)) cs
 
   part-is : part ≡ cs
-  part-is = take-all (4 - (4 - rank)) cs (rw (length-drop (4 - rank) four) (omega (arith, g .keyable .nodes .length-is)))
+  part-is =
+      take-all (rankMost - (rankMost - rank)) cs (rw (length-drop (rankMost - rank) four) (omega (arith, g .keyable .nodes .length-is)))
 
   -- what working it out asks
-  pub next-new : NewMarkable table index f marks (take (4 - (4 - rank)) (drop (4 - rank) four)) i places owners rows pending
+  pub next-new : NewMarkable table index f marks (take (rankMost - (rankMost - rank)) (drop (rankMost - rank) four)) i places owners rows
+      pending
   next-new = rw part-is (g .new)
 
-  module _ (key : ℕ) (k : key ≡ stepKey f (drop (4 - rank) four)) (s : ℕ) (l : s < 1024) where
+  module _ (key : ℕ) (k : key ≡ stepKey f (drop (rankMost - rank) four)) (s : ℕ) (l : s < slotsMost) where
     -- a slot with the key holds a node that has the state set
     module _ (h : getD keys s 0 ≡ key) where
       abbrev node : ℕ
       node = getD known s 0
 
       pub slot-found : (getD known s 0 < i)
-          × (storedSet (sizeOf table) marks (getD known s 0) ≡ setOver table f marks (drop (4 - rank) four))
+          × (storedSet (sizeOf table) marks (getD known s 0) ≡ setOver table f marks (drop (rankMost - rank) four))
       slot-found = go (g .remembered .memo .slots s l)
         where
           go : Slot table marks i (getD keys s 0) (getD known s 0)
@@ -125,7 +130,7 @@ module _ {table index : List ℕ} {f : ℕ} {marks four : List ℕ} {rank i : �
       unfolding storedSet
       stored = slot-found .1
 
-      pub found-few : getD known s 0 < 4096
+      pub found-few : getD known s 0 < nodesMost
       found-few = let few = g .new .few in omega (arith, slot-found .0)
 
       module _ (n : ℕ) (sn : n ≡ sizeOf table) where
@@ -139,7 +144,7 @@ module _ {table index : List ℕ} {f : ℕ} {marks four : List ℕ} {rank i : �
             })
 
         pub found-next : (marks′ : List ℕ) → marks′ ≡ paste marks (i * n) (take n (drop (getD known s 0 * n) marks)) n
-            → MarkedNext table f marks (drop (4 - rank) four) i marks′ (getD known s 0) keys known places owners rows pending
+            → MarkedNext table f marks (drop (rankMost - rank) four) i marks′ (getD known s 0) keys known places owners rows pending
         found-next marks′ q =
             let w : marks′ ≡ paste marks (i * size) v size =
             q ∙ ap (λ (x : ℕ). paste marks (i * x) (take x (drop (node * x) marks)) x) sn
@@ -167,10 +172,11 @@ module _ {table index : List ℕ} {f : ℕ} {marks four : List ℕ} {rank i : �
             }
 
     -- node i was worked out, and the step is remembered in this slot
-    pub stored-next : (r : ℕ) (marks′ : List ℕ) → MarkedNew table f marks (take (4 - (4 - rank)) (drop (4 - rank) four)) i marks′ r
+    pub stored-next : (r : ℕ) (marks′ : List ℕ)
+        → MarkedNew table f marks (take (rankMost - (rankMost - rank)) (drop (rankMost - rank) four)) i marks′ r
         → {places′ owners′ rows′ pending′ : List ℕ} → length places′ ≡ length places → Closures table owners′ rows′
         → length pending′ ≡ length pending
-        → MarkedNext table f marks (drop (4 - rank) four) i marks′ r (set keys s key) (set known s r) places′ owners′ rows′ pending′
+        → MarkedNext table f marks (drop (rankMost - rank) four) i marks′ r (set keys s key) (set known s r) places′ owners′ rows′ pending′
     stored-next r marks′ n₀ p c q = record {
       new = n;
       remembered = record {
@@ -191,7 +197,7 @@ module _ {table index : List ℕ} {f : ℕ} {marks four : List ℕ} {rank i : �
         len : length (setOver table f marks cs) ≡ sizeOf table
         len = length-setOver table f marks cs
 
-        go : (t : ℕ) → t < 1024 → Dec (t ≡ s) → Slot table marks′ (i + 1) (getD (set keys s key) t 0) (getD (set known s r) t 0)
+        go : (t : ℕ) → t < slotsMost → Dec (t ≡ s) → Slot table marks′ (i + 1) (getD (set keys s key) t 0) (getD (set known s r) t 0)
         go t h (yes e) =
             let ke = g .remembered .memo .keys-are in
             let ne = g .remembered .memo .known-are in

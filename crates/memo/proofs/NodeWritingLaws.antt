@@ -10,11 +10,12 @@ use lib.Seq.{paste, take-at}
 use Rattle.automaton.specs.Transition.{automatonOf}
 use Rattle.automaton.specs.StateSet.{StateSet, stateSet}
 use Rattle.automaton.proofs.SetLength.{length-stateSet}
-use Rattle.automaton.proofs.TableLaws.{isTable-sizes}
 use Rattle.operations.specs.Marks.{sizeOf, storedSet}
 use Rattle.step.specs.NodeSteppable.{childSets}
 use Rattle.sets.specs.Copyable.{Copyable}
-use Rattle.sets.proofs.StoredLaws.{words-few, stored-written, stored-before}
+use Rattle.sets.specs.Size.{marksMost, setMost}
+use Rattle.sets.proofs.StoredLaws.{stored-written, stored-before}
+use Rattle.sets.proofs.SizeLaws.{words-few, set-small}
 use Rattle.memo.specs.Memo.{setOver, Placeable, Represents, itself, earlier, NewMarkable, MarkedNew}
 
 pub length-setOver : (table : List ℕ) (f : ℕ) (marks cs : List ℕ) → length (setOver table f marks cs) ≡ sizeOf table
@@ -23,18 +24,17 @@ length-setOver table f marks cs = length-stateSet _ f _
 
 pub size-few : {table index : List ℕ} {f : ℕ} {marks cs : List ℕ} {i : ℕ} {places owners rows pending : List ℕ}
     → NewMarkable table index f marks cs i places owners rows pending
-    → sizeOf table ≤ 32
-unfolding sizeOf
-size-few {table} g = let r = g .steppable .node .indexed in isTable-sizes (r .alphabet) table (r .checked) .size-most
+    → sizeOf table ≤ setMost
+size-few {table} g = let r = g .steppable .node .indexed in set-small (r .alphabet) table (r .checked)
 
 module _ {table index : List ℕ} {f : ℕ} {marks cs : List ℕ} {i : ℕ} {places owners rows pending : List ℕ}
     (g : NewMarkable table index f marks cs i places owners rows pending)
-    (set : StateSet) (e : set ≡ stateSet (automatonOf table) f (childSets (sizeOf table) marks cs) ++ replicate (32 - sizeOf table) 0)
+    (set : StateSet) (e : set ≡ stateSet (automatonOf table) f (childSets (sizeOf table) marks cs) ++ replicate (setMost - sizeOf table) 0)
     (size : ℕ) (s : size ≡ sizeOf table) where
   abbrev v : StateSet
   v = setOver table f marks cs
 
-  set-is : set ≡ setOver table f marks cs ++ replicate (32 - sizeOf table) 0
+  set-is : set ≡ setOver table f marks cs ++ replicate (setMost - sizeOf table) 0
   unfolding setOver
   set-is = e
 
@@ -47,9 +47,9 @@ module _ {table index : List ℕ} {f : ℕ} {marks cs : List ℕ} {i : ℕ} {pla
   pub set-long : size ≤ length set
   set-long =
       let n = length-setOver table f marks cs in
-      rw (set-is, length-append v (replicate (32 - sizeOf table) 0)) (omega arith)
+      rw (set-is, length-append v (replicate (setMost - sizeOf table) 0)) (omega arith)
 
-  pub set-few : i * size ≤ 131072
+  pub set-few : i * size ≤ marksMost
   set-few = let few = g .few in words-few i size (omega arith) (omega (arith, size-few g))
 
   pub set-fits : i * size + length (take size set) ≤ length marks

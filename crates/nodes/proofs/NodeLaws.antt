@@ -11,9 +11,9 @@ use Rattle.words.specs.Chapter.{symbolOf}
 use Rattle.words.specs.Shape.{childrenOfBy}
 use Rattle.words.specs.Postfix.{arity, childrenOf, rootsOf}
 use Rattle.words.specs.Lists.{AllBelow}
-use Rattle.words.specs.Limits.{nodesMost}
+use Rattle.words.specs.Limits.{nodesMost, rankMost}
 use Rattle.words.proofs.ListLaws.{map-drop, drop-reverse}
-use Rattle.words.proofs.AllLaws.{each-drop, each-getD, below-more}
+use Rattle.words.proofs.AllLaws.{each-drop, each-getD, below-more, each-append}
 use Rattle.automaton.specs.Transition.{automatonOf}
 use Rattle.automaton.specs.StateSet.{StateSet, stateSet}
 use Rattle.operations.specs.Marks.{sizeOf, storedSet}
@@ -24,7 +24,7 @@ use Rattle.sets.proofs.StoredLaws.{row-inside, stored-written}
 use Rattle.memo.specs.Memo.{setOver, NextMarkable, MarkedNext}
 use Rattle.memo.proofs.NodeWritingLaws.{length-setOver}
 use Rattle.memo.proofs.MemoLaws.{stored-kept}
-use Rattle.nodes.specs.Nodes.{Pushable, setFrom, markedAt, BoundedTree}
+use Rattle.nodes.specs.Nodes.{Pushable, setFrom, markedAt, BoundedTree, stackBase, stackLength}
 use Rattle.nodes.specs.Marking.{NodeMarkable, Maintained}
 use Rattle.nodes.proofs.WorkableLaws.{node-arity}
 use Rattle.nodes.proofs.RootStackLaws.{nodes-fit, stack-height, stack-pushable, represented-more}
@@ -50,16 +50,16 @@ module _ {a table index ch : List ℕ} {i : ℕ} {marks array : List ℕ} {heigh
   abbrev stored : ℕ → StateSet
   stored = storedSet (sizeOf table) marks
 
-  few : i < 4096
+  few : i < nodesMost
   few = let h = g .inside in omega (arith, g .workable .tree .few)
 
-  node-low : 4 ≤ height
+  node-low : stackBase ≤ height
   node-low = omega (arith, g .maintained .represented .held .height-is)
 
   pub node-height : height < length array
   node-height = stack-height (g .maintained .represented) (g .workable .tree) (g .inside) r e
 
-  pub node-few : height ≤ 4100
+  pub node-few : height ≤ stackLength
   node-few = let m = node-height in omega (arith, g .maintained .represented .long)
 
   pub node-pushable : (node : ℕ) → node < i + 1 → Pushable array height r node
@@ -67,50 +67,52 @@ module _ {a table index ch : List ℕ} {i : ℕ} {marks array : List ℕ} {heigh
 
   -- the four words on top of the stack
   abbrev four : List ℕ
-  four = take (height - (height - 4)) (drop (height - 4) array)
+  four = take (height - (height - stackBase)) (drop (height - stackBase) array)
 
-  four-is : four ≡ drop (height - 4) (take height array)
-  four-is = take-drop (height - 4) height array (omega arith)
+  four-is : four ≡ drop (height - stackBase) (take height array)
+  four-is = take-drop (height - stackBase) height array (omega arith)
 
-  four-length : length four ≡ 4
+  four-length : length four ≡ rankMost
   four-length =
       let l = node-low in
       let m = node-height in
-      ap length four-is ∙ length-drop (height - 4) (take height array)
-      ∙ ap (λ (n : ℕ). n - (height - 4)) (length-take-le height array (omega arith)) ∙ omega arith
+      ap length four-is ∙ length-drop (height - stackBase) (take height array)
+      ∙ ap (λ (n : ℕ). n - (height - stackBase)) (length-take-le height array (omega arith)) ∙ omega arith
 
-  four-below : AllBelow 4096 four
+  four-below : AllBelow nodesMost four
   four-below =
       let h = few in
       rw (four-is, g .maintained .represented .held .words)
-      (each-drop (λ x. x < nodesMost) (height - 4) (replicate 4 0 ++ nodes)
-      (omega arith, (omega arith, (omega arith, (omega arith, below-more i nodesMost (omega arith) nodes (g .maintained .represented .below))))))
+      (each-drop (λ x. x < nodesMost) (height - stackBase) (replicate stackBase 0 ++ nodes)
+      (each-append (λ x. x < nodesMost) (replicate stackBase 0) nodes (omega arith, (omega arith, (omega arith, (omega arith, tt))))
+      (below-more i nodesMost (omega arith) nodes (g .maintained .represented .below))))
 
   fits : r ≤ length (g .maintained .represented .nodes)
   fits = nodes-fit (g .maintained .represented) (g .workable .tree) (g .inside) r e
 
   -- the last r of them represent the node's children
-  part-place : height - 4 + (4 - r) ≡ 4 + (length (g .maintained .represented .nodes) - r)
+  part-place : height - stackBase + (rankMost - r) ≡ stackBase + (length (g .maintained .represented .nodes) - r)
   part-place =
       let f = fits in
       let most = g .workable .ranks (symbolOf w) in
       omega (arith, g .maintained .represented .held .height-is, e)
 
-  part-is : drop (4 - r) four ≡ drop (length (g .maintained .represented .nodes) - r) (g .maintained .represented .nodes)
+  part-is : drop (rankMost - r) four ≡ drop (length (g .maintained .represented .nodes) - r) (g .maintained .represented .nodes)
   part-is =
-      ap (drop (4 - r)) (four-is ∙ ap (drop (height - 4)) (g .maintained .represented .held .words))
-      ∙ drop-drop (4 - r) (height - 4) (replicate 4 0 ++ nodes)
-      ∙ ap (λ (k : ℕ). drop k (replicate 4 0 ++ nodes)) part-place ∙ drop-append-add (replicate 4 0) nodes (length nodes - r)
+      ap (drop (rankMost - r)) (four-is ∙ ap (drop (height - stackBase)) (g .maintained .represented .held .words))
+      ∙ drop-drop (rankMost - r) (height - stackBase) (replicate stackBase 0 ++ nodes)
+      ∙ ap (λ (k : ℕ). drop k (replicate stackBase 0 ++ nodes)) part-place
+      ∙ drop-append-add (replicate stackBase 0) nodes (length nodes - r)
 
-  part-below : AllBelow i (drop (4 - r) four)
+  part-below : AllBelow i (drop (rankMost - r) four)
   part-below = rw part-is (each-drop (λ x. x < i) (length nodes - r) nodes (g .maintained .represented .below))
 
-  part-length : length (drop (4 - r) four) ≡ r
+  part-length : length (drop (rankMost - r) four) ≡ r
   part-length =
       let f = fits in
       ap length part-is ∙ length-drop (length nodes - r) nodes ∙ omega arith
 
-  part-same : map (storedSet (sizeOf table) marks) (drop (4 - r) four) ≡ map (storedSet (sizeOf table) marks) (childrenOf a ch i)
+  part-same : map (storedSet (sizeOf table) marks) (drop (rankMost - r) four) ≡ map (storedSet (sizeOf table) marks) (childrenOf a ch i)
   unfolding childrenOfBy
   part-same =
       ap (map stored) part-is ∙ map-drop stored (length nodes - r) nodes ∙ ap (drop (length nodes - r)) (g .maintained .represented .same)
@@ -120,16 +122,16 @@ module _ {a table index ch : List ℕ} {i : ℕ} {marks array : List ℕ} {heigh
       (e ∙ sym (node-arity (g .workable .tree) i (g .inside)))
       ∙ drop-reverse (arity a w) roots)
 
-  rows-inside : RowsInside (sizeOf table) marks (drop (4 - r) four)
+  rows-inside : RowsInside (sizeOf table) marks (drop (rankMost - r) four)
   rows-inside k l =
       let h = g .inside in
-      row-inside (getD (drop (4 - r) four) k 0) (length ch) (sizeOf table) (length marks)
-      (omega (arith, each-getD (λ x. x < i) 0 (drop (4 - r) four) k part-below l)) (g .workable .marks-fit)
+      row-inside (getD (drop (rankMost - r) four) k 0) (length ch) (sizeOf table) (length marks)
+      (omega (arith, each-getD (λ x. x < i) 0 (drop (rankMost - r) four) k part-below l)) (g .workable .marks-fit)
 
   row : i * sizeOf table + sizeOf table ≤ length marks
   row = row-inside i (length ch) (sizeOf table) (length marks) (g .inside) (g .workable .marks-fit)
 
-  steppable : NodeSteppable table index (symbolOf (getD ch i 0)) marks (drop (4 - r) four)
+  steppable : NodeSteppable table index (symbolOf (getD ch i 0)) marks (drop (rankMost - r) four)
   steppable =
       record {
         indexed = record { alphabet = a; short = g .workable .alphabet; checked = g .workable .checked; indexed = g .indexed };
@@ -160,16 +162,16 @@ module _ {a table index ch : List ℕ} {i : ℕ} {marks array : List ℕ} {heigh
         remembered = k;
       }
 
-  set-is : setOver table (symbolOf (getD ch i 0)) marks (drop (4 - r) four) ≡ setFrom a table ch marks i
+  set-is : setOver table (symbolOf (getD ch i 0)) marks (drop (rankMost - r) four) ≡ setFrom a table ch marks i
   unfolding setOver setFrom
   set-is = ap (stateSet (automatonOf table) (symbolOf w)) part-same
 
   -- node i is marked, and its representative is on the stack
   module _ {node : ℕ} {marks′ keys′ known′ places′ owners′ rows′ pending′ : List ℕ}
       (n : MarkedNext table (symbolOf (getD ch i 0)) marks
-      (drop (4 - r) four) i marks′ node keys′ known′ places′ owners′ rows′ pending′) where
+      (drop (rankMost - r) four) i marks′ node keys′ known′ places′ owners′ rows′ pending′) where
     abbrev v : StateSet
-    v = setOver table (symbolOf (getD ch i 0)) marks (drop (4 - r) four)
+    v = setOver table (symbolOf (getD ch i 0)) marks (drop (rankMost - r) four)
 
     pub node-words : marks′ ≡ markedAt a table ch i marks
     unfolding markedAt
@@ -178,7 +180,7 @@ module _ {a table index ch : List ℕ} {i : ℕ} {marks array : List ℕ} {heigh
     pub node-kept : {array′ : List ℕ} {height′ : ℕ} → height′ ≡ height - r + 1 → array′ ≡ set array (height - r) node
         → Maintained a table ch (i + 1) marks′ array′ height′ keys′ known′ places′ owners′ rows′ pending′
     node-kept p q =
-        let long = length-setOver table (symbolOf w) marks (drop (4 - r) four) in
+        let long = length-setOver table (symbolOf w) marks (drop (rankMost - r) four) in
         rw (p, q) (record {
           represented = represented-more (g .maintained .represented) (g .workable .tree) (g .inside) r e node (n .new .low) marks′
               (stored-kept table marks i v long row marks′ (n .new .words))

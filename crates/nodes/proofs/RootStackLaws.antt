@@ -15,7 +15,7 @@ use Rattle.words.proofs.ChildLaws.{roots-more, roots-below, arity-fits, roots-f
 use Rattle.words.proofs.AllLaws.{map-below, below-more, each-append, each-take, each-reverse}
 use Rattle.automaton.specs.StateSet.{StateSet}
 use Rattle.operations.specs.Marks.{sizeOf, storedSet}
-use Rattle.nodes.specs.Nodes.{Held, Pushable, BoundedTree, Stackable}
+use Rattle.nodes.specs.Nodes.{Held, Pushable, BoundedTree, Stackable, stackBase, stackLength}
 use Rattle.nodes.specs.Marking.{Represented}
 use Rattle.nodes.proofs.WorkableLaws.{node-arity}
 
@@ -25,14 +25,14 @@ pub held-push : (array : List ℕ) (height : ℕ) (nodes : List ℕ) (r x : ℕ)
     → Held (set array (height - r) x) (height - r + 1) (take (length nodes - r) nodes ++ x ∷ [])
 held-push array height nodes r x g fits inside =
     let left = take (length nodes - r) nodes in
-    let place : height - r ≡ 4 + (length nodes - r) = omega (arith, g .height-is) in
+    let place : height - r ≡ stackBase + (length nodes - r) = omega (arith, g .height-is) in
     record {
       words =
           ap (λ (k : ℕ). take k (set array (height - r) x)) (add-one (height - r)) ∙ take-suc-set array (height - r) x (omega arith)
           ∙ ap (λ (l : List ℕ). l ++ x ∷ [])
           (sym (take-take (height - r) height array (omega arith)) ∙ ap₂ (λ (k : ℕ) (l : List ℕ). take k l) place (g .words)
-          ∙ take-append-add (replicate 4 0) nodes (length nodes - r))
-          ∙ append-assoc (replicate 4 0) left (x ∷ []);
+          ∙ take-append-add (replicate stackBase 0) nodes (length nodes - r))
+          ∙ append-assoc (replicate stackBase 0) left (x ∷ []);
       height-is = omega (arith, place, length-append left (x ∷ []), length-take-le (length nodes - r) nodes (omega arith));
     }
 
@@ -53,7 +53,7 @@ module _ (a ch : List ℕ) (tree : BoundedTree a ch) (i : ℕ) (inside : i < len
 -- ---- representatives
 
 -- the roots themselves
-pub represent-roots : {a table ch marks array : List ℕ} {i height : ℕ} → length array ≡ 4100 → i ≤ length ch
+pub represent-roots : {a table ch marks array : List ℕ} {i height : ℕ} → length array ≡ stackLength → i ≤ length ch
     → Held array height (reverse (rootsOf a ch i)) → Represented a table ch i marks array height
 represent-roots {a} {table} {ch} {marks} {array} {i} l h g =
     record {
@@ -138,10 +138,10 @@ module _ {a table ch : List ℕ} {i : ℕ} {marks array : List ℕ} {height : �
 
 pub record Stacking (a ch array : List ℕ) (height count i : ℕ) : Type 0 where
   pub high : i ≤ count
-  pub long : length array ≡ 4100
+  pub long : length array ≡ stackLength
   pub held : Held array height (reverse (rootsOf a ch i))
 
-pub stacking-none : {a ch : List ℕ} {count : ℕ} {array : List ℕ} → Stackable a ch count array → Stacking a ch array 4 count 0
+pub stacking-none : {a ch : List ℕ} {count : ℕ} {array : List ℕ} → Stackable a ch count array → Stacking a ch array stackBase count 0
 unfolding stackGivenBy
 stacking-none g = record { high = omega arith; long = g .long; held = record { words = g .zeros; height-is = refl } }
 

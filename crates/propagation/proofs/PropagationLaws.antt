@@ -15,7 +15,9 @@ use Rattle.automaton.specs.StateSet.{StateSet}
 use Rattle.operations.specs.Marks.{sizeOf, storedSet, sameWords}
 use Rattle.operations.proofs.MarksLaws.{same-words}
 use Rattle.slices.proofs.CopyLaws.{paste-same}
-use Rattle.sets.proofs.StoredLaws.{row-inside, words-few, stored-written}
+use Rattle.sets.specs.Size.{marksMost, setMost}
+use Rattle.sets.proofs.StoredLaws.{row-inside, stored-written}
+use Rattle.sets.proofs.SizeLaws.{words-few}
 use Rattle.memo.proofs.MemoLaws.{remembered-later}
 use Rattle.nodes.specs.Nodes.{setFrom, markedAt}
 use Rattle.nodes.specs.Marking.{NodeMarkable, Maintained}
@@ -53,12 +55,12 @@ module _ {a table index ch : List ℕ} {i : ℕ} {marks array : List ℕ} {heigh
   pub row-fits : i * size + size ≤ length marks
   row-fits = rw s (row-inside i (length ch) (sizeOf table) (length marks) (g .inside) (g .workable .marks-fit))
 
-  pub row-small : i * size + size ≤ 131072
+  pub row-small : i * size + size ≤ marksMost
   row-small =
-      row-inside i (length ch) size 131072 (g .inside)
+      row-inside i (length ch) size marksMost (g .inside)
       (words-few (length ch) size (g .workable .tree .few) (rw s (workable-size (g .workable))))
 
-  pub row-few : size ≤ 32
+  pub row-few : size ≤ setMost
   row-few = rw s (workable-size (g .workable))
 
   stored-new : (marks′ : List ℕ) → i * size + size - i * size ≡ size
@@ -66,7 +68,7 @@ module _ {a table index ch : List ℕ} {i : ℕ} {marks array : List ℕ} {heigh
   unfolding storedSet
   stored-new marks′ n = ap (λ (k : ℕ). take k (drop (i * size) marks′)) n ∙ ap (λ (k : ℕ). take k (drop (i * k) marks′)) s
 
-  pub row-part : length (take (i * size + size - i * size) (drop (i * size) marks)) ≤ 32
+  pub row-part : length (take (i * size + size - i * size) (drop (i * size) marks)) ≤ setMost
   row-part =
       let n : i * size + size - i * size ≡ size = omega arith in
       let l = row-fits in

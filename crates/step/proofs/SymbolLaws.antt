@@ -9,12 +9,13 @@ use native.Mathlib.Omega.{arith}
 use native.Mathlib.Decide.{ℕ-discrete, decLt}
 use lib.ListN.{length, getD, drop}
 use Rattle.words.specs.Word.{stateBelow}
+use Rattle.words.specs.Limits.{tableMost}
 use Rattle.automaton.specs.Transition.{Transition, automatonOf, sourcesAt}
 use Rattle.automaton.specs.StateSet.{StateSet, allContained}
 use Rattle.automaton.specs.Reached.{Reached, byEpsilon}
 use Rattle.automaton.proofs.ClosureLaws.{targets-below, reached-below}
 use Rattle.automaton.proofs.TableLaws.{isTable-automaton}
-use Rattle.index.specs.Index.{keyOf}
+use Rattle.index.specs.Index.{keyOf, keyCount}
 use Rattle.index.specs.Index.{IndexedTable}
 use Rattle.step.specs.NodeSteppable.{RowsInside, childSets}
 use Rattle.closures.specs.Closure.{ReachedFrom, itself, onward, Joinable, JoinedClosure}
@@ -48,7 +49,7 @@ module _ {table index : List ℕ} {size : ℕ} {marks children owners rows pendi
   target-below : stateBelow (getD table i 0) < automatonOf table .states
   target-below = symbol-below checked i (g .inside) symbol
 
-  pub transition-few : i < 2048
+  pub transition-few : i < tableMost
   transition-few = omega (arith, keyed checked .few, g .inside)
 
   -- a transition on the node's symbol has as many part states as the node has children
@@ -133,7 +134,7 @@ module _ {table index : List ℕ} {f size : ℕ} {marks children owners rows pen
     chain : IndexedTable table index
     chain = s .followable .steppable .node .indexed
 
-    key-below : f < 1280
+    key-below : f < keyCount
     key-below = let small = s .followable .steppable .node .symbol-below in omega arith
 
     pub symbol-end : i ≤ 0 → SymbolFollowed table f (childSets size marks children) r owners rows
@@ -165,12 +166,12 @@ module _ {table index : List ℕ} {f size : ℕ} {marks children owners rows pen
             inside = symbol-next .inside;
           }
 
-      pub symbol-less : left table (getD index (1280 + i) 0) < left table i
+      pub symbol-less : left table (getD index (keyCount + i) 0) < left table i
       symbol-less = left-less chain symbol-next key-below h
 
       pub symbol-more : {t : StateSet} {owners′ rows′ pending′ : List ℕ} → length pending′ ≡ length pending
           → TransitionFollowed table (keyOf (getD table i 0)) (childSets size marks children) i r t owners′ rows′
-          → SymbolAt table index f size marks children owners′ rows′ pending′ t pendingLength (getD index (1280 + i) 0)
+          → SymbolAt table index f size marks children owners′ rows′ pending′ t pendingLength (getD index (keyCount + i) 0)
       symbol-more {t} {owners′} {rows′} {pending′} e j =
           record {
             followable = record {

@@ -8,6 +8,7 @@ use lib.ListN.{length, getD, drop}
 use lib.Dec.{eqb}
 use borrow.Author.Tests.{le-leb, lt-leb}
 use Rattle.words.specs.Word.{countAbove}
+use Rattle.words.specs.Limits.{tableMost}
 use Rattle.words.proofs.ScanLaws.{drop-step, drop-end}
 use Rattle.words.proofs.TestLaws.{Tested, holds, fails, tested}
 use Rattle.automaton.specs.Table.{isTable, isHead, isTableWord, sourcesLeft, areTransitions}
@@ -57,26 +58,26 @@ module _ (a : List ℕ) where
   table-empty [] h = refl
   table-empty (x ∷ ws) h = absurd (omega arith)
 
-  pub table-long : (table : List ℕ) → 2048 < length table → false ≡ isTable a table
+  pub table-long : (table : List ℕ) → tableMost < length table → false ≡ isTable a table
   unfolding isTable
   table-long [] h = refl
-  table-long (x ∷ ws) h = sym (rw (lt-leb (length (x ∷ ws)) 2048 h))
+  table-long (x ∷ ws) h = sym (rw (lt-leb (length (x ∷ ws)) tableMost h))
 
-  module _ (table : List ℕ) (few : length table ≤ 2048) where
+  module _ (table : List ℕ) (few : length table ≤ tableMost) where
     pub table-no-head : isHead (getD table 0 0) ≡ false → false ≡ isTable a table
     unfolding isTable
     table-no-head e = go table few e
       where
-        go : (table : List ℕ) → length table ≤ 2048 → isHead (getD table 0 0) ≡ false → false ≡ isTable a table
+        go : (table : List ℕ) → length table ≤ tableMost → isHead (getD table 0 0) ≡ false → false ≡ isTable a table
         go [] h e = refl
-        go (x ∷ ws) h e = sym (rw (le-leb (length (x ∷ ws)) 2048 h, e))
+        go (x ∷ ws) h e = sym (rw (le-leb (length (x ∷ ws)) tableMost h, e))
 
     pub table-value : (length table ≡ 0 → ⊥) → isHead (getD table 0 0) ≡ true → (r : Bool)
         → r ≡ areTransitions a (countAbove (getD table 0 0)) 0 (drop 1 table) → r ≡ isTable a table
     unfolding isTable
     table-value n e r h = go table few n e h
       where
-        go : (table : List ℕ) → length table ≤ 2048 → (length table ≡ 0 → ⊥) → isHead (getD table 0 0) ≡ true
+        go : (table : List ℕ) → length table ≤ tableMost → (length table ≡ 0 → ⊥) → isHead (getD table 0 0) ≡ true
             → r ≡ areTransitions a (countAbove (getD table 0 0)) 0 (drop 1 table) → r ≡ isTable a table
         go [] l n e h = absurd (n refl)
-        go (x ∷ ws) l n e h = h ∙ sym (rw (le-leb (length (x ∷ ws)) 2048 l, e))
+        go (x ∷ ws) l n e h = h ∙ sym (rw (le-leb (length (x ∷ ws)) tableMost l, e))

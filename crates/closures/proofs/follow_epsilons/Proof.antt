@@ -3,6 +3,7 @@ use mathlib.Core.Path.{sym, _∙_}
 use Prim.Native.Nat.{_+_}
 use native.Mathlib.Omega.{arith}
 use borrow.Author.Needs.{needs}
+use Rattle.index.specs.Index.{keyCount, stateKey}
 use Rattle.closures.proofs.FollowLaws.{left, index-long}
 use Rattle.closures.proofs.EpsilonLaws.{EpsilonsAt, key-inside, epsilons-first, epsilons-in}
 use Rattle.closures.proofs.EpsilonLaws.{epsilons-puttable, epsilons-less, epsilons-more, epsilons-end}
@@ -27,7 +28,7 @@ shared-slice-read-i c =
     omega (arith, key-inside g, index-long (g .followable .checked))
 
 cast-i : tie.Need-cast-i Inv-loop μ-loop
-cast-i c = omega (arith, c .shared-slice-known3 .given (256 + c .before .before .before .before .before .args .p))
+cast-i c = omega (arith, c .shared-slice-known3 .given (stateKey (c .before .before .before .before .before .args .p)))
 
 loop-holds : tie.Need-loop-holds Inv-loop μ-loop
 loop-holds c = epsilons-first (c .before .before .before .before .before .pre)
@@ -67,7 +68,7 @@ cast-i-2 : tie.Need-cast-i-2 Inv-loop μ-loop
 cast-i-2 c =
     omega (
       arith,
-      c .shared-slice-known5 .given (1280 + c .before .before .before .before .before .before .before .before .before .before .loop .i),
+      c .shared-slice-known5 .given (keyCount + c .before .before .before .before .before .before .before .before .before .before .loop .i),
     )
 
 loop-less : tie.Need-loop-less Inv-loop μ-loop

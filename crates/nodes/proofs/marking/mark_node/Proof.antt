@@ -74,7 +74,8 @@ same-length-8 c = search needs
 returns : tie.Need-returns
 returns c =
     let p = c .before .before in
-    let m = p .before .before .before .before .before .before .before .before .before .before .before .before .before .before .before .before in
+    let m =
+    p .before .before .before .before .before .before .before .before .before .before .before .before .before .before .before .before in
     let n = ranked m in (
       node-words (start n .pre) _ (n .rank .ensures) (m .mark-next .ensures),
       node-kept (start n .pre) _ (n .rank .ensures) (m .mark-next .ensures) (p .push-node .ensures .0) (p .push-node .ensures .1),

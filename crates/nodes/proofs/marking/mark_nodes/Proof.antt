@@ -71,44 +71,44 @@ same-length c = c .before .loop .inv .long
 same-length-2 : tie.Need-same-length-2 Inv-loop μ-loop
 same-length-2 c =
     c .before .loop .inv .maintained .represented .long
-    ∙ sym (c .before .before .before .before .before .before .before .before .before .before .before .before .before .before .pre .maintained
-    .represented .long)
+    ∙ sym (c .before .before .before .before .before .before .before .before .before .before .before .before .before .before .pre
+    .maintained .represented .long)
 
 same-length-3 : tie.Need-same-length-3 Inv-loop μ-loop
 same-length-3 c =
     c .before .loop .inv .maintained .remembered .memo .keys-are
-    ∙ sym (c .before .before .before .before .before .before .before .before .before .before .before .before .before .before .pre .maintained
-    .remembered .memo .keys-are)
+    ∙ sym (c .before .before .before .before .before .before .before .before .before .before .before .before .before .before .pre
+    .maintained .remembered .memo .keys-are)
 
 same-length-4 : tie.Need-same-length-4 Inv-loop μ-loop
 same-length-4 c =
     c .before .loop .inv .maintained .remembered .memo .known-are
-    ∙ sym (c .before .before .before .before .before .before .before .before .before .before .before .before .before .before .pre .maintained
-    .remembered .memo .known-are)
+    ∙ sym (c .before .before .before .before .before .before .before .before .before .before .before .before .before .before .pre
+    .maintained .remembered .memo .known-are)
 
 same-length-5 : tie.Need-same-length-5 Inv-loop μ-loop
 same-length-5 c =
     c .before .loop .inv .maintained .remembered .places-are
-    ∙ sym (c .before .before .before .before .before .before .before .before .before .before .before .before .before .before .pre .maintained
-    .remembered .places-are)
+    ∙ sym (c .before .before .before .before .before .before .before .before .before .before .before .before .before .before .pre
+    .maintained .remembered .places-are)
 
 same-length-6 : tie.Need-same-length-6 Inv-loop μ-loop
 same-length-6 c =
     c .before .loop .inv .maintained .remembered .closures .owners-are
-    ∙ sym (c .before .before .before .before .before .before .before .before .before .before .before .before .before .before .pre .maintained
-    .remembered .closures .owners-are)
+    ∙ sym (c .before .before .before .before .before .before .before .before .before .before .before .before .before .before .pre
+    .maintained .remembered .closures .owners-are)
 
 same-length-7 : tie.Need-same-length-7 Inv-loop μ-loop
 same-length-7 c =
     c .before .loop .inv .maintained .remembered .closures .rows-are
-    ∙ sym (c .before .before .before .before .before .before .before .before .before .before .before .before .before .before .pre .maintained
-    .remembered .closures .rows-are)
+    ∙ sym (c .before .before .before .before .before .before .before .before .before .before .before .before .before .before .pre
+    .maintained .remembered .closures .rows-are)
 
 same-length-8 : tie.Need-same-length-8 Inv-loop μ-loop
 same-length-8 c =
     c .before .loop .inv .maintained .remembered .pending-are
-    ∙ sym (c .before .before .before .before .before .before .before .before .before .before .before .before .before .before .pre .maintained
-    .remembered .pending-are)
+    ∙ sym (c .before .before .before .before .before .before .before .before .before .before .before .before .before .before .pre
+    .maintained .remembered .pending-are)
 
 returns : tie.Need-returns Inv-loop μ-loop
 returns c =
