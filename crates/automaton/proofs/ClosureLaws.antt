@@ -6,13 +6,15 @@ use mathlib.Core.List.{List, List·Memᴰ}
 use Prim.Native.Nat.{ℕ, _<_, _≤_}
 use native.Mathlib.Omega.{arith}
 use lib.ListN.{length, replicate, length-replicate}
+use Rattle.words.specs.Lists.{AllBelow}
+use Rattle.words.specs.Word.{wordRange}
 use Rattle.words.proofs.TestLaws.{Tested, holds, fails, tested, same-truth}
 use Rattle.words.proofs.AllLaws.{each-at}
 use Rattle.automaton.specs.Transition.{Transition, Automaton, onSymbol, epsilon}
 use Rattle.automaton.specs.StateSet.{StateSet, sizeFor, contains, symbolPass, stateSet}
 use Rattle.automaton.specs.Reached.{Reached, bySymbol, byEpsilon}
 use Rattle.automaton.specs.Table.{TransitionOver, AutomatonOver}
-use Rattle.automaton.proofs.BitLaws.{Words, words-replicate, words-insert, contains-replicate, contains-determines}
+use Rattle.automaton.proofs.BitLaws.{words-replicate, words-insert, contains-replicate, contains-determines}
 use Rattle.automaton.proofs.KeepLaws.{symbolPass-keeps, epsilonClosure-keeps}
 use Rattle.automaton.proofs.SetLength.{length-symbolPass, length-stateSet}
 use Rattle.automaton.proofs.PassLaws.{Seeded, ClosedUnder, StatesWithin, In, epsilonClosure-grows, symbolPass-adds}
@@ -41,7 +43,7 @@ targets-below {a} {A} o t m = go t (each-at (TransitionOver a (A .states)) (A .t
 -- transitions, and holds only what is reached.
 pub record IsStateSet (A : Automaton) (f : ℕ) (rs : List StateSet) (r : StateSet) : Type 0 where
   pub size : length r ≡ sizeFor (A .states)
-  pub words : Words r
+  pub words : AllBelow wordRange r
   pub seeded : Seeded (A .transitions) f rs (In r)
   pub closed : ClosedUnder (A .transitions) (In r)
   pub reached : StatesWithin (Reached (A .transitions) f rs) r
@@ -67,11 +69,11 @@ abbrev emptySet : ℕ → StateSet
 emptySet states = replicate (sizeFor states) 0
 
 module _ (A : Automaton) (f : ℕ) (rs : List StateSet) where
-  pub words-stateSet : Words (stateSet A f rs)
+  pub words-stateSet : AllBelow wordRange (stateSet A f rs)
   unfolding stateSet
   words-stateSet =
-      epsilonClosure-keeps Words words-insert _ (A .transitions) (symbolPass f rs (A .transitions) (emptySet (A .states)))
-      (symbolPass-keeps Words words-insert f rs (A .transitions) (emptySet (A .states)) (words-replicate (sizeFor (A .states))))
+      epsilonClosure-keeps (AllBelow wordRange) words-insert _ (A .transitions) (symbolPass f rs (A .transitions) (emptySet (A .states)))
+      (symbolPass-keeps (AllBelow wordRange) words-insert f rs (A .transitions) (emptySet (A .states)) (words-replicate (sizeFor (A .states))))
 
   -- it holds only what is reached, whatever the targets
   stateSet-within : StatesWithin (Reached (A .transitions) f rs) (stateSet A f rs)

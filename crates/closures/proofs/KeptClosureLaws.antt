@@ -32,7 +32,7 @@ module _ {table index : List ℕ} {s : ℕ} {pending : List ℕ} {r : StateSet} 
   start =
       record {
         size = g .set .size;
-        below = g .set .below;
+        below = g .below;
         fits = g .closable .fits;
         few = omega (arith, missing-most (automatonOf table .states) r);
         inside = λ k l. absurd (omega arith);
@@ -57,43 +57,46 @@ module _ {table index : List ℕ} {s : ℕ} {pending : List ℕ} {r : StateSet} 
         let done = f .settled r s (g .set .closed) add-search in
         let c = g .closable .checked in
         record {
-          size = f .stack .size;
-          words = done .words;
+          set = record {
+            size = f .stack .size;
+            words = done .words;
+            closed = test-closed _ _
+                (λ p q m e.
+                let k =
+                member-starts table (epsilon p q)
+                (subst (List·Memᴰ (epsilon p q)) (sym (table-transitions (c .alphabet) table (c .checked))) m) in
+                settled-all done (k .index) (k .inside) p q (k .member) e);
+          };
           grown = done .grown;
           holds = done .holds;
-          closed = test-closed _ _
-              (λ p q m e.
-              let k =
-              member-starts table (epsilon p q)
-              (subst (List·Memᴰ (epsilon p q)) (sym (table-transitions (c .alphabet) table (c .checked))) m) in
-              settled-all done (k .index) (k .inside) p q (k .member) e);
           within = done .reached;
         }
 
 -- ---- a set of its own
+
+pub empty-closed : (table : List ℕ) → ClosedSet table (replicate setMost 0)
+empty-closed table = record {
+  size = length-replicate {A = ℕ} setMost 0;
+  words = words-replicate setMost;
+  closed =
+      test-closed (automatonOf table .transitions) (replicate setMost 0)
+      (λ p q m e. absurd (true≢false (sym e ∙ contains-replicate setMost p)));
+}
 
 pub close-empty : {table index : List ℕ} {s : ℕ} {pending : List ℕ} → Closable table index s pending
     → Addable table index s pending (replicate setMost 0)
 close-empty {table} g =
     record {
       closable = g;
-      set = record {
-        size = length-replicate {A = ℕ} setMost 0;
-        words = words-replicate setMost;
-        below = λ q e. absurd (true≢false (sym e ∙ contains-replicate setMost q));
-        closed =
-            test-closed (automatonOf table .transitions) (replicate setMost 0)
-            (λ p q m e. absurd (true≢false (sym e ∙ contains-replicate setMost p)));
-      };
+      set = empty-closed table;
+      below = λ q e. absurd (true≢false (sym e ∙ contains-replicate setMost q));
     }
 
 pub close-end : {table : List ℕ} {s : ℕ} {t : StateSet} → Added table s (replicate setMost 0) t → ClosureOf table s t
 close-end a =
     record {
-      size = a .size;
-      words = a .words;
+      set = a .set;
       holds = a .holds;
-      closed = a .closed;
       within = λ q e. ⊎-elim (λ d. absurd (true≢false (sym d ∙ contains-replicate setMost q))) (λ d. d) (a .within q e);
     }
 
@@ -124,7 +127,7 @@ module _ {table index : List ℕ} {s : ℕ} {owners rows pending : List ℕ} (g 
           owners-are = length-set owners (s % rowsMost) (s + 1) ∙ g .closures .owners-are;
           rows-are =
               ap length written
-              ∙ length-paste rows (s % rowsMost * setMost) closure setMost (omega (arith, closure-fits)) (omega (arith, c .size))
+              ∙ length-paste rows (s % rowsMost * setMost) closure setMost (omega (arith, closure-fits)) (omega (arith, c .set .size))
               ∙ g .closures .rows-are;
           filled = λ k t h o. filled k t h o (ℕ-discrete k (s % rowsMost));
         };
@@ -132,13 +135,13 @@ module _ {table index : List ℕ} {s : ℕ} {owners rows pending : List ℕ} (g 
       }
     where
       written : rows′ ≡ paste rows (s % rowsMost * setMost) closure setMost
-      written = e ∙ ap (paste rows (s % rowsMost * setMost) closure) (c .size)
+      written = e ∙ ap (paste rows (s % rowsMost * setMost) closure) (c .set .size)
 
       here : ClosureOf table s (storedSet setMost rows′ (s % rowsMost))
       here =
           subst (ClosureOf table s)
           (sym (ap (λ (l : List ℕ). storedSet setMost l (s % rowsMost)) written
-          ∙ stored-written setMost rows (s % rowsMost) closure (c .size) closure-fits)) c
+          ∙ stored-written setMost rows (s % rowsMost) closure (c .set .size) closure-fits)) c
 
       filled : (k t : ℕ) → k < rowsMost → getD (set owners (s % rowsMost) (s + 1)) k 0 ≡ t + 1 → Dec (k ≡ s % rowsMost)
           → ClosureOf table t (storedSet setMost rows′ k)
@@ -153,7 +156,7 @@ module _ {table index : List ℕ} {s : ℕ} {owners rows pending : List ℕ} (g 
       filled k t h o (no i) =
           let other =
           ap (λ (l : List ℕ). storedSet setMost l k) written
-          ∙ stored-other setMost rows (s % rowsMost) closure (c .size) closure-fits k i in
+          ∙ stored-other setMost rows (s % rowsMost) closure (c .set .size) closure-fits k i in
           subst (ClosureOf table t) (sym other) (g .closures .filled k t h (sym (getD-set-other owners (s % rowsMost) k (s + 1) 0 i) ∙ o))
 
 -- ---- the closure in the set
@@ -161,15 +164,18 @@ module _ {table index : List ℕ} {s : ℕ} {owners rows pending : List ℕ} (g 
 -- both sets are closed
 added-joined : {table : List ℕ} {s : ℕ} {r c : StateSet} → ClosedSet table r → ClosureOf table s c → Added table s r (joined r c)
 added-joined {table} {r = r} {c = c} k d =
-    let same : length c ≡ length r = d .size ∙ sym (k .size) in
+    let same : length c ≡ length r = d .set .size ∙ sym (k .size) in
+    let ts = automatonOf table .transitions in
     record {
-      size = joined-length (length c) r c ∙ k .size;
-      words = words-joined r c same (k .words) (d .words);
+      set = record {
+        size = joined-length (length c) r c ∙ k .size;
+        words = words-joined (length c) r c (k .words) (d .set .words);
+        closed = test-closed ts (joined r c)
+            (λ p q m e. ⊎-elim (λ h. joined-left r c same q (closed-test ts r (k .closed) p q m h))
+            (λ h. joined-right r c same q (closed-test ts c (d .set .closed) p q m h)) (joined-cases r c same p e));
+      };
       grown = joined-left r c same;
       holds = joined-right r c same _ (d .holds);
-      closed = test-closed (automatonOf table .transitions) (joined r c)
-          (λ p q m e. ⊎-elim (λ h. joined-left r c same q (closed-test (automatonOf table .transitions) r (k .closed) p q m h))
-          (λ h. joined-right r c same q (closed-test (automatonOf table .transitions) c (d .closed) p q m h)) (joined-cases r c same p e));
       within = λ q e. ⊎-elim inl (λ h. inr (d .within q h)) (joined-cases r c same q e);
     }
 
@@ -178,7 +184,7 @@ pub add-again : {table index : List ℕ} {s : ℕ} {owners rows pending : List �
     → {pending′ : List ℕ} → length pending′ ≡ length pending → Addable table index s pending′ r
 add-again g e =
     let k = g .keepable .closable in
-    record { closable = record { checked = k .checked; state = k .state; fits = rw e (k .fits) }; set = g .set }
+    record { closable = record { checked = k .checked; state = k .state; fits = rw e (k .fits) }; set = g .set; below = g .below }
 
 -- the row as a part of the rows
 pub join-end : {table : List ℕ} {s : ℕ} {b : Bool} {owners rows : List ℕ} → b ≡ true → Kept table s b owners rows → {r t : StateSet}

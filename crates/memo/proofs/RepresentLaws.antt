@@ -6,6 +6,7 @@ use Prim.Native.Nat.{ℕ, _+_, _-_, _*_, _<_, _≤_}
 use native.Mathlib.Omega.{arith}
 use native.Mathlib.Nat.{le-trans, mul-le-mul-right}
 use lib.ListN.{length, take, drop}
+use Rattle.words.specs.Word.{wordRange}
 use Rattle.operations.specs.Marks.{storedSet, sameWords}
 use Rattle.operations.proofs.MarksLaws.{same-words}
 use Rattle.sets.specs.Size.{marksMost, setMost}
@@ -36,5 +37,5 @@ pub record Mixing (set : List ℕ) (mixed k : ℕ) : Type 0 where
   pub inside : k ≤ length set
   pub few : mixed ≤ k * 9007199254740992
 
-pub mixed-word : (w k : ℕ) → w < 4294967296 → k < setMost → w * (k * 40503 + 1) ≤ 9007199254740992
-mixed-word w k h l = le-trans (mul-le-mul-right (k * 40503 + 1) (let x : w ≤ 4294967296 = omega arith in x)) (omega arith)
+pub mixed-word : (w k : ℕ) → w < wordRange → k < setMost → w * (k * 40503 + 1) ≤ 9007199254740992
+mixed-word w k h l = le-trans (mul-le-mul-right (k * 40503 + 1) (let x : w ≤ wordRange = omega arith in x)) (omega arith)

@@ -3,17 +3,19 @@
 use mathlib.Core.Path.{_≡_, refl, ap, _∙_, sym, subst}
 use mathlib.Core.Bool.{true, true≢false}
 use mathlib.Core.List.{List, [], _∷_, _++_, List·Memᴰ}
-use Prim.Native.Nat.{ℕ, zero, suc, _-_, _/_}
+use Prim.Native.Nat.{ℕ, zero, suc, _-_, _<_, _/_}
 use native.Mathlib.Omega.{arith}
 use lib.ListN.{length, getD, replicate, length-append, length-replicate}
 use Rattle.sets.specs.Size.{setMost}
 use Rattle.sets.proofs.SizeLaws.{set-small}
+use Rattle.words.specs.Word.{wordRange}
 use Rattle.words.proofs.TestLaws.{same-truth}
-use Rattle.automaton.proofs.PassLaws.{closed-test, test-closed}
+use Rattle.words.proofs.AllLaws.{each-append}
+use Rattle.automaton.proofs.PassLaws.{closed-test}
 use Rattle.automaton.specs.Transition.{Automaton, onSymbol, automatonOf}
 use Rattle.automaton.specs.StateSet.{StateSet, sizeFor, contains, allContained, stateSet}
 use Rattle.automaton.specs.Reached.{Reached}
-use Rattle.automaton.proofs.BitLaws.{Words, words-replicate, contains-replicate, contains-determines}
+use Rattle.automaton.proofs.BitLaws.{words-replicate, contains-replicate, contains-determines}
 use Rattle.automaton.proofs.ClosureLaws.{targets-below, seeded-closed-all, words-stateSet, stateSet-reached}
 use Rattle.automaton.proofs.SetLength.{length-stateSet}
 use Rattle.automaton.proofs.TableLaws.{isTable-automaton}
@@ -23,6 +25,7 @@ use Rattle.step.specs.NodeSteppable.{NodeSteppable, childSets}
 use Rattle.step.specs.Node.{Steppable, SymbolFollowable, SymbolFollowed}
 use Rattle.closures.proofs.TransitionStartLaws.{member-starts, table-transitions}
 use Rattle.closures.proofs.KeyedWordLaws.{starts-symbol, starts-target}
+use Rattle.closures.proofs.KeptClosureLaws.{empty-closed}
 
 -- ---- before the first transition
 
@@ -34,12 +37,8 @@ node-followable {table} g e =
       steppable = g;
       size-is = e;
       growing = record {
-        size = length-replicate {A = ℕ} setMost 0;
-        words = words-replicate setMost;
+        set = empty-closed table;
         reached = λ q h. absurd (true≢false (sym h ∙ contains-replicate setMost q));
-        closed =
-            test-closed (automatonOf table .transitions) (replicate setMost 0)
-            (λ p q m h. absurd (true≢false (sym h ∙ contains-replicate setMost p)));
       };
     }
 
@@ -58,9 +57,6 @@ zeros-at (w ∷ x) n (suc i) = zeros-at x n i
 contains-zeros : (x : StateSet) (n q : ℕ) → contains (x ++ replicate n 0) q ≡ contains x q
 unfolding contains
 contains-zeros x n q = rw (zeros-at x n (q / 32))
-
-words-zeros : (x : StateSet) (n : ℕ) → Words x → Words (x ++ replicate n 0)
-words-zeros x n w i = rw (zeros-at x n i) (w i)
 
 -- ---- the node's state set
 
@@ -81,7 +77,7 @@ module _ {table index : List ℕ} {f : ℕ} (indexed : IndexedTable table index)
   has-reached : {q : ℕ} → Reached (A .transitions) f rs q → contains r q ≡ true
   unfolding A
   has-reached =
-      seeded-closed-all (A .transitions) f rs (λ q. contains r q ≡ true) seeded (closed-test (A .transitions) r (g .growing .closed))
+      seeded-closed-all (A .transitions) f rs (λ q. contains r q ≡ true) seeded (closed-test (A .transitions) r (g .growing .set .closed))
 
   whole : r ≡ stateSet (automatonOf table) f rs ++ replicate (setMost - sizeOf table) 0
   unfolding A sizeOf
@@ -92,8 +88,9 @@ module _ {table index : List ℕ} {f : ℕ} (indexed : IndexedTable table index)
       let below = targets-below (isTable-automaton (indexed .alphabet) (omega arith) table (indexed .checked)) in
       let long : length (x ++ replicate (setMost - sizeFor (A .states)) 0) ≡ setMost =
       rw (length-append, length-stateSet A f rs, length-replicate {A = ℕ}) (omega arith) in
-      contains-determines r (x ++ replicate (setMost - sizeFor (A .states)) 0) (g .growing .size ∙ sym long) (g .growing .words)
-      (words-zeros x (setMost - sizeFor (A .states)) (words-stateSet A f rs))
+      contains-determines r (x ++ replicate (setMost - sizeFor (A .states)) 0) (g .growing .set .size ∙ sym long) (g .growing .set .words)
+      (each-append (λ w. w < wordRange) x (replicate (setMost - sizeFor (A .states)) 0) (words-stateSet A f rs)
+      (words-replicate (setMost - sizeFor (A .states))))
       (λ q.
       same-truth (contains r q) (contains (x ++ replicate (setMost - sizeFor (A .states)) 0) q)
       (λ e. contains-zeros x (setMost - sizeFor (A .states)) q ∙ stateSet-reached A f rs below q .1 (g .growing .reached q e))

@@ -72,12 +72,8 @@ module _ {table index : List ℕ} {size : ℕ} {marks children owners rows pendi
           closable = record { checked = checked; state = target-below; fits = g .followable .steppable .fits };
           closures = g .followable .steppable .closures;
         };
-        set = record {
-          size = k .size;
-          words = k .words;
-          below = λ q e. reached-below (automatonOf table) (keyOf (getD table i 0)) (childSets size marks children) over (k .reached q e);
-          closed = k .closed;
-        };
+        set = k .set;
+        below = λ q e. reached-below (automatonOf table) (keyOf (getD table i 0)) (childSets size marks children) over (k .reached q e);
       }
 
   -- the set stays: it has the target, or the part states are not in the children's sets
@@ -96,10 +92,8 @@ module _ {table index : List ℕ} {size : ℕ} {marks children owners rows pendi
       record {
         closures = j .closures;
         growing = record {
-          size = a .size;
-          words = a .words;
+          set = a .set;
           reached = λ q e. ⊎-elim (g .followable .growing .reached q) (λ d. reached-on d target) (a .within q e);
-          closed = a .closed;
         };
         grown = a .grown;
         satisfied = λ _. a .holds;

@@ -42,6 +42,17 @@ module _ {A : Type 0} (P : A → Type 0) where
   each-getD d (x ∷ xs) zero p h = p .0
   each-getD d (x ∷ xs) (suc k) p h = each-getD d xs k (p .1) (omega arith)
 
+  -- also beyond the list, where the default has the property
+  pub each-default : {d : A} → P d → (xs : List A) (k : ℕ) → All P xs → P (getD xs k d)
+  each-default h [] k p = h
+  each-default h (x ∷ xs) zero p = p .0
+  each-default h (x ∷ xs) (suc k) p = each-default h xs k (p .1)
+
+  pub each-set : {v : A} → P v → (xs : List A) (k : ℕ) → All P xs → All P (set xs k v)
+  each-set h [] k p = tt
+  each-set h (x ∷ xs) zero p = (h, p .1)
+  each-set h (x ∷ xs) (suc k) p = (p .0, each-set h xs k (p .1))
+
   pub each-at : {x : A} (xs : List A) → All P xs → List·Memᴰ x xs → P x
   each-at (y ∷ ys) p (List·Memᴰ·head e) = subst P (sym e) (p .0)
   each-at (y ∷ ys) p (List·Memᴰ·tail m) = each-at ys (p .1) m

@@ -101,8 +101,8 @@ same-length-3 c = c .before .loop .inv .pending-long
 
 same-length-4 : tie.Need-same-length-4 Inv-loop μ-loop
 same-length-4 c =
-    c .before .loop .inv .followable .growing .size
-    ∙ sym (c .before .before .before .before .before .before .before .before .before .before .before .pre .growing .size)
+    c .before .loop .inv .followable .growing .set .size
+    ∙ sym (c .before .before .before .before .before .before .before .before .before .before .before .pre .growing .set .size)
 
 returns : tie.Need-returns Inv-loop μ-loop
 returns c = symbol-end (c .before .loop .inv) (c .loop-test .left)
