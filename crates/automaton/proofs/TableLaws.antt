@@ -120,9 +120,6 @@ module _ (a : List ℕ) (few : length a ≤ symbolRange) where
   pub isTable-automaton : (table : List ℕ) → isTable a table ≡ true → AutomatonOver a (automatonOf table)
   isTable-automaton table h = let i = isTable-over table h in subst (AutomatonOver a) (sym (automatonOf-table i)) (i .over)
 
-  pub isTable-words : (table : List ℕ) → isTable a table ≡ true → tableWords (automatonOf table) ≡ table
-  isTable-words table h = let i = isTable-over table h in ap tableWords (automatonOf-table i) ∙ i .words
-
 -- ---- sizes
 
 pub record Sizes (A : Automaton) : Type 0 where

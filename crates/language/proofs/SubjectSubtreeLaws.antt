@@ -18,7 +18,8 @@ use Rattle.words.specs.ExactlyOne.{ExactlyOne}
 use Rattle.words.specs.Limits.{alphabetMost}
 use Rattle.words.proofs.WordLaws.{symbolOf-wordOf}
 use Rattle.words.proofs.RelabelLaws.{relabelAll}
-use Rattle.words.proofs.SubtreeLaws.{subtree-tree, value-subtree}
+use Rattle.words.proofs.PostfixLaws.{sub-tree}
+use Rattle.words.proofs.SubtreeLaws.{value-subtree}
 use Rattle.language.proofs.SubjectLaws.{wordTree, subject-words, exactly-one-subject}
 
 -- the words of a subtree are nodes
@@ -32,7 +33,7 @@ subtree-nodes a ch i h =
 module _ (a : List ℕ) (m : length a ≤ alphabetMost) where
   pub exactly-one-subtree : (ch : List ℕ) (i : ℕ) → all (isNode a) ch ≡ true → oneTree a ch ≡ true → i < length ch
       → ExactlyOne (SubjectOf a (subtreeOf a ch i))
-  exactly-one-subtree ch i h o hi = exactly-one-subject a m (subtreeOf a ch i) (subtree-nodes a ch i h) (subtree-tree (arity a) ch i hi o)
+  exactly-one-subtree ch i h o hi = exactly-one-subject a m (subtreeOf a ch i) (subtree-nodes a ch i h) (sub-tree (arity a) ch i o hi)
 
   module _ {A : Type 0} (g : ℕ → List A → A) where
     -- the same value of a word: it looks at the symbol

@@ -6,7 +6,7 @@ use mathlib.Core.Logic.{_⊎_, inl, inr, ⊎-elim}
 use Prim.Native.Nat.{ℕ, _<_, _≤_}
 use native.Mathlib.Omega.{arith}
 use lib.Dec.{eqb}
-use borrow.Author.Tests.{eq-eqb, ne-eqb, eqb-true, lt-ltb, le-ltb, ltb-true}
+use borrow.Author.Tests.{eq-eqb, ne-eqb, eqb-true, lt-ltb, ltb-true}
 use Rattle.words.proofs.TestLaws.{Tested, holds, fails, tested, and-true, true-and}
 use Rattle.words.specs.Word.{Kind, entryKind, symbolKind, emptyKind, unionKind, productKind, closureKind, nodeKind, kindUnit}
 use Rattle.words.specs.Word.{headKind, transitionKind, epsilonKind, sourceKind, noKind, kinds, kindAmong, kindAt, kindNumber}
@@ -137,16 +137,3 @@ pub isOf-wordOf : (k : Kind) (b : ℕ) → b < fieldRange k → isOf k (wordOf k
 isOf-wordOf k b h =
     let l : b < kindUnit = omega (arith, fieldRange-fits k) in
     isOf-from k (wordOf k b) (numberOf-wordOf k b l) (rw (bodyOf-wordOf k b l) h)
-
--- no word is of no kind
-pub spare-noKind : (w : ℕ) → kindOf w ≡ noKind → spareBitsClear w ≡ false
-unfolding spareBitsClear
-spare-noKind w e = rw e (le-ltb (bodyOf w) 0 (omega arith))
-
-pub isOf-noKind : (w : ℕ) → isOf noKind w ≡ false
-unfolding isOf
-isOf-noKind w = go (tested (hasKind noKind w))
-  where
-    go : Tested (hasKind noKind w) → isOf noKind w ≡ false
-    go (holds e) = rw (e, spare-noKind w (hasKind-kindOf noKind w e))
-    go (fails e) = rw e

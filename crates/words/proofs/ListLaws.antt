@@ -6,7 +6,7 @@ use Prim.Native.Nat.{ℕ, zero, suc, _+_, _-_, _<_, _≤_}
 use native.Mathlib.Omega.{arith}
 use native.Mathlib.Nat.{zero-add, add-zero, add-suc, suc-add, add-assoc}
 use lib.ListN.{length, getD, take, drop, length-drop, length-reverse, take-append-drop}
-use lib.Seq.{slice, sets, sets-eq, take-take, length-take-le, drop-append-le, take-at, drop-at}
+use lib.Seq.{sets, sets-eq, take-at, drop-at}
 use Rattle.words.specs.Lists.{all, count, listFrom}
 
 -- ---- map
@@ -70,14 +70,6 @@ listFrom-getD {A} d (x ∷ l) =
     (listFrom-shift (λ i. getD (x ∷ l) i d) (λ i. getD l i d) (length l) 0 (λ i. refl) ∙ listFrom-getD d l)
 
 -- ---- parts of a list
-
--- two parts of a list side by side
-pub slice-slice : {A : Type 0} (l : List A) (s m t : ℕ) → s ≤ m → m ≤ t → t ≤ length l → slice s m l ++ slice m t l ≡ slice s t l
-slice-slice {A} l s m t hs hm ht =
-    let q : take m (take t l) ≡ take m l = take-take m t l hm in
-    let n : length (take m l) ≡ m = length-take-le m l (omega arith) in
-    sym (drop-append-le s (take m l) (slice m t l) (rw n hs))
-    ∙ ap (drop s) (ap (λ (x : List A). x ++ slice m t l) (sym q) ∙ take-append-drop m (take t l))
 
 -- the top of a stack is the end of its reverse
 module _ {A : Type 0} (r : ℕ) (l : List A) where
