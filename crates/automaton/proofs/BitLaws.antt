@@ -3,7 +3,7 @@
 use mathlib.Core.Path.{_≡_, refl, ap, _∙_, sym}
 use mathlib.Core.Logic.{_≢_}
 use mathlib.Core.Bool.{Bool, true, false, true≢false, false≢true}
-use mathlib.Core.List.{List}
+use mathlib.Core.List.{List, [], _∷_}
 use Prim.Native.Nat.{ℕ, zero, suc, _+_, _*_, _-_, _<_, _≤_, _/_, _%_, _^_, max}
 use native.Mathlib.Omega.{arith}
 use native.Mathlib.Decide.{ℕ-discrete, decLt}
@@ -14,6 +14,9 @@ use lib.ListN.{length, getD, set, replicate, length-set, length-replicate, getD-
 use lib.Seq.{getD-set-same, getD-set-other, set-out, ext-getD}
 use lib.Dec.{eqb}
 use borrow.Author.Tests.{eq-eqb, eqb-true, eqb-false}
+use Rattle.words.specs.Lists.{AllBelow}
+use Rattle.words.specs.Word.{wordRange}
+use Rattle.words.proofs.AllLaws.{each-default, each-set, each-getD}
 use Rattle.automaton.specs.StateSet.{StateSet, contains, insert}
 
 -- ---- bits of a number
@@ -134,33 +137,30 @@ insert-keeps r s q h = go (ℕ-discrete q s) (decLt (q / 32) (length r))
 
 -- ---- words of 32 bits
 
-abbrev pub Words : List ℕ → Type 0
-Words r = (i : ℕ) → getD r i 0 < 2 ^ 32
+pub words-replicate : (n : ℕ) → AllBelow wordRange (replicate n 0)
+words-replicate zero = tt
+words-replicate (suc n) = (omega arith, words-replicate n)
 
-pub words-replicate : (n : ℕ) → Words (replicate n 0)
-words-replicate zero i = omega arith
-words-replicate (suc n) zero = omega arith
-words-replicate (suc n) (suc i) = words-replicate n i
+-- an or of two words is a word
+pub words-or : (r t : List ℕ) (i k : ℕ) → AllBelow wordRange r → AllBelow wordRange t → bitOr (getD r i 0) (getD t k 0) < wordRange
+words-or r t i k w v =
+    or-lt 32 (getD r i 0) (getD t k 0) (each-default (λ x. x < wordRange) (omega arith) r i w)
+    (each-default (λ x. x < wordRange) (omega arith) t k v)
 
-pub words-insert : (r : StateSet) (s : ℕ) → Words r → Words (insert r s)
+pub words-insert : (r : StateSet) (s : ℕ) → AllBelow wordRange r → AllBelow wordRange (insert r s)
 unfolding insert
-words-insert r s w i = go (ℕ-discrete i (s / 32)) (decLt (s / 32) (length r))
-  where
-    v : ℕ
-    v = bitOr (getD r (s / 32) 0) (2 ^ (s % 32))
-
-    go : Dec (i ≡ s / 32) → Dec (s / 32 < length r) → getD (set r (s / 32) v) i 0 < 2 ^ 32
-    go (no n) d = rw (getD-set-other r (s / 32) i v 0 n) (w i)
-    go (yes e) (no l) = rw (set-out r (s / 32) v (omega arith)) (w i)
-    go (yes e) (yes l) =
-        rw (e, getD-set-same r (s / 32) v 0 l) (or-lt 32 (getD r (s / 32) 0) (2 ^ (s % 32)) (w (s / 32)) (pow-lt {j = 32} (omega arith)))
+words-insert r s w =
+    each-set (λ x. x < wordRange) (words-or r (2 ^ (s % 32) ∷ []) (s / 32) 0 w (pow-lt {j = 32} (omega arith), tt)) r (s / 32) w
 
 -- ---- extensionality
 
 -- sets of as many words that contain the same states are equal
-pub contains-determines : (r t : StateSet) → length r ≡ length t → Words r → Words t → ((s : ℕ) → contains r s ≡ contains t s) → r ≡ t
+pub contains-determines : (r t : StateSet) → length r ≡ length t → AllBelow wordRange r → AllBelow wordRange t
+    → ((s : ℕ) → contains r s ≡ contains t s) → r ≡ t
 unfolding contains
-contains-determines r t e wr wt h = ext-getD 0 r t e (λ i l. bits-determine 32 (getD r i 0) (getD t i 0) (wr i) (wt i) (λ k m. bit i k m))
+contains-determines r t e wr wt h =
+    ext-getD 0 r t e (λ i l. bits-determine 32 (getD r i 0) (getD t i 0) (each-getD (λ x. x < wordRange) 0 r i wr l)
+    (each-getD (λ x. x < wordRange) 0 t i wt (omega arith)) (λ k m. bit i k m))
   where
     same : (x y : ℕ) → eqb (x % 2) 1 ≡ eqb (y % 2) 1 → x % 2 ≡ y % 2
     same x y = go (eqb (x % 2) 1) (eqb (y % 2) 1) refl refl

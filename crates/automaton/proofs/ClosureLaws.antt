@@ -1,19 +1,22 @@
--- A node's state set holds exactly the states that are reached there, and it is the only set of its size that does.
+-- A node's state set holds exactly the states that are reached there.
 use mathlib.Core.Path.{_≡_, _∙_, sym}
 use mathlib.Core.Logic.{_↔_}
 use mathlib.Core.Bool.{true, false, true≢false}
-use mathlib.Core.List.{List, _∷_, List·Memᴰ, List·Memᴰ·head, List·Memᴰ·tail}
+use mathlib.Core.List.{List, List·Memᴰ}
 use Prim.Native.Nat.{ℕ, _<_, _≤_}
 use native.Mathlib.Omega.{arith}
-use lib.ListN.{length, replicate, length-replicate}
-use Rattle.words.proofs.TestLaws.{Tested, holds, fails, tested, same-truth}
+use lib.ListN.{replicate, length-replicate}
+use Rattle.words.specs.Lists.{AllBelow}
+use Rattle.words.specs.Word.{wordRange}
+use Rattle.words.proofs.TestLaws.{Tested, holds, fails, tested}
+use Rattle.words.proofs.AllLaws.{each-at}
 use Rattle.automaton.specs.Transition.{Transition, Automaton, onSymbol, epsilon}
 use Rattle.automaton.specs.StateSet.{StateSet, sizeFor, contains, symbolPass, stateSet}
 use Rattle.automaton.specs.Reached.{Reached, bySymbol, byEpsilon}
-use Rattle.automaton.specs.Table.{TransitionOver, TransitionsOver, AutomatonOver}
-use Rattle.automaton.proofs.BitLaws.{Words, words-replicate, words-insert, contains-replicate, contains-determines}
+use Rattle.automaton.specs.Table.{TransitionOver, AutomatonOver}
+use Rattle.automaton.proofs.BitLaws.{words-replicate, words-insert, contains-replicate}
 use Rattle.automaton.proofs.KeepLaws.{symbolPass-keeps, epsilonClosure-keeps}
-use Rattle.automaton.proofs.SetLength.{length-symbolPass, length-stateSet}
+use Rattle.automaton.proofs.SetLength.{length-symbolPass}
 use Rattle.automaton.proofs.PassLaws.{Seeded, ClosedUnder, StatesWithin, In, epsilonClosure-grows, symbolPass-adds}
 use Rattle.automaton.proofs.PassLaws.{symbolPass-within, epsilonClosure-within, epsilonClosure-closed}
 
@@ -27,55 +30,30 @@ targetOf (epsilon p q) = q
 abbrev pub TargetsBelow : ℕ → List Transition → Type 0
 TargetsBelow n ts = (t : Transition) → List·Memᴰ t ts → targetOf t < n
 
-pub transition-over : (a : List ℕ) (n : ℕ) (ts : List Transition) → TransitionsOver a n ts → {t : Transition} → List·Memᴰ t ts
-    → TransitionOver a n t
-transition-over a n (u ∷ ts) o (List·Memᴰ·head e) = rw e (o .0)
-transition-over a n (u ∷ ts) o (List·Memᴰ·tail m) = transition-over a n ts (o .1) m
-
 pub targets-below : {a : List ℕ} {A : Automaton} → AutomatonOver a A → TargetsBelow (A .states) (A .transitions)
-targets-below {a} {A} o t m = go t (transition-over a (A .states) (A .transitions) (o .transitions) m)
+targets-below {a} {A} o t m = go t (each-at (TransitionOver a (A .states)) (A .transitions) (o .transitions) m)
   where
     go : (t : Transition) → TransitionOver a (A .states) t → targetOf t < A .states
     go (onSymbol f ps q) h = h .3
     go (epsilon p q) h = h .1
 
--- ---- the sets that hold what is reached
+-- ---- the state set
 
--- As code finds it, in any order: the set has its size, holds what the symbol transitions seed, is closed under the epsilon
--- transitions, and holds only what is reached.
-pub record IsStateSet (A : Automaton) (f : ℕ) (rs : List StateSet) (r : StateSet) : Type 0 where
-  pub size : length r ≡ sizeFor (A .states)
-  pub words : Words r
-  pub seeded : Seeded (A .transitions) f rs (In r)
-  pub closed : ClosedUnder (A .transitions) (In r)
-  pub reached : StatesWithin (Reached (A .transitions) f rs) r
-
+-- what holds of the states that the symbol transitions seed, and is kept along the epsilon transitions, holds of all reached
 pub seeded-closed-all : (ts : List Transition) (f : ℕ) (rs : List StateSet) (P : ℕ → Type 0)
     → Seeded ts f rs P → ClosedUnder ts P → {q : ℕ} → Reached ts f rs q → P q
 seeded-closed-all ts f rs P s c (bySymbol {q = q} {ps = ps} m e) = s ps q m e
 seeded-closed-all ts f rs P s c (byEpsilon {p = p} {q = q} m d) = c p q m (seeded-closed-all ts f rs P s c d)
 
-module _ {A : Automaton} {f : ℕ} {rs : List StateSet} {r : StateSet} where
-  pub isStateSet-reached : IsStateSet A f rs r → (q : ℕ) → (contains r q ≡ true) ↔ Reached (A .transitions) f rs q
-  isStateSet-reached i q = (i .reached q, seeded-closed-all (A .transitions) f rs (In r) (i .seeded) (i .closed))
-
-pub isStateSet-unique : {A : Automaton} {f : ℕ} {rs : List StateSet} {r t : StateSet} → IsStateSet A f rs r → IsStateSet A f rs t → r ≡ t
-isStateSet-unique {r = r} {t = t} i j =
-    contains-determines r t (i .size ∙ sym (j .size)) (i .words) (j .words)
-    (λ q. same-truth (contains r q) (contains t q)
-    (λ e. isStateSet-reached j q .1 (i .reached q e)) (λ e. isStateSet-reached i q .1 (j .reached q e)))
-
--- ---- the state set
-
 abbrev emptySet : ℕ → StateSet
 emptySet states = replicate (sizeFor states) 0
 
 module _ (A : Automaton) (f : ℕ) (rs : List StateSet) where
-  pub words-stateSet : Words (stateSet A f rs)
+  pub words-stateSet : AllBelow wordRange (stateSet A f rs)
   unfolding stateSet
   words-stateSet =
-      epsilonClosure-keeps Words words-insert _ (A .transitions) (symbolPass f rs (A .transitions) (emptySet (A .states)))
-      (symbolPass-keeps Words words-insert f rs (A .transitions) (emptySet (A .states)) (words-replicate (sizeFor (A .states))))
+      epsilonClosure-keeps (AllBelow wordRange) words-insert _ (A .transitions) (symbolPass f rs (A .transitions) (emptySet (A .states)))
+      (symbolPass-keeps (AllBelow wordRange) words-insert f rs (A .transitions) (emptySet (A .states)) (words-replicate (sizeFor (A .states))))
 
   -- it holds only what is reached, whatever the targets
   stateSet-within : StatesWithin (Reached (A .transitions) f rs) (stateSet A f rs)
@@ -96,25 +74,19 @@ module _ (A : Automaton) (f : ℕ) (rs : List StateSet) where
         epsilonClosure-grows _ (A .transitions) (symbolPass f rs (A .transitions) r) q
         (symbolPass-adds f rs (A .transitions) r ps q m (rw (length-replicate {A = ℕ} (sizeFor (A .states)) 0) (omega arith)) e)
 
-    stateSet-closed : ClosedUnder (A .transitions) (In (stateSet A f rs))
+    pub stateSet-closed : ClosedUnder (A .transitions) (In (stateSet A f rs))
     unfolding stateSet sizeFor
     stateSet-closed =
         let r = emptySet (A .states) in
         epsilonClosure-closed (A .states) (A .transitions) (λ p q m. below (epsilon p q) m) (symbolPass f rs (A .transitions) r)
         (rw (length-symbolPass f rs (A .transitions) r, length-replicate {A = ℕ} (sizeFor (A .states)) 0) (omega arith))
 
-    pub stateSet-is : IsStateSet A f rs (stateSet A f rs)
-    stateSet-is = record {
-      size = length-stateSet A f rs;
-      words = words-stateSet;
-      seeded = stateSet-seeded;
-      closed = stateSet-closed;
-      reached = stateSet-within;
-    }
-
     -- "for every state s, bit s mod 32 of word s / 32 is set exactly if s is reached"
     pub stateSet-reached : (q : ℕ) → (contains (stateSet A f rs) q ≡ true) ↔ Reached (A .transitions) f rs q
-    stateSet-reached = isStateSet-reached stateSet-is
+    stateSet-reached q = (
+      stateSet-within q,
+      seeded-closed-all (A .transitions) f rs (In (stateSet A f rs)) stateSet-seeded stateSet-closed,
+    )
 
     -- only states of the automaton are reached
     pub reached-below : {q : ℕ} → Reached (A .transitions) f rs q → q < A .states
@@ -128,7 +100,3 @@ module _ (A : Automaton) (f : ℕ) (rs : List StateSet) where
         go : Tested (contains (stateSet A f rs) q) → contains (stateSet A f rs) q ≡ false
         go (holds e) = absurd (let l = reached-below (stateSet-within q e) in omega arith)
         go (fails e) = e
-
-    -- every set with these facts is the state set
-    pub stateSet-unique : {r : StateSet} → IsStateSet A f rs r → r ≡ stateSet A f rs
-    stateSet-unique i = isStateSet-unique i stateSet-is

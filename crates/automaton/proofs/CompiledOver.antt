@@ -11,14 +11,16 @@ use Rattle.words.specs.Word.{lowByte}
 use Rattle.words.specs.Alphabet.{constantsOf, isConstant}
 use Rattle.words.specs.Postfix.{arity}
 use Rattle.words.specs.ExpressionWords.{expressionFault}
-use Rattle.words.proofs.AllLaws.{All, each-append, each-map, each-both, each-self}
+use Rattle.words.specs.Lists.{All, AllBelow}
+use Rattle.words.specs.Limits.{statesMost}
+use Rattle.words.proofs.AllLaws.{each-append, each-map, each-both, each-self, below-more}
 use Rattle.words.proofs.AlphabetLaws.{constantsOf-isConstant, isConstant-zero}
 use Rattle.words.proofs.Ascending.{Ascending, end, next, ascending-le, ascending-append, ascending-one}
 use Rattle.automaton.specs.Transition.{Transition, onSymbol, epsilon}
 use Rattle.automaton.specs.Numbering.{Port, statesOf, portOf, entryFor, epsilons, entryEpsilons, statesAfter}
 use Rattle.automaton.specs.Numbering.{ownTransitions, transitionsFrom, constantTransitions, lastPort}
 use Rattle.automaton.specs.Numbering.{compiled, symbolTargets, unionTargets, productTargets, closureTargets}
-use Rattle.automaton.specs.Table.{AllBelow, TransitionOver, TransitionsOver, AutomatonOver}
+use Rattle.automaton.specs.Table.{TransitionOver, AutomatonOver}
 use Rattle.automaton.proofs.EveryEntryLaws.{to-epsilons, to-entryEpsilons, to-constants, numbered-all}
 use Rattle.automaton.proofs.PortStates.{statesIn, Entries, every, own, missing, PortIn, Children, noChild, child, children-le}
 use Rattle.automaton.proofs.OwnTransitions.{Own, leaf, ofSymbol, ofUnion, ofProduct, ofClosure}
@@ -28,7 +30,7 @@ use Rattle.automaton.proofs.TargetLaws.{entryFor-ascending, symbol-asce
 
 -- ---- states below a bound
 
-below-of : {lo hi : ℕ} (n : ℕ) {xs : List ℕ} → Ascending lo hi xs → hi ≤ n → All (λ x. x < n) xs
+below-of : {lo hi : ℕ} (n : ℕ) {xs : List ℕ} → Ascending lo hi xs → hi ≤ n → AllBelow n xs
 below-of n (end h) l = tt
 below-of n (next h a) l = (lt-of-lt-of-le (ascending-le a) l, below-of n a l)
 
@@ -40,17 +42,9 @@ exits-below : {a : List ℕ} {lo hi : ℕ} (n : ℕ) {Ps : List Port} → Childr
 exits-below n (noChild h) l = tt
 exits-below n (child p c) l = (omega (arith, p .below, children-le _ c), exits-below n c l)
 
-over-all : (a : List ℕ) (n : ℕ) (ts : List Transition) → All (TransitionOver a n) ts → TransitionsOver a n ts
-over-all a n [] h = tt
-over-all a n (t ∷ ts) h = (h .0, over-all a n ts (h .1))
-
 module _ (a : List ℕ) where
   over-more : (m n : ℕ) → m ≤ n → (t : Transition) → TransitionOver a m t → TransitionOver a n t
-  over-more m n l (onSymbol f ps q) h = (h .0, h .1, go ps (h .2), lt-of-lt-of-le (h .3) l)
-    where
-      go : (ps : List ℕ) → AllBelow m ps → AllBelow n ps
-      go [] b = tt
-      go (p ∷ ps) b = (lt-of-lt-of-le (b .0) l, go ps (b .1))
+  over-more m n l (onSymbol f ps q) h = (h .0, h .1, below-more m n l ps (h .2), lt-of-lt-of-le (h .3) l)
   over-more m n l (epsilon p q) h = (lt-of-lt-of-le (h .0) l, lt-of-lt-of-le (h .1) l)
 
   -- ---- the own transitions of a word
@@ -129,7 +123,7 @@ module _ (a : List ℕ) where
       (each-both (λ e. isConstant a (e .0) ≡ true) (λ e. e .1 < n) (P .entries) (entries-constants (p .shape))
       (entries-below (P .entries) (p .states))))
 
-  pub compiled-over : (e : List ℕ) → expressionFault a e ≡ 0 → compiled a e .states ≤ 1024 → AutomatonOver a (compiled a e)
+  pub compiled-over : (e : List ℕ) → expressionFault a e ≡ 0 → compiled a e .states ≤ statesMost → AutomatonOver a (compiled a e)
   unfolding compiled
   compiled-over e f m =
       let N = statesAfter a 0 e in
@@ -141,5 +135,5 @@ module _ (a : List ℕ) where
         most = m;
         final = p .below;
         transitions =
-            over-all a N (cs ++ ts) (each-append (TransitionOver a N) cs ts (constants-over p) (reading-over (expression-reading a e f)));
+            each-append (TransitionOver a N) cs ts (constants-over p) (reading-over (expression-reading a e f));
       }

@@ -9,12 +9,12 @@ use native.Mathlib.Decide.{decLe}
 use native.Mathlib.Nat.{mul-le-mul-left}
 use lib.ListN.{length}
 use lib.Dec.{leb, eqb}
-use borrow.Author.Tests.{leb-true, leb-false, eqb-true, eqb-false, not-false}
+use borrow.Author.Tests.{leb-true, leb-false, eqb-true, eqb-false}
 use Rattle.words.specs.Limits.{constantsMost, rankMost, expressionMost, statesMost, compiledMost}
 use Rattle.words.specs.Alphabet.{constantsOf, alphabetFault}
 use Rattle.words.specs.Shape.{treesBy}
-use Rattle.words.specs.Postfix.{arity, trees, oneTree, notOneTree}
-use Rattle.words.specs.ExpressionWords.{expressionRefusals, expressionFault}
+use Rattle.words.specs.Postfix.{arity, trees}
+use Rattle.words.specs.ExpressionWords.{expressionFault}
 use Rattle.words.proofs.TestLaws.{picked}
 use Rattle.words.proofs.AcceptedAlphabet.{AcceptedAlphabet, alphabet-accepted, arity-most}
 use Rattle.automaton.specs.Transition.{tableWords}
@@ -72,7 +72,7 @@ few-words T B S n i l k t s c n≤ l≥ l≤ k≤ S≤ = go (decLe k 15)
     go : Dec (k ≤ 15) → T ≤ compiledMost
     go (yes h) = let p : i * suc k ≤ i * 16 = mul-le-mul-left i (omega arith) in omega arith
     go (no h) =
-        let e : k ≡ 16 = omega arith in
+        let e : k ≡ constantsMost = omega arith in
         let s′ : S ≡ i * 17 + l = rw e at s in
         omega arith
 

@@ -8,7 +8,8 @@ use mathlib.Core.List.{List, [], _∷_, _++_, flatMap, List·Memᴰ}
 use lib.Dec.{eqb}
 use borrow.Author.Tests.{eqb-false}
 use Rattle.words.specs.Tree.{Tree, Trees, node, more}
-use Rattle.words.proofs.AllLaws.{All, each-append, each-left, each-right, each-map, each-both}
+use Rattle.words.specs.Lists.{All}
+use Rattle.words.proofs.AllLaws.{each-append, each-left, each-right, each-map, each-both}
 use Rattle.language.specs.Expression.{Expression, Expressions, symbol, empty, union, product, closure, noneᵉ, moreᵉ}
 use Rattle.language.specs.Membership.{Language, Assignment, Substitution, Substitutions, atConstant}
 use Rattle.language.specs.Membership.{atSymbol, atNone, atMore, Product, Step, Member, Members}

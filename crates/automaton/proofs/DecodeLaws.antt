@@ -2,52 +2,54 @@
 use mathlib.Core.Path.{_≡_, refl, ap, _∙_}
 use mathlib.Core.Bool.{true, false}
 use mathlib.Core.List.{List, [], _∷_, _++_}
-use Prim.Native.Nat.{ℕ, _+_, _*_, _<_, _≤_}
+use Prim.Native.Nat.{ℕ, _+_, _<_, _≤_}
 use native.Mathlib.Omega.{arith}
 use lib.ListN.{length}
 use borrow.Author.Tests.{eq-eqb, ne-eqb}
-use Rattle.words.specs.Word.{transitionKind, epsilonKind, sourceKind, numberOf, hasKind}
+use Rattle.words.specs.Word.{transitionKind, epsilonKind, sourceKind, numberOf, hasKind, aboveState, stateRange, symbolRange}
 use Rattle.words.specs.Word.{wordOf, symbolAbove, countAbove, stateAbove, stateBelow, kindNumber}
+use Rattle.words.specs.Lists.{AllBelow}
+use Rattle.words.specs.Limits.{statesMost}
 use Rattle.automaton.specs.Transition.{Transition, Automaton, onSymbol, epsilon, sourceWords, transitionsWords}
 use Rattle.automaton.specs.Transition.{headWord, tableWords, sourcesAt, transitionsAt, automatonOf}
-use Rattle.automaton.specs.Table.{AllBelow, TransitionsOver, AutomatonOver}
+use Rattle.automaton.specs.Table.{TransitionsOver, AutomatonOver}
 
 -- ---- one word
 
-module _ (f q : ℕ) (ws : List ℕ) (lf : f < 256) (lq : q < 1024) where
-  at-symbol : transitionsAt (wordOf transitionKind (f * 1024 + q) ∷ ws) ≡ onSymbol f (sourcesAt ws) q ∷ transitionsAt ws
+module _ (f q : ℕ) (ws : List ℕ) (lf : f < symbolRange) (lq : q < stateRange) where
+  at-symbol : transitionsAt (wordOf transitionKind (aboveState f q) ∷ ws) ≡ onSymbol f (sourcesAt ws) q ∷ transitionsAt ws
   unfolding transitionsAt
   at-symbol =
-      let w = wordOf transitionKind (f * 1024 + q) in
+      let w = wordOf transitionKind (aboveState f q) in
       let k : hasKind transitionKind w ≡ true = eq-eqb (numberOf w) (kindNumber transitionKind) (omega arith) in
       let s : symbolAbove w ≡ f = omega arith in
       let t : stateBelow w ≡ q = omega arith in
       rw (k, s, t)
 
-  no-source-symbol : sourcesAt (wordOf transitionKind (f * 1024 + q) ∷ ws) ≡ []
+  no-source-symbol : sourcesAt (wordOf transitionKind (aboveState f q) ∷ ws) ≡ []
   no-source-symbol =
-      let w = wordOf transitionKind (f * 1024 + q) in
+      let w = wordOf transitionKind (aboveState f q) in
       let k : hasKind sourceKind w ≡ false = ne-eqb (numberOf w) (kindNumber sourceKind) (omega arith) in
       rw k
 
-module _ (p q : ℕ) (ws : List ℕ) (lp : p < 1024) (lq : q < 1024) where
-  at-epsilon : transitionsAt (wordOf epsilonKind (p * 1024 + q) ∷ ws) ≡ epsilon p q ∷ transitionsAt ws
+module _ (p q : ℕ) (ws : List ℕ) (lp : p < stateRange) (lq : q < stateRange) where
+  at-epsilon : transitionsAt (wordOf epsilonKind (aboveState p q) ∷ ws) ≡ epsilon p q ∷ transitionsAt ws
   unfolding transitionsAt
   at-epsilon =
-      let w = wordOf epsilonKind (p * 1024 + q) in
+      let w = wordOf epsilonKind (aboveState p q) in
       let n : hasKind transitionKind w ≡ false = ne-eqb (numberOf w) (kindNumber transitionKind) (omega arith) in
       let k : hasKind epsilonKind w ≡ true = eq-eqb (numberOf w) (kindNumber epsilonKind) (omega arith) in
       let s : stateAbove w ≡ p = omega arith in
       let t : stateBelow w ≡ q = omega arith in
       rw (n, k, s, t)
 
-  no-source-epsilon : sourcesAt (wordOf epsilonKind (p * 1024 + q) ∷ ws) ≡ []
+  no-source-epsilon : sourcesAt (wordOf epsilonKind (aboveState p q) ∷ ws) ≡ []
   no-source-epsilon =
-      let w = wordOf epsilonKind (p * 1024 + q) in
+      let w = wordOf epsilonKind (aboveState p q) in
       let k : hasKind sourceKind w ≡ false = ne-eqb (numberOf w) (kindNumber sourceKind) (omega arith) in
       rw k
 
-module _ (p : ℕ) (ws : List ℕ) (lp : p < 1024) where
+module _ (p : ℕ) (ws : List ℕ) (lp : p < stateRange) where
   at-source : transitionsAt (wordOf sourceKind p ∷ ws) ≡ transitionsAt ws
   unfolding transitionsAt
   at-source =
@@ -65,7 +67,7 @@ module _ (p : ℕ) (ws : List ℕ) (lp : p < 1024) where
 
 -- ---- all words
 
-module _ (a : List ℕ) (n : ℕ) (few : length a ≤ 256) (most : n ≤ 1024) where
+module _ (a : List ℕ) (n : ℕ) (few : length a ≤ symbolRange) (most : n ≤ statesMost) where
   -- the words of source states are skipped where a transition is looked for
   sources-skipped : (ps ws : List ℕ) → AllBelow n ps → transitionsAt (sourceWords ps ++ ws) ≡ transitionsAt ws
   sources-skipped [] ws b = refl
@@ -94,7 +96,7 @@ module _ (a : List ℕ) (n : ℕ) (few : length a ≤ 256) (most : n ≤ 1024) w
       ∙ ap (λ l. epsilon p q ∷ l) (transitionsAt-words ts (o .1))
 
 -- an automaton is the one that its table gives back
-pub automatonOf-words : (a : List ℕ) → length a ≤ 256 → {A : Automaton} → AutomatonOver a A → automatonOf (tableWords A) ≡ A
+pub automatonOf-words : (a : List ℕ) → length a ≤ symbolRange → {A : Automaton} → AutomatonOver a A → automatonOf (tableWords A) ≡ A
 unfolding automatonOf
 automatonOf-words a few {A} o =
     let most = o .most in

@@ -7,7 +7,8 @@ use native.Mathlib.Omega.{arith}
 use lib.ListN.{length, drop}
 use Rattle.words.specs.Postfix.{arity}
 use Rattle.words.specs.ExpressionWords.{expressionFault}
-use Rattle.words.proofs.AllLaws.{All, each-append, each-map}
+use Rattle.words.specs.Lists.{All}
+use Rattle.words.proofs.AllLaws.{each-append, each-map}
 use Rattle.words.proofs.Ascending.{Ascending, next}
 use Rattle.words.proofs.DistinctLaws.{Distinct, distinct-append}
 use Rattle.automaton.specs.Transition.{Transition, onSymbol, epsilon}

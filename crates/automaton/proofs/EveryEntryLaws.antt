@@ -5,7 +5,8 @@ use mathlib.Core.Bool.{Bool, true, false, cond}
 use mathlib.Core.List.{List, [], _∷_, List·Memᴰ, List·Memᴰ·head, List·Memᴰ·tail}
 use lib.Dec.{eqb}
 use borrow.Author.Tests.{eqb-true, eqb-false}
-use Rattle.words.proofs.AllLaws.{All, each-append, each-left, each-right}
+use Rattle.words.specs.Lists.{All}
+use Rattle.words.proofs.AllLaws.{each-append, each-left, each-right}
 use Rattle.automaton.specs.Transition.{Transition, onSymbol, epsilon}
 use Rattle.automaton.specs.Numbering.{numbered, lookup, epsilons, entryEpsilons, constantTransitions}
 

@@ -3,7 +3,8 @@ use Prim.Native.Nat.{ℕ}
 use mathlib.Core.Logic.{_↔_}
 use mathlib.Core.List.{List, [], _∷_, _++_, flatMap}
 use Rattle.words.specs.Tree.{Tree, Trees, node, none, more}
-use Rattle.words.proofs.AllLaws.{All, each-append, each-at, each-map}
+use Rattle.words.specs.Lists.{All}
+use Rattle.words.proofs.AllLaws.{each-append, each-at, each-map}
 use Rattle.language.specs.Expression.{Expression, Expressions, noneᵉ, moreᵉ}
 use Rattle.language.specs.Membership.{Assignment}
 use Rattle.automaton.specs.Transition.{Transition, onSymbol, epsilon}

@@ -10,6 +10,7 @@ use Rattle.words.specs.Alphabet.{isEntry, rankOf, isConstant, constantsFrom, co
 use Rattle.words.specs.Shape.{treesBy}
 use Rattle.words.specs.Postfix.{arity, notOneTree}
 use Rattle.words.specs.ExpressionWords.{isExpressionWord, wrongLength, notExpressionWords, expressionFault}
+use Rattle.words.specs.Limits.{statesMost}
 use Rattle.automaton.specs.Transition.{tableWords}
 use Rattle.automaton.specs.Numbering.{hasEntries, statesOf, portOf, ownTransitions, portsFrom, statesAfter, transitionsFrom, compiled}
 
@@ -17,11 +18,12 @@ use Rattle.automaton.specs.Numbering.{hasEntries, statesOf, portOf, ownT
 abbrev alphabet : List ℕ
 alphabet = replicate constantsMost 0x1000_0000 ++ (0x1000_0004 ∷ [])
 
--- the symbol over four constants, under 59 closures over the first constant
+-- "60 words with entries and 4 constants, over 16 constants, make exactly 1,024 states": the symbol over four constants, under
+-- 59 closures over the first constant
 abbrev largest : List ℕ
 largest = replicate 4 0x2000_0000 ++ (0x2000_0010 ∷ replicate 59 0x6000_0000)
 
--- 61 closures over one constant
+-- "61 closures over one constant make 1,038"
 abbrev overLimit : List ℕ
 overLimit = 0x2000_0000 ∷ replicate 61 0x6000_0000
 

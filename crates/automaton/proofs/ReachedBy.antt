@@ -8,7 +8,8 @@ use mathlib.Core.List.{List, [], List·Memᴰ}
 use lib.Dec.{eqb}
 use borrow.Author.Tests.{eqb-true, eqb-false}
 use Rattle.words.specs.Tree.{Tree}
-use Rattle.words.proofs.AllLaws.{All, each-map, each-both, each-self}
+use Rattle.words.specs.Lists.{All}
+use Rattle.words.proofs.AllLaws.{each-map, each-both, each-self}
 use Rattle.language.specs.Expression.{Expression, symbol, empty, union, product, closure, noneᵉ, moreᵉ}
 use Rattle.language.specs.Membership.{Language, Assignment}
 use Rattle.language.proofs.SubstitutionLaws.{assigned}

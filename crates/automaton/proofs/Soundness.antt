@@ -9,7 +9,8 @@ use lib.Dec.{eqb}
 use borrow.Author.Tests.{eqb-true, eqb-false}
 use native.Mathlib.Decide.{ℕ-discrete}
 use Rattle.words.specs.Tree.{Tree, Trees, node, none, more}
-use Rattle.words.proofs.AllLaws.{All, each-append, each-map}
+use Rattle.words.specs.Lists.{All}
+use Rattle.words.proofs.AllLaws.{each-append, each-map}
 use Rattle.language.specs.Expression.{Expression, Expressions, symbol, empty, union, product, closure, noneᵉ, moreᵉ}
 use Rattle.language.specs.Membership.{Language, Assignment, constant, Substitutions, atSymbol, atNone, atMore, Member, Members}
 use Rattle.language.proofs.SubstitutionLaws.{itself, assigned, Under, product-out, closure-base, closure-step}

@@ -1,5 +1,5 @@
 -- How many states a compiled automaton has: one for each constant or empty word, and for any other word one more than there
--- are constants. From it document 01's limits on expressions.
+-- are constants.
 use Prim.Native.Nat.{ℕ, suc, _+_, _*_}
 use mathlib.Core.Path.{_≡_, refl, _∙_}
 use mathlib.Core.Bool.{Bool, true, false, not, cond}
@@ -45,11 +45,3 @@ module _ (a : List ℕ) where
   pub states-counted : (e : List ℕ) → compiled a e .states ≡ innerWords a e * suc (length (constantsOf a)) + leafWords a e
   unfolding compiled
   states-counted e = omega (arith, states-from e 0)
-
-  -- "60 words with entries and 4 constants, over 16 constants, make exactly 1,024 states"
-  pub states-limit : (e : List ℕ) → length (constantsOf a) ≡ 16 → innerWords a e ≡ 60 → leafWords a e ≡ 4 → compiled a e .states ≡ 1024
-  states-limit e k i l = simp (states-counted, k, i, l)
-
-  -- "61 closures over one constant make 1,038"
-  pub states-over : (e : List ℕ) → length (constantsOf a) ≡ 16 → innerWords a e ≡ 61 → leafWords a e ≡ 1 → compiled a e .states ≡ 1038
-  states-over e k i l = simp (states-counted, k, i, l)

@@ -3,16 +3,16 @@ use mathlib.Core.Path.{_≡_, ap, ap₂, _∙_, sym, subst}
 use mathlib.Core.Logic.{_↔_}
 use mathlib.Core.Bool.{true, _&&_, false≢true}
 use mathlib.Core.List.{List, [], _∷_}
-use Prim.Native.Nat.{ℕ, _+_, _*_, _<_, _≤_}
+use Prim.Native.Nat.{ℕ, _<_, _≤_}
 use native.Mathlib.Omega.{arith}
 use lib.ListN.{length}
 use lib.Dec.{ltb, leb}
 use borrow.Author.Tests.{lt-ltb, ltb-true, le-leb, leb-true}
-use Rattle.words.specs.Word.{headKind, fieldRange, isOf, wordOf, countAbove, stateBelow, aboveState}
+use Rattle.words.specs.Word.{headKind, fieldRange, isOf, wordOf, countAbove, stateBelow, aboveState, symbolRange, numberOf, kindNumber}
+use Rattle.words.specs.Limits.{statesMost, tableMost}
 use Rattle.words.proofs.TestLaws.{and-true, true-and}
 use Rattle.words.proofs.KindLaws.{isOf-facts, isOf-wordOf}
 use Rattle.automaton.specs.Transition.{Automaton, transitionsWords, headWord, tableWords, automatonOf}
-use Rattle.automaton.specs.StateSet.{sizeFor}
 use Rattle.automaton.specs.Table.{isHead, areTransitions, isTable, AutomatonOver}
 use Rattle.automaton.proofs.DecodeLaws.{automatonOf-words}
 use Rattle.automaton.proofs.TransitionWordLaws.{transitions-parsed, transitions-pass}
@@ -20,74 +20,89 @@ use Rattle.automaton.proofs.TransitionWordLaws.{transitions-parsed, tra
 -- ---- the head
 
 -- what `isHead` says: the word of a state count and a final state below it
-record Head (w : ℕ) : Type 0 where
-  some : 0 < countAbove w
-  most : countAbove w ≤ 1024
-  final : stateBelow w < countAbove w
-  word : wordOf headKind (countAbove w * 1024 + stateBelow w) ≡ w
+pub record Head (w : ℕ) : Type 0 where
+  pub number : numberOf w ≡ kindNumber headKind
+  pub some : 0 < countAbove w
+  pub most : countAbove w ≤ statesMost
+  pub final : stateBelow w < countAbove w
+  pub word : wordOf headKind (aboveState (countAbove w) (stateBelow w)) ≡ w
 
 head-facts : (w : ℕ) → isHead w ≡ true → Head w
 unfolding isHead
 head-facts w h =
-    let b = and-true (isOf headKind w && ltb 0 (countAbove w) && leb (countAbove w) 1024) (ltb (stateBelow w) (countAbove w)) h in
-    let c = and-true (isOf headKind w && ltb 0 (countAbove w)) (leb (countAbove w) 1024) (b .0) in
+    let b = and-true (isOf headKind w && ltb 0 (countAbove w) && leb (countAbove w) statesMost) (ltb (stateBelow w) (countAbove w)) h in
+    let c = and-true (isOf headKind w && ltb 0 (countAbove w)) (leb (countAbove w) statesMost) (b .0) in
     let d = and-true (isOf headKind w) (ltb 0 (countAbove w)) (c .0) in
+    let i = isOf-facts headKind w (d .0) in
     record {
+      number = i .number;
       some = ltb-true 0 (countAbove w) (d .1);
-      most = leb-true (countAbove w) 1024 (c .1);
+      most = leb-true (countAbove w) statesMost (c .1);
       final = ltb-true (stateBelow w) (countAbove w) (b .1);
-      word = let i = isOf-facts headKind w (d .0) in omega arith;
+      word = omega arith;
     }
 
-head-passes : (n f : ℕ) → 0 < n → n ≤ 1024 → f < n → isHead (wordOf headKind (aboveState n f)) ≡ true
+head-passes : (n f : ℕ) → 0 < n → n ≤ statesMost → f < n → isHead (wordOf headKind (aboveState n f)) ≡ true
 unfolding isHead
 head-passes n f some most final =
     let w = wordOf headKind (aboveState n f) in
     let lw : aboveState n f < fieldRange headKind = omega arith in
     let s : 0 < countAbove w = omega arith in
-    let m : countAbove w ≤ 1024 = omega arith in
+    let m : countAbove w ≤ statesMost = omega arith in
     let t : stateBelow w < countAbove w = omega arith in
     rw (
       isOf-wordOf headKind (aboveState n f) lw,
       lt-ltb 0 (countAbove w) s,
-      le-leb (countAbove w) 1024 m,
+      le-leb (countAbove w) statesMost m,
       lt-ltb (stateBelow w) (countAbove w) t,
     )
 
 -- ---- tables
+
+-- what `isTable` says: not too many words, a head, and transitions behind it
+pub record TableParts (a : List ℕ) (w : ℕ) (ws : List ℕ) : Type 0 where
+  pub fits : length (w ∷ ws) ≤ tableMost
+  pub head : Head w
+  pub rest : areTransitions a (countAbove w) 0 ws ≡ true
+
+pub isTable-parts : (a : List ℕ) (w : ℕ) (ws : List ℕ) → isTable a (w ∷ ws) ≡ true → TableParts a w ws
+unfolding isTable
+isTable-parts a w ws h =
+    let b = and-true (leb (length (w ∷ ws)) tableMost && isHead w) (areTransitions a (countAbove w) 0 ws) h in
+    let c = and-true (leb (length (w ∷ ws)) tableMost) (isHead w) (b .0) in
+    record { fits = leb-true (length (w ∷ ws)) tableMost (c .0); head = head-facts w (c .1); rest = b .1 }
 
 -- the table of an automaton over the alphabet, of at most 2,048 words
 pub record TableOver (a table : List ℕ) : Type 0 where
   pub automaton : Automaton
   pub over : AutomatonOver a automaton
   pub words : tableWords automaton ≡ table
-  pub fits : length table ≤ 2048
+  pub fits : length table ≤ tableMost
 
-module _ (a : List ℕ) (few : length a ≤ 256) where
+module _ (a : List ℕ) (few : length a ≤ symbolRange) where
   isTable-over : (table : List ℕ) → isTable a table ≡ true → TableOver a table
   unfolding isTable
   isTable-over [] h = absurd (false≢true h)
   isTable-over (w ∷ ws) h =
-      let b = and-true (leb (length (w ∷ ws)) 2048 && isHead w) (areTransitions a (countAbove w) 0 ws) h in
-      let c = and-true (leb (length (w ∷ ws)) 2048) (isHead w) (b .0) in
-      let i = head-facts w (c .1) in
-      let j = transitions-parsed a (countAbove w) ws (b .1) in
+      let p = isTable-parts a w ws h in
+      let i = p .head in
+      let j = transitions-parsed a (countAbove w) ws (p .rest) in
       record {
         automaton = record { states = countAbove w; final = stateBelow w; transitions = j .transitions };
         over = record { some = i .some; most = i .most; final = i .final; transitions = j .over };
         words = ap₂ (λ x l. x ∷ l) (i .word) (j .words);
-        fits = leb-true (length (w ∷ ws)) 2048 (c .0);
+        fits = p .fits;
       }
 
-  pub words-isTable : {A : Automaton} → AutomatonOver a A → length (tableWords A) ≤ 2048 → isTable a (tableWords A) ≡ true
+  pub words-isTable : {A : Automaton} → AutomatonOver a A → length (tableWords A) ≤ tableMost → isTable a (tableWords A) ≡ true
   unfolding isTable
   words-isTable {A} o l =
       let most = o .most in
       let final = o .final in
       let s : countAbove (headWord A) ≡ A .states = omega arith in
-      true-and (leb (length (tableWords A)) 2048 && isHead (headWord A))
+      true-and (leb (length (tableWords A)) tableMost && isHead (headWord A))
       (areTransitions a (countAbove (headWord A)) 0 (transitionsWords (A .transitions)))
-      (true-and (leb (length (tableWords A)) 2048) (isHead (headWord A)) (le-leb (length (tableWords A)) 2048 l)
+      (true-and (leb (length (tableWords A)) tableMost) (isHead (headWord A)) (le-leb (length (tableWords A)) tableMost l)
       (head-passes (A .states) (A .final) (o .some) (o .most) (o .final)))
       (rw s (transitions-pass a (A .states) few (o .most) (A .transitions) (o .transitions)))
 
@@ -95,7 +110,7 @@ module _ (a : List ℕ) (few : length a ≤ 256) where
   pub isTable-tables : (table : List ℕ) → (isTable a table ≡ true) ↔ TableOver a table
   isTable-tables table = (
     isTable-over table,
-    λ i. rw (sym (i .words)) (words-isTable (i .over) (subst (λ t. length t ≤ 2048) (sym (i .words)) (i .fits))),
+    λ i. rw (sym (i .words)) (words-isTable (i .over) (subst (λ t. length t ≤ tableMost) (sym (i .words)) (i .fits))),
   )
 
   -- the automaton that is read from a table is the one whose table it is
@@ -105,23 +120,14 @@ module _ (a : List ℕ) (few : length a ≤ 256) where
   pub isTable-automaton : (table : List ℕ) → isTable a table ≡ true → AutomatonOver a (automatonOf table)
   isTable-automaton table h = let i = isTable-over table h in subst (AutomatonOver a) (sym (automatonOf-table i)) (i .over)
 
-  pub isTable-words : (table : List ℕ) → isTable a table ≡ true → tableWords (automatonOf table) ≡ table
-  isTable-words table h = let i = isTable-over table h in ap tableWords (automatonOf-table i) ∙ i .words
-
 -- ---- sizes
 
--- a state set of a table has 1 to 32 words
 pub record Sizes (A : Automaton) : Type 0 where
   pub some : 0 < A .states
-  pub most : A .states ≤ 1024
+  pub most : A .states ≤ statesMost
   pub final : A .final < A .states
-  pub size-some : 0 < sizeFor (A .states)
-  pub size-most : sizeFor (A .states) ≤ 32
 
 pub isTable-sizes : (a table : List ℕ) → isTable a table ≡ true → Sizes (automatonOf table)
-unfolding isTable automatonOf sizeFor
+unfolding isTable automatonOf
 isTable-sizes a [] h = absurd (false≢true h)
-isTable-sizes a (w ∷ ws) h =
-    let b = and-true (leb (length (w ∷ ws)) 2048 && isHead w) (areTransitions a (countAbove w) 0 ws) h in
-    let i = head-facts w (and-true (leb (length (w ∷ ws)) 2048) (isHead w) (b .0) .1) in
-    record { some = i .some; most = i .most; final = i .final; size-some = omega arith; size-most = omega arith }
+isTable-sizes a (w ∷ ws) h = let i = isTable-parts a w ws h .head in record { some = i .some; most = i .most; final = i .final }

@@ -7,6 +7,7 @@ use mathlib.Core.List.{List, []}
 use lib.ListN.{length}
 use Rattle.words.specs.Alphabet.{rankOf, constantsOf}
 use Rattle.words.specs.Tree.{Tree}
+use Rattle.words.specs.Limits.{alphabetMost}
 use Rattle.words.proofs.AlphabetLaws.{zero-isConstant, constantsOf-isConstant}
 use Rattle.words.proofs.AllLaws.{each-self, each-left, each-right, each-map}
 use Rattle.language.specs.Expression.{Expression, Expressions, symbol, empty, union, product, closure, noneᵉ}
@@ -71,7 +72,7 @@ abbrev pub Accepts : Automaton → Tree → Type 0
 Accepts A t = Reaches (A .transitions) (A .final) t
 
 -- the theorem, of the very automaton that the table of a rule encodes
-pub thompson : (a : List ℕ) (E : Expression) → length a ≤ 64 → ExpressionOver a E → (t : Tree)
+pub thompson : (a : List ℕ) (E : Expression) → length a ≤ alphabetMost → ExpressionOver a E → (t : Tree)
     → Accepts (compiled a (expressionWords E)) t ↔ Member E t
 thompson a E l o t =
     subst (λ A. Accepts A t ↔ Member E t) (sym (compiled-tree a l E o)) (thompson-tree (constantsOf a) E (constants-listed a E o) t)

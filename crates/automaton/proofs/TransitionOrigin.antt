@@ -8,7 +8,8 @@ use native.Mathlib.Omega.{arith}
 use lib.ListN.{length, take, drop}
 use Rattle.words.specs.Word.{lowByte}
 use Rattle.words.specs.Postfix.{arity}
-use Rattle.words.proofs.AllLaws.{All, each-append}
+use Rattle.words.specs.Lists.{All}
+use Rattle.words.proofs.AllLaws.{each-append}
 use Rattle.words.proofs.Ascending.{Ascending, next, ascending-le}
 use Rattle.automaton.specs.Transition.{Transition, onSymbol, epsilon}
 use Rattle.automaton.specs.Numbering.{Port, statesOf, portOf, entryFor, epsilons, entryEpsilons}

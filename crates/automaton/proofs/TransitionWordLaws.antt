@@ -3,28 +3,30 @@ use mathlib.Core.Path.{_≡_, refl, ap, ap₂, _∙_, sym}
 use mathlib.Core.Logic.{_⊎_, inl, inr}
 use mathlib.Core.Bool.{Bool, true, _&&_, _||_, or-true as or-right}
 use mathlib.Core.List.{List, [], _∷_, _++_}
-use Prim.Native.Nat.{ℕ, zero, suc, _+_, _*_, _<_, _≤_}
+use Prim.Native.Nat.{ℕ, zero, suc, _+_, _<_, _≤_}
 use native.Mathlib.Omega.{arith}
 use lib.ListN.{length}
 use lib.Dec.{ltb}
 use borrow.Author.Tests.{eq-eqb, ne-eqb, eqb-true, lt-ltb, ltb-true}
-use Rattle.words.specs.Word.{transitionKind, epsilonKind, sourceKind, numberOf, isOf}
+use Rattle.words.specs.Word.{transitionKind, epsilonKind, sourceKind, numberOf, isOf, stateRange, symbolRange}
 use Rattle.words.specs.Word.{fieldRange, wordOf, symbolAbove, stateAbove, stateBelow, kindNumber, aboveState}
 use Rattle.words.specs.Alphabet.{isSymbol, rankOf}
+use Rattle.words.specs.Lists.{AllBelow}
+use Rattle.words.specs.Limits.{statesMost}
 use Rattle.words.proofs.TestLaws.{and-true, true-and, or-true}
 use Rattle.words.proofs.KindLaws.{isOf-facts, isOf-wordOf}
 use Rattle.automaton.specs.Transition.{Transition, onSymbol, epsilon, sourceWords, transitionsWords}
-use Rattle.automaton.specs.Table.{isTableWord, sourcesLeft, areTransitions, AllBelow, TransitionsOver}
+use Rattle.automaton.specs.Table.{isTableWord, sourcesLeft, areTransitions, TransitionsOver}
 
 -- ---- one word from its fields
 
 source-word : (w : ℕ) → isOf sourceKind w ≡ true → w ≡ wordOf sourceKind (stateBelow w)
 source-word w h = let i = isOf-facts sourceKind w h in omega arith
 
-symbol-word : (w : ℕ) → isOf transitionKind w ≡ true → w ≡ wordOf transitionKind (symbolAbove w * 1024 + stateBelow w)
+symbol-word : (w : ℕ) → isOf transitionKind w ≡ true → w ≡ wordOf transitionKind (aboveState (symbolAbove w) (stateBelow w))
 symbol-word w h = let i = isOf-facts transitionKind w h in omega arith
 
-epsilon-word : (w : ℕ) → isOf epsilonKind w ≡ true → w ≡ wordOf epsilonKind (stateAbove w * 1024 + stateBelow w)
+epsilon-word : (w : ℕ) → isOf epsilonKind w ≡ true → w ≡ wordOf epsilonKind (aboveState (stateAbove w) (stateBelow w))
 epsilon-word w h = let i = isOf-facts epsilonKind w h in omega arith
 
 -- the words of a table behind its head, where k source states are still to come: source states, and then transitions
@@ -135,14 +137,14 @@ module _ (a : List ℕ) (n : ℕ) where
 
   -- ---- the words of transitions pass
 
-  module _ (few : length a ≤ 256) (most : n ≤ 1024) where
+  module _ (few : length a ≤ symbolRange) (most : n ≤ statesMost) where
     sources-pass : (ps ws : List ℕ) → AllBelow n ps → areTransitions a n 0 ws ≡ true
         → areTransitions a n (length ps) (sourceWords ps ++ ws) ≡ true
     unfolding areTransitions isTableWord sourcesLeft
     sources-pass [] ws b h = h
     sources-pass (p ∷ ps) ws b h =
         let w = wordOf sourceKind p in
-        let l : p < 1024 = omega (arith, b .0) in
+        let l : p < stateRange = omega (arith, b .0) in
         let t : stateBelow w < n = omega (arith, b .0) in
         true-and (isOf sourceKind w && ltb (stateBelow w) n) (areTransitions a n (length ps) (sourceWords ps ++ ws))
         (true-and (isOf sourceKind w) (ltb (stateBelow w) n) (isOf-wordOf sourceKind p l) (lt-ltb (stateBelow w) n t))
@@ -170,8 +172,8 @@ module _ (a : List ℕ) (n : ℕ) where
     transitions-pass (onSymbol f ps q ∷ ts) o =
         let w = wordOf transitionKind (aboveState f q) in
         let s = symbol-passes f q (o .0 .0) (o .0 .3) in
-        let lf : f < 256 = omega (arith, o .0 .0) in
-        let lq : q < 1024 = omega (arith, o .0 .3) in
+        let lf : f < symbolRange = omega (arith, o .0 .0) in
+        let lq : q < stateRange = omega (arith, o .0 .3) in
         let g : symbolAbove w ≡ f = omega arith in
         let k : sourcesLeft a 0 w ≡ length ps = left-symbol w s ∙ ap (rankOf a) g ∙ o .0 .1 in
         true-and (symbolTest w || epsilonTest w) (areTransitions a n (sourcesLeft a 0 w) (sourceWords ps ++ transitionsWords ts)) (rw s)

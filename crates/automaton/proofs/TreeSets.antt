@@ -12,7 +12,7 @@ use Rattle.automaton.specs.Transition.{Transition, Automaton}
 use Rattle.automaton.specs.StateSet.{StateSet, contains, allContained, stateSet}
 use Rattle.automaton.specs.Reached.{Reached, bySymbol, byEpsilon, Reaches, ReachesAll, onNode, onEpsilon, onNone, onMore}
 use Rattle.automaton.proofs.PassLaws.{ClosedUnder, In}
-use Rattle.automaton.proofs.ClosureLaws.{TargetsBelow, stateSet-is, stateSet-reached}
+use Rattle.automaton.proofs.ClosureLaws.{TargetsBelow, stateSet-closed, stateSet-reached}
 
 -- the state set of a tree, and those of a node's children
 abbrev pub treeSet : Automaton → Tree → StateSet
@@ -45,7 +45,7 @@ module _ (A : Automaton) (below : TargetsBelow (A .states) (A .transitions)) whe
         onMore (contained-reaches t p (b .0)) (allContained-reaches us ps (b .1))
 
   treeSet-closed : (t : Tree) → ClosedUnder (A .transitions) (In (treeSet A t))
-  treeSet-closed (node f us) = stateSet-is A f (treeSets A us) below .closed
+  treeSet-closed (node f us) = stateSet-closed A f (treeSets A us) below
 
   mutual
     unfolding allContained

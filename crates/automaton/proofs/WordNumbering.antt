@@ -8,6 +8,7 @@ use lib.Seq.{getD-append-add}
 use Rattle.words.specs.Alphabet.{constantsOf}
 use Rattle.words.specs.Tree.{postfixAll}
 use Rattle.words.specs.Postfix.{arity}
+use Rattle.words.specs.Limits.{alphabetMost}
 use Rattle.words.proofs.ReadingLaws.{take-pushed, drop-pushed}
 use Rattle.language.specs.Expression.{Expression, Expressions, symbol, empty, union, product, closure, noneᵉ, moreᵉ}
 use Rattle.language.specs.Expression.{syntaxTrees, expressionWords, numberᵉ, ExpressionOver, ExpressionsOver}
@@ -122,7 +123,7 @@ module _ (a : List ℕ) where
       split : (rest : List ℕ) → expressionWords E ++ rest ≡ postfixAll (syntaxTrees (parts E)) ++ (lastWord E ∷ rest)
       split rest = ap (λ (l : List ℕ). l ++ rest) (words-split E) ∙ append-assoc (postfixAll (syntaxTrees (parts E))) (lastWord E ∷ []) rest
 
-  module _ (l : length a ≤ 64) where
+  module _ (l : length a ≤ alphabetMost) where
     reads-two : (F G : Expression) (n : ℕ) → ExpressionOver a F → ExpressionOver a G → ReadsAll (parts F) n
         → ReadsAll (parts G) (next cs F n) → ReadsAll (moreᵉ F (moreᵉ G noneᵉ)) n
     reads-two F G n oF oG rF rG =
@@ -176,7 +177,7 @@ module _ (a : List ℕ) where
   abbrev pub treeAutomaton : Expression → Automaton
   treeAutomaton E = record { states = next cs E 0; final = exitState cs E 0; transitions = treeTransitions cs E }
 
-  module _ (l : length a ≤ 64) (E : Expression) (o : ExpressionOver a E) where
+  module _ (l : length a ≤ alphabetMost) (E : Expression) (o : ExpressionOver a E) where
     compiled-states : statesAfter a 0 (expressionWords E) ≡ next cs E 0
     unfolding statesAfter
     compiled-states = ap (statesAfter a 0) (sym (append-nil (expressionWords E))) ∙ reads l E 0 o .states []

@@ -5,6 +5,7 @@ use mathlib.Core.List.{List, [], _∷_}
 use mathlib.Core.Bool.{Bool, false, not, cond, _&&_, _||_}
 use lib.ListN.{length}
 use lib.Dec.{ltb, leb, eqb}
+use Rattle.words.specs.Lists.{All, AllBelow}
 use Rattle.words.specs.Limits.{statesMost, tableMost}
 use Rattle.words.specs.Word.{headKind, transitionKind, epsilonKind, sourceKind, hasKind}
 use Rattle.words.specs.Word.{isOf, symbolAbove, countAbove, stateAbove, stateBelow}
@@ -47,17 +48,12 @@ noTable a table = not (isTable a table)
 -- The same of automata: each symbol is known and stands over rank-many part states, and each state is below the state
 -- count. The words that 8 does not refuse are exactly the tables of such automata, of at most 2,048 words (law
 -- `isTable-tables`).
-abbrev pub AllBelow : ℕ → List ℕ → Type 0
-AllBelow n [] = Unit {0}
-AllBelow n (p ∷ ps) = (p < n) × AllBelow n ps
-
 abbrev pub TransitionOver : List ℕ → ℕ → Transition → Type 0
 TransitionOver a n (onSymbol f ps q) = (f < length a) × (rankOf a f ≡ length ps) × AllBelow n ps × (q < n)
 TransitionOver a n (epsilon p q) = (p < n) × (q < n)
 
 abbrev pub TransitionsOver : List ℕ → ℕ → List Transition → Type 0
-TransitionsOver a n [] = Unit {0}
-TransitionsOver a n (t ∷ ts) = TransitionOver a n t × TransitionsOver a n ts
+TransitionsOver a n = All (TransitionOver a n)
 
 pub record AutomatonOver (a : List ℕ) (A : Automaton) : Type 0 where
   pub some : 0 < A .states

@@ -9,7 +9,7 @@ use lib.ListN.{length, getD}
 use Rattle.words.specs.Word.{stateBelow}
 use Rattle.automaton.specs.Transition.{automatonOf}
 use Rattle.automaton.specs.StateSet.{StateSet, contains}
-use Rattle.index.specs.Index.{IndexedTable}
+use Rattle.index.specs.Index.{IndexedTable, keyCount, stateKey}
 use Rattle.closures.specs.Closure.{Closed, PendingStack, Search, Puttable, Put, FollowableAt, Followed, work}
 use Rattle.index.proofs.ChainLaws.{FirstWith, EpsilonWord, nextWith, next-some, next-none, keyed-epsilon}
 use Rattle.closures.proofs.KeyedWordLaws.{closed-epsilon, epsilon-below, epsilon-reached}
@@ -25,26 +25,26 @@ pub record EpsilonsAt (table index : List ℕ) (p : ℕ) (r₀ : StateSet) (pend
     (top : ℕ) : Type 0 where
   pub checked : IndexedTable table index
   pub from : ℕ
-  pub at : i ≡ nextWith table (256 + p) from
+  pub at : i ≡ nextWith table (stateKey p) from
   pub size : length pending ≡ length pending₀
   pub stack : PendingStack table r pending top
   pub less : work table r top ≤ work table r₀ top₀
   pub present : contains r p ≡ true
-  pub search : (base : StateSet) (o : ℕ) → Closed table base → Search table base o (256 + p) 0 r₀ pending₀ top₀
-      → Search table base o (256 + p) from r pending top
+  pub search : (base : StateSet) (o : ℕ) → Closed table base → Search table base o (stateKey p) 0 r₀ pending₀ top₀
+      → Search table base o (stateKey p) from r pending top
 
 -- a state of the set has a chain
 pub key-inside : {table index : List ℕ} {p : ℕ} {r : StateSet} {pending : List ℕ} {top : ℕ} → FollowableAt table index p r pending top
-    → 256 + p < 1280
+    → stateKey p < keyCount
 key-inside {p = p} g = let b = g .followable .stack .below p (g .present) in omega (arith, states-most (g .followable .checked))
 
 pub epsilons-first : {table index : List ℕ} {p : ℕ} {r : StateSet} {pending : List ℕ} {top : ℕ} → FollowableAt table index p r pending top
-    → EpsilonsAt table index p r pending top (getD index (256 + p) 0) r pending top
+    → EpsilonsAt table index p r pending top (getD index (stateKey p) 0) r pending top
 epsilons-first {p = p} g =
     record {
       checked = g .followable .checked;
       from = 0;
-      at = chain-first (g .followable .checked) (256 + p) (key-inside g);
+      at = chain-first (g .followable .checked) (stateKey p) (key-inside g);
       size = refl;
       stack = g .followable .stack;
       less = omega arith;
@@ -54,10 +54,10 @@ epsilons-first {p = p} g =
 
 module _ {table index : List ℕ} {p : ℕ} {r₀ : StateSet} {pending₀ : List ℕ} {top₀ i : ℕ} {r : StateSet} {pending : List ℕ} {top : ℕ}
     (s : EpsilonsAt table index p r₀ pending₀ top₀ i r pending top) where
-  key-small : 256 + p < 1280
+  key-small : stateKey p < keyCount
   key-small = key-inside (record { followable = record { checked = s .checked; stack = s .stack }; present = s .present })
 
-  pub epsilons-end : i ≤ 0 → Followed table (256 + p) 0 r₀ pending₀ top₀ r pending top
+  pub epsilons-end : i ≤ 0 → Followed table (stateKey p) 0 r₀ pending₀ top₀ r pending top
   epsilons-end h =
       record {
         stack = s .stack;
@@ -66,7 +66,7 @@ module _ {table index : List ℕ} {p : ℕ} {r₀ : StateSet} {pending₀ : List
       }
 
   module _ (h : 0 < i) where
-    epsilons-next : FirstWith table (256 + p) (s .from) i
+    epsilons-next : FirstWith table (stateKey p) (s .from) i
     epsilons-next = next-some (s .at) h
 
     pub epsilons-in : InChain table index i
@@ -81,11 +81,11 @@ module _ {table index : List ℕ} {p : ℕ} {r₀ : StateSet} {pending₀ : List
     pub epsilons-puttable : Puttable r pending top (stateBelow (getD table i 0))
     epsilons-puttable = stack-puttable (states-most (s .checked)) (s .stack) reaches-below
 
-    pub epsilons-less : left table (getD index (1280 + i) 0) < left table i
+    pub epsilons-less : left table (getD index (keyCount + i) 0) < left table i
     epsilons-less = left-less (s .checked) epsilons-next key-small h
 
     pub epsilons-more : {t : StateSet} {pushed : List ℕ} {height : ℕ} → Put r pending top (stateBelow (getD table i 0)) t pushed height
-        → EpsilonsAt table index p r₀ pending₀ top₀ (getD index (1280 + i) 0) t pushed height
+        → EpsilonsAt table index p r₀ pending₀ top₀ (getD index (keyCount + i) 0) t pushed height
     epsilons-more {t} {pushed} {height} q =
         let most = states-most (s .checked) in
         record {
@@ -99,8 +99,8 @@ module _ {table index : List ℕ} {p : ℕ} {r₀ : StateSet} {pending₀ : List
           search = λ base o k g. search base o k (s .search base o k g);
         }
       where
-        search : (base : StateSet) (o : ℕ) → Closed table base → Search table base o (256 + p) (s .from) r pending top
-            → Search table base o (256 + p) (i + 1) t pushed height
+        search : (base : StateSet) (o : ℕ) → Closed table base → Search table base o (stateKey p) (s .from) r pending top
+            → Search table base o (stateKey p) (i + 1) t pushed height
         search base o k g =
             let most = states-most (s .checked) in
             let reached = epsilon-reached (s .checked) i (epsilons-next .inside) epsilons-at base o k (g .reached p (s .present)) in
@@ -125,7 +125,7 @@ module _ {table : List ℕ} {r₀ : StateSet} {pending₀ : List ℕ} {top₀ : 
     pending-present = s .stack .inside below (omega arith)
 
     module _ {t : StateSet} {pushed : List ℕ} {height : ℕ}
-        (g : Followed table (256 + getD pending below 0) 0 r pending below t pushed height) where
+        (g : Followed table (stateKey (getD pending below 0)) 0 r pending below t pushed height) where
       pub pending-more : Followed table 0 (length table) r₀ pending₀ top₀ t pushed height
       pending-more =
           record {

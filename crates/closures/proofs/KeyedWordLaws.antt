@@ -1,5 +1,5 @@
 -- The transition that begins at a word of a table: its key tells it, what it leads to is reached, and when it adds nothing.
-use mathlib.Core.Path.{_≡_, refl, sym, subst}
+use mathlib.Core.Path.{_≡_, refl, subst}
 use mathlib.Core.Logic.{_⊎_, inl, inr, ⊎-elim}
 use mathlib.Core.Bool.{true}
 use mathlib.Core.List.{List, List·Memᴰ, List·Memᴰ·head, List·Memᴰ·not-nil, List·Memᴰ·eq-of-singleton}
@@ -10,14 +10,15 @@ use borrow.Author.Tests.{eqb-true, eq-eqb, ne-eqb}
 use Rattle.words.specs.Word.{transitionKind, epsilonKind, kindNumber, hasKind, numberOf, symbolAbove, stateAbove, stateBelow}
 use Rattle.words.specs.Alphabet.{rankOf}
 use Rattle.words.proofs.TestLaws.{Tested, holds, fails, tested}
+use Rattle.words.proofs.AllLaws.{each-at}
 use Rattle.automaton.proofs.PassLaws.{closed-test}
 use Rattle.automaton.specs.Transition.{Transition, onSymbol, epsilon, sourcesAt, automatonOf}
 use Rattle.automaton.specs.StateSet.{StateSet, contains, allContained}
 use Rattle.automaton.specs.Reached.{Reached, bySymbol}
-use Rattle.automaton.specs.Table.{AutomatonOver}
-use Rattle.automaton.proofs.ClosureLaws.{transition-over, targets-below}
+use Rattle.automaton.specs.Table.{AutomatonOver, TransitionOver}
+use Rattle.automaton.proofs.ClosureLaws.{targets-below}
 use Rattle.automaton.proofs.TableLaws.{isTable-automaton}
-use Rattle.index.specs.Index.{keyOf}
+use Rattle.index.specs.Index.{keyOf, stateKey}
 use Rattle.index.specs.Index.{IndexedTable}
 use Rattle.closures.specs.Closure.{ReachedFrom, onward, Closed, ClosedAt, startsAt}
 use Rattle.index.proofs.ChainLaws.{SymbolWord, EpsilonWord, key-symbol, key-epsilon}
@@ -53,7 +54,7 @@ module _ (table : List ℕ) (i : ℕ) where
   starts-symbol m = ⊎-elim (λ e. key-symbol (getD table i 0) e (let h = starts-on e m in cc))
       (λ e. let h = starts-from e m in let z : _≡_ {A = ℕ} 0 1 = cc in absurd (omega arith)) (starts-kind m)
 
-  pub starts-epsilon : {p q : ℕ} → List·Memᴰ (epsilon p q) (startsAt table i) → keyOf (getD table i 0) ≡ 256 + p
+  pub starts-epsilon : {p q : ℕ} → List·Memᴰ (epsilon p q) (startsAt table i) → keyOf (getD table i 0) ≡ stateKey p
   starts-epsilon m = ⊎-elim (λ e. let h = starts-on e m in let z : _≡_ {A = ℕ} 0 1 = cc in absurd (omega arith))
       (λ e. key-epsilon (getD table i 0) e (let h = starts-from e m in cc)) (starts-kind m)
 
@@ -94,7 +95,8 @@ module _ {table index : List ℕ} (c : IndexedTable table index) (i : ℕ) (insi
     -- as many part states as the symbol's rank
     pub symbol-sources : rankOf (c .alphabet) f ≡ length (sourcesAt (drop (i + 1) table))
     symbol-sources =
-        transition-over (c .alphabet) (automatonOf table .states) (automatonOf table .transitions) (over .transitions) symbol-member .1
+        each-at (TransitionOver (c .alphabet) (automatonOf table .states)) (automatonOf table .transitions) (over .transitions)
+        symbol-member .1
 
   module _ {p : ℕ} (s : EpsilonWord (getD table i 0) p) where
     epsilon-member : List·Memᴰ (epsilon p (stateBelow (getD table i 0))) (automatonOf table .transitions)

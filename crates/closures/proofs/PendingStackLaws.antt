@@ -8,6 +8,7 @@ use native.Mathlib.Decide.{ℕ-discrete}
 use lib.ListN.{length, getD, set, length-set}
 use lib.Seq.{getD-set-same, getD-set-other}
 use Rattle.words.specs.Lists.{listFrom}
+use Rattle.words.specs.Limits.{statesMost}
 use Rattle.words.proofs.TestLaws.{Tested, holds, fails, tested}
 use Rattle.words.proofs.CountLaws.{count-most, count-more, listFrom-member}
 use Rattle.words.proofs.ListLaws.{length-listFrom}
@@ -52,7 +53,7 @@ missing-most n r = omega arith
 
 -- ---- the stack
 
-module _ {table : List ℕ} (most : automatonOf table .states ≤ 1024) {r : StateSet} {pending : List ℕ} {top : ℕ}
+module _ {table : List ℕ} (most : automatonOf table .states ≤ statesMost) {r : StateSet} {pending : List ℕ} {top : ℕ}
     (h : PendingStack table r pending top)
     {s : ℕ} (below : s < automatonOf table .states) where
   fewer : contains r s ≡ false → missing (automatonOf table .states) (insert r s) < missing (automatonOf table .states) r

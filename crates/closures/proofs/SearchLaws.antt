@@ -9,10 +9,11 @@ use native.Mathlib.Omega.{arith}
 use native.Mathlib.Decide.{ℕ-discrete, decLt}
 use lib.ListN.{length, getD, set}
 use lib.Seq.{getD-set-same, getD-set-other}
+use Rattle.words.specs.Limits.{statesMost}
 use Rattle.automaton.specs.Transition.{automatonOf}
 use Rattle.automaton.specs.StateSet.{StateSet, contains, insert}
 use Rattle.automaton.proofs.BitLaws.{words-insert, insert-same, insert-other, insert-keeps}
-use Rattle.index.specs.Index.{keyOf}
+use Rattle.index.specs.Index.{keyOf, stateKey}
 use Rattle.closures.specs.Closure.{ReachedFrom, itself, ClosedAt, SettledAt, satisfied}
 use Rattle.closures.specs.Closure.{waiting, PendingStack, Search, Settled, Put, ClosedSet}
 use Rattle.index.proofs.ChainLaws.{FirstWith}
@@ -23,22 +24,22 @@ use Rattle.closures.proofs.PendingStackLaws.{put-cases, stack-puttable}
 
 -- the epsilon transitions from the new state wait, and every other word stays settled
 module _ (table : List ℕ) (r : StateSet) (pending : List ℕ) (top s : ℕ) (fits : top < length pending) (i : ℕ) where
-  stays-closed : (keyOf (getD table i 0) ≡ 256 + s → ⊥) → ClosedAt table r i → ClosedAt table (insert r s) i
+  stays-closed : (keyOf (getD table i 0) ≡ stateKey s → ⊥) → ClosedAt table r i → ClosedAt table (insert r s) i
   stays-closed n h p q m e =
-      insert-keeps r s q (h p q m (sym (insert-other r s p (λ x. n (starts-epsilon table i m ∙ ap (λ (y : ℕ). 256 + y) x))) ∙ e))
+      insert-keeps r s q (h p q m (sym (insert-other r s p (λ x. n (starts-epsilon table i m ∙ ap stateKey x))) ∙ e))
 
   settled-insert : SettledAt table r pending top i → SettledAt table (insert r s) (set pending top s) (top + 1) i
   settled-insert (waiting k l e) =
-      waiting k (omega arith) (e ∙ sym (ap (λ (y : ℕ). 256 + y) (getD-set-other pending top k s 0 (λ x. omega arith))))
-  settled-insert (satisfied h) = go (ℕ-discrete (keyOf (getD table i 0)) (256 + s))
+      waiting k (omega arith) (e ∙ sym (ap stateKey (getD-set-other pending top k s 0 (λ x. omega arith))))
+  settled-insert (satisfied h) = go (ℕ-discrete (keyOf (getD table i 0)) (stateKey s))
     where
-      go : Dec (keyOf (getD table i 0) ≡ 256 + s) → SettledAt table (insert r s) (set pending top s) (top + 1) i
-      go (yes e) = waiting top (omega arith) (e ∙ sym (ap (λ (y : ℕ). 256 + y) (getD-set-same pending top s 0 fits)))
+      go : Dec (keyOf (getD table i 0) ≡ stateKey s) → SettledAt table (insert r s) (set pending top s) (top + 1) i
+      go (yes e) = waiting top (omega arith) (e ∙ sym (ap stateKey (getD-set-same pending top s 0 fits)))
       go (no n) = satisfied (stays-closed n h)
 
 module _ {table : List ℕ} {base : StateSet} {o : ℕ} where
   module _ {key from : ℕ} {r : StateSet} {pending : List ℕ} {top : ℕ} (g : Search table base o key from r pending top) where
-    pub search-put : automatonOf table .states ≤ 1024 → PendingStack table r pending top → {s : ℕ} → s < automatonOf table .states
+    pub search-put : automatonOf table .states ≤ statesMost → PendingStack table r pending top → {s : ℕ} → s < automatonOf table .states
         → (contains base s ≡ true) ⊎ ReachedFrom (automatonOf table .transitions) o s → {t : StateSet} {pushed : List ℕ} {height : ℕ}
         → Put r pending top s t pushed height
         → Search table base o key from t pushed height
@@ -94,7 +95,7 @@ module _ {table : List ℕ} {base : StateSet} {o : ℕ} where
   -- ---- the top of the stack is taken
 
   pub search-pop : {r : StateSet} {pending : List ℕ} {top : ℕ} → Settled table base o r pending top → (below : ℕ) → below + 1 ≡ top
-      → Search table base o (256 + getD pending below 0) 0 r pending below
+      → Search table base o (stateKey (getD pending below 0)) 0 r pending below
   search-pop {r} {pending} {top} g below e =
       record {
         words = g .words;
@@ -105,13 +106,13 @@ module _ {table : List ℕ} {base : StateSet} {o : ℕ} where
             (g .settled i l (λ k. l));
       }
     where
-      go : (i : ℕ) → (keyOf (getD table i 0) ≡ 256 + getD pending below 0 → i < 0) → SettledAt table r pending top i
+      go : (i : ℕ) → (keyOf (getD table i 0) ≡ stateKey (getD pending below 0) → i < 0) → SettledAt table r pending top i
           → SettledAt table r pending below i
       go i h (satisfied d) = satisfied d
       go i h (waiting k l q) = at (ℕ-discrete k below)
         where
           at : Dec (k ≡ below) → SettledAt table r pending below i
-          at (yes x) = absurd (let u = h (q ∙ ap (λ (y : ℕ). 256 + getD pending y 0) x) in omega arith)
+          at (yes x) = absurd (let u = h (q ∙ ap (λ (y : ℕ). stateKey (getD pending y 0)) x) in omega arith)
           at (no x) = waiting k (omega arith) q
 
   -- with nothing on the stack, no epsilon transition adds anything
@@ -136,7 +137,7 @@ module _ (table : List ℕ) (base : StateSet) (pending : List ℕ) (s : ℕ) (se
         settled = λ i l k. satisfied (closed i l);
       }
 
-  pub search-first : s < 1024 → 0 < length pending → Settled table base s (insert base s) (set pending 0 s) 1
+  pub search-first : s < statesMost → 0 < length pending → Settled table base s (insert base s) (set pending 0 s) 1
   search-first few fits =
       record {
         words = words-insert base s (set-is .words);

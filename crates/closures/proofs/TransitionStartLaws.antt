@@ -1,19 +1,17 @@
 -- A table's transitions are those that begin at its words; its head begins none.
 use mathlib.Core.Path.{_≡_, refl, ap, sym, subst}
 use mathlib.Core.Logic.{⊎-elim}
-use mathlib.Core.Bool.{true, _&&_, false≢true}
+use mathlib.Core.Bool.{true, false≢true}
 use mathlib.Core.List.{List, [], _∷_, _++_, List·Memᴰ, Memᴰ·append-left, Memᴰ·append-right, List·Memᴰ·append-cases, List·Memᴰ·not-nil}
 use Prim.Native.Nat.{ℕ, zero, suc, _<_}
 use native.Mathlib.Omega.{arith}
 use native.Mathlib.Nat.{suc-add}
 use lib.ListN.{length, getD, drop}
-use lib.Dec.{ltb, leb}
 use borrow.Author.Tests.{ne-eqb}
-use Rattle.words.specs.Word.{headKind, numberOf, isOf, countAbove, stateBelow, epsilonKind, transitionKind, kindNumber}
-use Rattle.words.proofs.TestLaws.{and-true}
-use Rattle.words.proofs.KindLaws.{isOf-facts}
+use Rattle.words.specs.Word.{numberOf, epsilonKind, transitionKind, kindNumber}
 use Rattle.automaton.specs.Transition.{Transition, transitionAt, transitionsAt, automatonOf}
-use Rattle.automaton.specs.Table.{isHead, areTransitions, isTable}
+use Rattle.automaton.specs.Table.{isTable}
+use Rattle.automaton.proofs.TableLaws.{isTable-parts}
 use Rattle.closures.specs.Closure.{startsAt}
 
 -- ---- one word more in front
@@ -53,17 +51,9 @@ starts-member (w ∷ ws) (suc i) t l m =
 
 -- ---- the head
 
-head-number : (w : ℕ) → isHead w ≡ true → numberOf w ≡ kindNumber headKind
-unfolding isHead
-head-number w h =
-    let b = and-true (isOf headKind w && ltb 0 (countAbove w) && leb (countAbove w) 1024) (ltb (stateBelow w) (countAbove w)) h in
-    let c = and-true (isOf headKind w && ltb 0 (countAbove w)) (leb (countAbove w) 1024) (b .0) in
-    isOf-facts headKind w (and-true (isOf headKind w) (ltb 0 (countAbove w)) (c .0) .0) .number
-
 pub table-transitions : (a table : List ℕ) → isTable a table ≡ true → transitionsAt table ≡ automatonOf table .transitions
 unfolding isTable automatonOf transitionsAt
 table-transitions a [] h = absurd (false≢true h)
 table-transitions a (w ∷ ws) h =
-    let b = and-true (leb (length (w ∷ ws)) 2048 && isHead w) (areTransitions a (countAbove w) 0 ws) h in
-    let e = head-number w (and-true (leb (length (w ∷ ws)) 2048) (isHead w) (b .0) .1) in
+    let e = isTable-parts a w ws h .head .number in
     rw (ne-eqb (numberOf w) (kindNumber transitionKind) (λ i. omega arith), ne-eqb (numberOf w) (kindNumber epsilonKind) (λ i. omega arith))

@@ -1,13 +1,14 @@
 -- The epsilon closure of one state, as code works it out: states are reached one after another, and a stack holds those whose
 -- epsilon transitions are still to be followed. Closures that were worked out are kept for other nodes. These definitions
 -- serve inner functions.
-use Prim.Native.Nat.{ℕ, _+_, _-_, _*_, _^_, _%_, _<_, _≤_}
+use Prim.Native.Nat.{ℕ, _+_, _-_, _*_, _%_, _<_, _≤_}
 use mathlib.Core.Path.{_≡_}
 use mathlib.Core.Bool.{Bool, true, false, cond}
 use mathlib.Core.Logic.{_⊎_}
 use mathlib.Core.List.{List, List·Memᴰ}
 use lib.ListN.{length, getD, drop, set}
-use Rattle.words.specs.Lists.{count, listFrom}
+use Rattle.words.specs.Lists.{count, listFrom, AllBelow}
+use Rattle.words.specs.Word.{wordRange}
 use Rattle.words.specs.Limits.{statesMost}
 use Rattle.automaton.specs.Transition.{Transition, epsilon, transitionAt, automatonOf}
 use Rattle.automaton.specs.StateSet.{StateSet, contains, insert, isClosed}
@@ -26,12 +27,16 @@ pub data ReachedFrom (ts : List Transition) (s : ℕ) : ℕ → Type 0 where
 abbrev pub Closed : List ℕ → StateSet → Type 0
 Closed table r = isClosed (automatonOf table .transitions) r ≡ true
 
+-- a closed set of as many words as a set may have
+pub record ClosedSet (table : List ℕ) (r : StateSet) : Type 0 where
+  pub size : length r ≡ setMost
+  pub words : AllBelow wordRange r
+  pub closed : Closed table r
+
 -- a set with the states that are reached from state s, and no other
 pub record ClosureOf (table : List ℕ) (s : ℕ) (r : StateSet) : Type 0 where
-  pub size : length r ≡ setMost
-  pub words : (i : ℕ) → getD r i 0 < 2 ^ 32
+  pub set : ClosedSet table r
   pub holds : contains r s ≡ true
-  pub closed : Closed table r
   pub within : (q : ℕ) → contains r q ≡ true → ReachedFrom (automatonOf table .transitions) s q
 
 -- ---- the closures that are kept
@@ -67,10 +72,14 @@ pub data SettledAt (table : List ℕ) (r : StateSet) (pending : List ℕ) (top i
 unfoldable pub missing : ℕ → StateSet → ℕ
 missing n r = n - count (contains r) (listFrom (λ q. q) 0 n)
 
+-- all states of the set are the table's
+abbrev pub StatesBelow : List ℕ → StateSet → Type 0
+StatesBelow table r = (q : ℕ) → contains r q ≡ true → q < automatonOf table .states
+
 -- The first `top` words of the stack are states of the set. No state is pushed twice, so the stack has room.
 pub record PendingStack (table : List ℕ) (r : StateSet) (pending : List ℕ) (top : ℕ) : Type 0 where
   pub size : length r ≡ setMost
-  pub below : (q : ℕ) → contains r q ≡ true → q < automatonOf table .states
+  pub below : StatesBelow table r
   pub fits : automatonOf table .states ≤ length pending
   pub few : missing (automatonOf table .states) r + top ≤ automatonOf table .states
   pub inside : (k : ℕ) → k < top → contains r (getD pending k 0) ≡ true
@@ -78,7 +87,7 @@ pub record PendingStack (table : List ℕ) (r : StateSet) (pending : List ℕ) (
 -- The closure of state s while it is put into a set that was `base`: the set holds s, the states of `base`, and otherwise only
 -- states that are reached from s; every word is settled, but for those with this key from word `from` on.
 pub record Search (table : List ℕ) (base : StateSet) (s key from : ℕ) (r : StateSet) (pending : List ℕ) (top : ℕ) : Type 0 where
-  pub words : (i : ℕ) → getD r i 0 < 2 ^ 32
+  pub words : AllBelow wordRange r
   pub grown : (q : ℕ) → contains base q ≡ true → contains r q ≡ true
   pub holds : contains r s ≡ true
   pub reached : (q : ℕ) → contains r q ≡ true → (contains base q ≡ true) ⊎ ReachedFrom (automatonOf table .transitions) s q
@@ -129,25 +138,17 @@ pub record Closable (table index : List ℕ) (s : ℕ) (pending : List ℕ) : Ty
   pub state : s < automatonOf table .states
   pub fits : automatonOf table .states ≤ length pending
 
--- a set with states of the table, closed under the epsilon transitions
-pub record ClosedSet (table : List ℕ) (r : StateSet) : Type 0 where
-  pub size : length r ≡ setMost
-  pub words : (i : ℕ) → getD r i 0 < 2 ^ 32
-  pub below : (q : ℕ) → contains r q ≡ true → q < automatonOf table .states
-  pub closed : Closed table r
-
 -- a state, and a closed set for its closure to be put into
 pub record Addable (table index : List ℕ) (s : ℕ) (pending : List ℕ) (r : StateSet) : Type 0 where
   pub closable : Closable table index s pending
   pub set : ClosedSet table r
+  pub below : StatesBelow table r
 
 -- t has the states of r and of the closure of state s, and no other
 pub record Added (table : List ℕ) (s : ℕ) (r t : StateSet) : Type 0 where
-  pub size : length t ≡ setMost
-  pub words : (i : ℕ) → getD t i 0 < 2 ^ 32
+  pub set : ClosedSet table t
   pub grown : (q : ℕ) → contains r q ≡ true → contains t q ≡ true
   pub holds : contains t s ≡ true
-  pub closed : Closed table t
   pub within : (q : ℕ) → contains t q ≡ true → (contains r q ≡ true) ⊎ ReachedFrom (automatonOf table .transitions) s q
 
 -- a state, and the closures that are kept
@@ -164,6 +165,7 @@ pub record Kept (table : List ℕ) (s : ℕ) (b : Bool) (owners rows : List ℕ)
 pub record Joinable (table index : List ℕ) (s : ℕ) (owners rows pending : List ℕ) (r : StateSet) : Type 0 where
   pub keepable : Keepable table index s owners rows pending
   pub set : ClosedSet table r
+  pub below : StatesBelow table r
 
 -- the closure of state s was put into the set
 pub record JoinedClosure (table : List ℕ) (s : ℕ) (r t : StateSet) (owners rows : List ℕ) : Type 0 where

@@ -4,7 +4,7 @@ ghost use lib.ListN.{length};
 ghost use Rattle.index.specs.Index.{stateKey};
 ghost use Rattle.closures.specs.Closure.{Puttable, Put, Followable, FollowableAt, Followed, Closable, ClosureOf};
 ghost use Rattle.closures.specs.Closure.{Addable, Added, Keepable, Kept, Joinable, JoinedClosure};
-use index::KEYS;
+use index::KEY_COUNT;
 use index::STATE_KEYS;
 use sets::state::SET_MOST;
 use sets::state::contains;
@@ -20,7 +20,7 @@ pub const ROWS_MOST: usize = 64;
 pub const ROWS_LENGTH: usize = ROWS_MOST * SET_MOST;
 
 // Puts state s into the set and on the stack, if it is not in the set. Answers the stack's height.
-fn reach(set: &mut [u32], pending: &mut [u32], top: usize, s: usize) -> usize
+fn put_state(set: &mut [u32], pending: &mut [u32], top: usize, s: usize) -> usize
     requires { ⌜ Puttable (now set) (now pending) top s ⌝ }
     ensures { λ r. ⌜ Put (now (set .entry)) (now (pending .entry)) top s (now (set .exit)) (now (pending .exit)) r ⌝ }
 {
@@ -50,8 +50,8 @@ fn follow_epsilons(
     let mut i = index[STATE_KEYS + p] as usize;
     while 0 < i {
         let target = (table[i] % STATE_RANGE) as usize;
-        height = reach(set, pending, height, target);
-        i = index[KEYS + i] as usize;
+        height = put_state(set, pending, height, target);
+        i = index[KEY_COUNT + i] as usize;
     }
     height
 }
@@ -78,7 +78,7 @@ fn add_closure(table: &[u32], index: &[u32], state: usize, set: &mut [u32], pend
     requires { ⌜ Addable (now table) (now index) state (now pending) (now set) ⌝ }
     ensures { λ _. ⌜ Added (now (table .entry)) state (now (set .entry)) (now (set .exit)) ⌝ }
 {
-    let top = reach(set, pending, 0, state);
+    let top = put_state(set, pending, 0, state);
     follow_pending(table, index, set, pending, top);
 }
 

@@ -8,16 +8,15 @@ use native.Mathlib.Nat.{add-mul, one-mul}
 use lib.ListN.{length, take}
 use lib.Seq.{slice, length-take-le}
 use Rattle.words.specs.Limits.{nodesMost}
-use Rattle.words.specs.Postfix.{arity, startOf, splice}
+use Rattle.words.specs.Postfix.{arity, startOf}
 use Rattle.words.proofs.PostfixLaws.{start-le}
-use Rattle.automaton.proofs.TableLaws.{isTable-sizes}
 use Rattle.operations.specs.Marks.{sizeOf, refit}
 use Rattle.operations.specs.ExchangeCall.{ExchangeCall}
 use Rattle.operations.specs.Exchange.{used, fault, newTree}
 use Rattle.operations.proofs.AcceptedLaws.{CallAccepted, call-accepted}
 use Rattle.operations.proofs.ResultLaws.{result-accepted}
 use Rattle.sets.specs.Size.{setMost, marksMost}
-use Rattle.sets.proofs.StoredLaws.{words-few}
+use Rattle.sets.proofs.SizeLaws.{words-few, set-small}
 use Rattle.refusals.proofs.ReplacementRefusalLaws.{result-length}
 use Rattle.nodes.specs.Nodes.{Workable}
 use Rattle.nodes.proofs.WorkableLaws.{workable-long, run-workable}
@@ -81,7 +80,7 @@ module _ (c : ExchangeCall) (ok : fault c ≡ 0) where
     call-numbers =
         let inside = g .change .element in
         let low : s ≤ c .element = rw qs (start-le (arity (c .alphabet)) (used c) (c .element)) in
-        let small : size ≤ setMost = rw qz (isTable-sizes (c .alphabet) (c .table) (g .checked .automaton) .size-most) in
+        let small : size ≤ setMost = rw qz (set-small (c .alphabet) (c .table) (g .checked .automaton)) in
         let m = length (c .replacement) in
         let k = restCount c in
         let total : s + m + k ≡ length (newTree c) =

@@ -11,7 +11,7 @@ use lib.ListN.{length, getD, take, drop, length-map, length-append, List·getD-a
 use lib.Seq.{paste, slice, getD-drop, getD-append-add, getD-set-same, getD-set-other, take-take}
 use Rattle.words.specs.Lists.{listFrom}
 use Rattle.words.specs.Shape.{spliceBy}
-use Rattle.words.specs.Postfix.{arity, startOf, isAncestor, splice}
+use Rattle.words.specs.Postfix.{arity, isAncestor, splice}
 use Rattle.words.proofs.TestLaws.{Tested, holds, fails, tested}
 use Rattle.words.proofs.ListLaws.{length-listFrom}
 use Rattle.words.proofs.PostfixLaws.{length-splice}
@@ -109,8 +109,10 @@ module _ (c : ExchangeCall) (ok : fault c ≡ 0) where
   length-replaced : (k : ℕ) → length (replaced k) ≡ length tree
   length-replaced k =
       let g = call-accepted c ok in
-      length-replacedSets a table stored ch element xs gap he (g .change .replacement .tree .shape) (g .change .replacement .counted .some) length-gap k
-      ∙ length-movedSets a table stored ch element xs gap he (g .change .replacement .tree .shape) (g .change .replacement .counted .some) length-gap
+      let shape = g .change .replacement .tree .shape in
+      let some = g .change .replacement .counted .some in
+      length-replacedSets a table stored ch element xs gap he shape some length-gap k
+      ∙ length-movedSets a table stored ch element xs gap he shape some length-gap
       ∙ sym (length-splice (arity a) ch element xs he)
 
   -- the replacement's nodes, worked out in the marks
@@ -199,7 +201,8 @@ module _ (c : ExchangeCall) (ok : fault c ≡ 0) where
           words =
               λ t. sym (getD-drop (s + length xs) tree t 0)
               ∙ ap (λ (l : List ℕ). getD l t 0)
-              (words-behind a table stored ch element xs gap he (g .change .replacement .tree .shape) (g .change .replacement .counted .some) length-gap)
+              (words-behind a table stored ch element xs gap he (g .change .replacement .tree .shape)
+              (g .change .replacement .counted .some) length-gap)
               ∙ getD-drop (element + 1) ch t 0;
           ancestors = λ t. ap (isAncestor a ch element) (omega arith);
           holding = holding-first (arity a) ch element;
@@ -312,7 +315,8 @@ module _ (c : ExchangeCall) (ok : fault c ≡ 0) where
       ∙ ap (λ (l : List ℕ). refit (c .count) (l ++ (xs ++ tail)) (c .chapter)) (sym (take-take place (c .count) (c .chapter) (omega arith)))
 
   -- the new tree's words are those in use
-  pub nodes-left : (filled : List ℕ) → filled ≡ refit (c .count) (newTree c) (c .chapter) → take (totalCount c (startIn c)) filled ≡ newTree c
+  pub nodes-left : (filled : List ℕ) → filled ≡ refit (c .count) (newTree c) (c .chapter)
+      → take (totalCount c (startIn c)) filled ≡ newTree c
   nodes-left filled p =
       let g = call-numbers c ok place refl (sizeOf (c .table)) refl in
       ap₂ take (g .total) p ∙ take-refit (c .count) (newTree c) (c .chapter)

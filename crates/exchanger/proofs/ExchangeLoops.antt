@@ -1,7 +1,7 @@
 -- What the loops of Exchange do, over the list of state sets: the sets move, those of the replacement are recomputed node by
 -- node, its root is compared with the old element's set as it was stored, and the loop behind leads upwards. The sets are then those of
 -- the outcomes, and the count is theirs, whatever the stored sets are.
-use mathlib.Core.Path.{_≡_, refl, ap, ap₂, _∙_, sym, subst}
+use mathlib.Core.Path.{_≡_, refl, ap, ap₂, _∙_, sym}
 use mathlib.Core.Bool.{true, cond}
 use mathlib.Core.List.{List, [], _∷_, _++_, map, append-assoc, head-eq-of-cons-eq}
 use Prim.Native.Nat.{ℕ, zero, suc, _+_, _-_, _<_, _≤_}
@@ -11,12 +11,13 @@ use lib.ListN.{length, take, drop, set, length-append, length-set, List·getD-ap
 use lib.Seq.{slice, length-take-le, take-at, drop-at, drop-append-add, take-append-add}
 use Rattle.words.specs.Lists.{listFrom}
 use Rattle.words.specs.Shape.{spliceBy}
-use Rattle.words.specs.Postfix.{arity, oneTree, startOf, isAncestor, splice, values, stackAfter, stackGiven}
+use Rattle.words.specs.Postfix.{arity, oneTree, startOf, isAncestor, splice, values, stackAfter, stackGiven, rootsOf}
 use Rattle.words.proofs.TestLaws.{Tested, holds, fails, tested}
-use Rattle.words.proofs.ListLaws.{map-append, length-listFrom, getD-listFrom, Below, map-below}
+use Rattle.words.proofs.ListLaws.{map-append, length-listFrom, getD-listFrom}
 use Rattle.words.proofs.PostfixLaws.{start-le, length-splice}
 use Rattle.words.proofs.StackLaws.{read, Read, length-values}
-use Rattle.words.proofs.ChildLaws.{numbers, numbers-more, stack-below, stack-numbers}
+use Rattle.words.proofs.ChildLaws.{roots-more, roots-below, stack-numbers}
+use Rattle.words.proofs.AllLaws.{map-below}
 use Rattle.automaton.specs.StateSet.{StateSet}
 use Rattle.operations.specs.Marks.{nodeSet, nodeSets, sameWords}
 use Rattle.operations.specs.Exchange.{Outcome, recomputed, setIn, recomputedIn, keptFrom, propagate, rootSet, outcomesBehind, outcomesAfter}
@@ -100,20 +101,14 @@ module _ (a table : List ℕ) (stored : ℕ → StateSet) (ch : List ℕ) (eleme
         ap (λ (i : ℕ). drop (i + length x) tree) (sym length-front) ∙ drop-append-add (take s ch) (x ++ behind) (length x)
         ∙ drop-at x behind (length x) refl
 
-    stack-front : map (setAt movedSets) (numbers (arity a) tree s) ≡ σ
+    stack-front : map (setAt movedSets) (rootsOf a tree s) ≡ σ
     unfolding σ
     stack-front =
         ap (λ (l : List ℕ). map (setAt movedSets) (stackGiven a (λ k. k) 0 l [])) take-front
-        ∙ map-below (setAt movedSets) stored s ns few
+        ∙ map-below (setAt movedSets) stored s (rootsOf a ch s) (roots-below (arity a) ch s (omega (arith, low)))
         (λ k h. List·getD-append (listFrom stored 0 s) _ [] k (rw (length-listFrom stored s 0) h) ∙ getD-listFrom stored [] s 0 k h
         ∙ ap stored (zero-add k))
         ∙ sym (stack-numbers (arity a) stored (take s ch) 0 [])
-      where
-        ns : List ℕ
-        ns = stackGiven a (λ k. k) 0 (take s ch) []
-
-        few : Below s ns
-        few = subst (λ (n : ℕ). Below n ns) (zero-add _ ∙ length-front) (stack-below (arity a) (take s ch) 0 [] tt)
 
     replaced-recomputing : (k : ℕ) → k ≤ length x → Recomputing a table tree movedSets s σ k (replacedSets k)
     unfolding replacedSets
@@ -145,7 +140,7 @@ module _ (a table : List ℕ) (stored : ℕ → StateSet) (ch : List ℕ) (eleme
         ∙ ap (λ (l : List StateSet). listFrom stored 0 s ++ l ++ listFrom stored (element + 1) (length behind))
         (ap (λ (l : List ℕ). values a step l σ) replacement ∙ new .values-on σ)
 
-    stack-replaced : map (setAt (replacedSets (length x))) (numbers (arity a) tree (s + length x)) ≡ rootSet a table x ∷ σ
+    stack-replaced : map (setAt (replacedSets (length x))) (rootsOf a tree (s + length x)) ≡ rootSet a table x ∷ σ
     stack-replaced =
         allRecomputed .stack-is ∙ ap (λ (l : List ℕ). stackAfter a step l σ) replacement ∙ new .stack-on σ
         ∙ ap (λ (r : StateSet). r ∷ σ) (sym root)
@@ -156,7 +151,7 @@ module _ (a table : List ℕ) (stored : ℕ → StateSet) (ch : List ℕ) (eleme
         let n : s + length x ≡ suc q = omega arith in
         head-eq-of-cons-eq
         (sym (ap (λ (l : List ℕ). map (setAt (replacedSets (length x))) l)
-        (ap (numbers (arity a) tree) n ∙ numbers-more (arity a) tree q (omega (arith, length-tree)))) ∙ stack-replaced)
+        (ap (rootsOf a tree) n ∙ roots-more (arity a) tree q (omega (arith, length-tree)))) ∙ stack-replaced)
 
     head : List StateSet
     head = listFrom stored 0 s ++ values a step x []

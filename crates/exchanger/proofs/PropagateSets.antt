@@ -10,9 +10,8 @@ use native.Mathlib.Numerals.{add-one}
 use lib.ListN.{length, getD, take, drop, set, length-drop, take-append-drop}
 use lib.Seq.{take-suc, getD-drop, drop-drop, drop-set-lt, take-suc-set, lt-length-set}
 use Rattle.words.specs.Lists.{listFrom}
-use Rattle.words.specs.Postfix.{arity, valueOn}
+use Rattle.words.specs.Postfix.{arity, valueOn, rootsOf}
 use Rattle.words.proofs.TestLaws.{Tested, holds, fails, tested}
-use Rattle.words.proofs.ChildLaws.{numbers}
 use Rattle.automaton.specs.StateSet.{StateSet}
 use Rattle.operations.specs.Marks.{nodeSet, sameWords}
 use Rattle.operations.specs.Exchange.{Outcome, kept, recomputed, setIn, recomputedIn, propagate}
@@ -54,7 +53,7 @@ module _ (a table ch : List ℕ) where
   pub propagateSets-is : (stored : ℕ → StateSet) (above above′ : ℕ → Bool) (ws : List ℕ) (i j : ℕ) (sets : List StateSet) (count : ℕ)
       (stack : List StateSet)
       → drop i ch ≡ ws → ((t : ℕ) → above (i + t) ≡ above′ (j + t)) → i ≤ length sets → drop i sets ≡ listFrom stored j (length ws)
-      → map (setAt sets) (numbers (arity a) ch i) ≡ stack
+      → map (setAt sets) (rootsOf a ch i) ≡ stack
       → propagateSets above i (length ws) sets count ≡ ended i sets count (propagate a table stored above′ j ws stack)
   unfolding propagateSets propagate recomputedIn
   propagateSets-is stored above above′ [] i j sets count stack q same l r e =
@@ -101,7 +100,7 @@ module _ (a table ch : List ℕ) where
       Ih : List StateSet → ℕ → List StateSet → Type 0
       Ih sets′ count′ stack′ =
           drop (suc i) ch ≡ ws → ((t : ℕ) → above (suc i + t) ≡ above′ (suc j + t)) → suc i ≤ length sets′
-          → drop (suc i) sets′ ≡ listFrom stored (suc j) (length ws) → map (setAt sets′) (numbers (arity a) ch (suc i)) ≡ stack′
+          → drop (suc i) sets′ ≡ listFrom stored (suc j) (length ws) → map (setAt sets′) (rootsOf a ch (suc i)) ≡ stack′
           → propagateSets above (suc i) (length ws) sets′ count′
           ≡ ended (suc i) sets′ count′ (propagate a table stored above′ (suc j) ws stack′)
 

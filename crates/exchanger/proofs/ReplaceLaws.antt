@@ -2,7 +2,7 @@
 -- answer are in the end.
 use mathlib.Core.Path.{_≡_, ap, ap₂, _∙_, sym}
 use mathlib.Core.List.{List}
-use Prim.Native.Nat.{ℕ, _*_}
+use Prim.Native.Nat.{ℕ}
 use native.Mathlib.Omega.{arith}
 use lib.ListN.{length, take}
 use lib.Seq.{paste}
@@ -22,7 +22,8 @@ module _ (c : ExchangeCall) (ok : fault c ≡ 0) (s : ℕ) (qs : s ≡ startIn c
 
   -- ---- the chapter
 
-  module _ (moved filled : List ℕ) (p : moved ≡ movedChapter c s) (q : filled ≡ paste moved s (c .replacement) (length (c .replacement))) where
+  module _ (moved filled : List ℕ) (p : moved ≡ movedChapter c s)
+      (q : filled ≡ paste moved s (c .replacement) (length (c .replacement))) where
     pub chapter-exit : filled ≡ refit (c .count) (newTree c) (c .chapter)
     chapter-exit =
         chapter-left c ok moved filled (p ∙ ap (movedChapter c) qs)

@@ -1,19 +1,20 @@
 -- The key of a word, and the words of a table that have a key, in ascending order.
 use mathlib.Core.Path.{_≡_, refl, ap, _∙_, sym}
-use mathlib.Core.Bool.{true, cond, _&&_, false≢true}
+use mathlib.Core.Bool.{true, cond, false≢true}
 use mathlib.Core.List.{List, [], _∷_}
 use Prim.Native.Nat.{ℕ, zero, suc, _+_, _-_, _<_, _≤_}
 use native.Mathlib.Omega.{arith}
 use native.Mathlib.Decide.{ℕ-discrete}
 use lib.ListN.{length, getD}
-use lib.Dec.{ltb, leb, eqb}
-use borrow.Author.Tests.{eq-eqb, ne-eqb, eqb-true, eqb-false, leb-true}
-use Rattle.words.specs.Word.{headKind, transitionKind, epsilonKind, numberOf, hasKind}
-use Rattle.words.specs.Word.{isOf, symbolAbove, countAbove, stateAbove, stateBelow, kindNumber}
-use Rattle.words.proofs.TestLaws.{Tested, holds, fails, tested, and-true}
-use Rattle.words.proofs.KindLaws.{isOf-facts}
-use Rattle.automaton.specs.Table.{isHead, areTransitions, isTable}
-use Rattle.index.specs.Index.{keyOf}
+use lib.Dec.{eqb}
+use borrow.Author.Tests.{eq-eqb, ne-eqb, eqb-true, eqb-false}
+use Rattle.words.specs.Word.{transitionKind, epsilonKind, numberOf, hasKind, stateRange, symbolRange}
+use Rattle.words.specs.Word.{symbolAbove, stateAbove, kindNumber}
+use Rattle.words.specs.Limits.{tableMost}
+use Rattle.words.proofs.TestLaws.{Tested, holds, fails, tested}
+use Rattle.automaton.specs.Table.{isTable}
+use Rattle.automaton.proofs.TableLaws.{isTable-parts}
+use Rattle.index.specs.Index.{keyOf, keyCount, stateKey}
 
 -- ---- the key of a word
 
@@ -31,16 +32,16 @@ module _ (w : ℕ) where
   unfolding keyOf
   key-symbol e h = rw (eq-eqb (numberOf w) (kindNumber transitionKind) e) h
 
-  pub key-epsilon : {p : ℕ} → numberOf w ≡ kindNumber epsilonKind → stateAbove w ≡ p → keyOf w ≡ 256 + p
+  pub key-epsilon : {p : ℕ} → numberOf w ≡ kindNumber epsilonKind → stateAbove w ≡ p → keyOf w ≡ stateKey p
   unfolding keyOf
   key-epsilon e h =
       rw (ne-eqb (numberOf w) (kindNumber transitionKind) (λ i. omega arith), eq-eqb (numberOf w) (kindNumber epsilonKind) e) (omega arith)
 
-  pub key-none : (numberOf w ≡ kindNumber transitionKind → ⊥) → (numberOf w ≡ kindNumber epsilonKind → ⊥) → keyOf w ≡ 1280
+  pub key-none : (numberOf w ≡ kindNumber transitionKind → ⊥) → (numberOf w ≡ kindNumber epsilonKind → ⊥) → keyOf w ≡ keyCount
   unfolding keyOf
   key-none h i = rw (ne-eqb (numberOf w) (kindNumber transitionKind) h, ne-eqb (numberOf w) (kindNumber epsilonKind) i)
 
-  pub keyed-symbol : {f : ℕ} → keyOf w ≡ f → f < 256 → SymbolWord w f
+  pub keyed-symbol : {f : ℕ} → keyOf w ≡ f → f < symbolRange → SymbolWord w f
   keyed-symbol {f} e h = go (tested (hasKind transitionKind w)) (tested (hasKind epsilonKind w))
     where
       go : Tested (hasKind transitionKind w) → Tested (hasKind epsilonKind w) → SymbolWord w f
@@ -53,7 +54,7 @@ module _ (w : ℕ) where
             key-none (eqb-false (numberOf w) (kindNumber transitionKind) n) (eqb-false (numberOf w) (kindNumber epsilonKind) m),
           ))
 
-  pub keyed-epsilon : {p : ℕ} → keyOf w ≡ 256 + p → p < 1024 → EpsilonWord w p
+  pub keyed-epsilon : {p : ℕ} → keyOf w ≡ stateKey p → p < stateRange → EpsilonWord w p
   keyed-epsilon {p} e h = go (tested (hasKind transitionKind w)) (tested (hasKind epsilonKind w))
     where
       go : Tested (hasKind transitionKind w) → Tested (hasKind epsilonKind w) → EpsilonWord w p
@@ -114,19 +115,16 @@ pub record FirstWith (table : List ℕ) (key j i : ℕ) : Type 0 where
 
 -- a table of at most 2,048 words, whose first word has no key
 pub record Keyed (table : List ℕ) : Type 0 where
-  pub few : length table ≤ 2048
-  pub head : keyOf (getD table 0 0) ≡ 1280
+  pub few : length table ≤ tableMost
+  pub head : keyOf (getD table 0 0) ≡ keyCount
 
 pub table-keyed : (a table : List ℕ) → isTable a table ≡ true → Keyed table
-unfolding isTable isHead
+unfolding isTable
 table-keyed a [] h = absurd (false≢true h)
 table-keyed a (w ∷ ws) h =
-    let b = and-true (leb (length (w ∷ ws)) 2048 && isHead w) (areTransitions a (countAbove w) 0 ws) h in
-    let c = and-true (leb (length (w ∷ ws)) 2048) (isHead w) (b .0) in
-    let d = and-true (isOf headKind w && ltb 0 (countAbove w) && leb (countAbove w) 1024) (ltb (stateBelow w) (countAbove w)) (c .1) in
-    let e = and-true (isOf headKind w && ltb 0 (countAbove w)) (leb (countAbove w) 1024) (d .0) in
-    let i = isOf-facts headKind w (and-true (isOf headKind w) (ltb 0 (countAbove w)) (e .0) .0) in
-    record { few = leb-true (length (w ∷ ws)) 2048 (c .0); head = key-none w (λ e. omega arith) (λ e. omega arith) }
+    let p = isTable-parts a w ws h in
+    let number = p .head .number in
+    record { few = p .fits; head = key-none w (λ e. omega arith) (λ e. omega arith) }
 
 module _ (table : List ℕ) (key : ℕ) where
   without-more : (j e : ℕ) → (keyOf (getD table j 0) ≡ key → ⊥) → Without table key (j + 1) e → Without table key j e
@@ -151,7 +149,7 @@ module _ (table : List ℕ) (key : ℕ) where
   some-from zero j e h = absurd (omega (arith, next-over table key j (omega arith)))
   some-from (suc n) j e h = some-at j (omega arith) (some-from n (j + 1) (omega arith)) h
 
-  module _ (keyed : Keyed table) (small : key < 1280) where
+  module _ (keyed : Keyed table) (small : key < keyCount) where
     none-at : (j : ℕ) → j < length table → (nextWith table key (j + 1) ≡ 0 → Without table key (j + 1) (length table))
         → nextWith table key j ≡ 0 → Without table key j (length table)
     none-at j l later h = go (ℕ-discrete (keyOf (getD table j 0)) key)
@@ -171,5 +169,5 @@ module _ {table : List ℕ} {key j i : ℕ} (e : i ≡ nextWith table key j) whe
   pub next-some : 0 < i → FirstWith table key j i
   next-some h = rw e (some-from table key (length table - j) j refl (omega arith))
 
-  pub next-none : Keyed table → key < 1280 → i ≡ 0 → Without table key j (length table)
+  pub next-none : Keyed table → key < keyCount → i ≡ 0 → Without table key j (length table)
   next-none k b z = none-from table key k b (length table - j) j refl (sym e ∙ z)

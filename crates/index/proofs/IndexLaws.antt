@@ -10,31 +10,32 @@ use lib.ListN.{length, getD, set, replicate, length-set, length-replicate, getD-
 use lib.Seq.{getD-set-same, getD-set-other}
 use lib.Dec.{ltb}
 use borrow.Author.Tests.{lt-ltb, le-ltb}
+use Rattle.words.specs.Limits.{tableMost}
 use Rattle.index.proofs.ChainLaws.{nextWith, next-over, next-here, next-past, Keyed}
-use Rattle.index.specs.Index.{keyOf, indexedAt, indexBack, indexOf, Insertable}
+use Rattle.index.specs.Index.{keyOf, indexedAt, indexBack, indexOf, Insertable, indexLength, keyCount}
 
 -- ---- one word is put
 
 module _ (table : List ℕ) (i : ℕ) (index : List ℕ) (k : ℕ) (e : k ≡ keyOf (getD table i 0)) where
-  pub put-key : k < 1280 → set (set index (1280 + i) (getD index k 0)) k i ≡ indexedAt table i index
+  pub put-key : k < keyCount → set (set index (keyCount + i) (getD index k 0)) k i ≡ indexedAt table i index
   unfolding indexedAt
-  put-key h = sym (rw (← e, lt-ltb k 1280 h))
+  put-key h = sym (rw (← e, lt-ltb k keyCount h))
 
-  pub put-none : 1280 ≤ k → index ≡ indexedAt table i index
+  pub put-none : keyCount ≤ k → index ≡ indexedAt table i index
   unfolding indexedAt
-  put-none h = sym (rw (← e, le-ltb k 1280 h))
+  put-none h = sym (rw (← e, le-ltb k keyCount h))
 
 indexed-length : (table : List ℕ) (i : ℕ) (index : List ℕ) → length (indexedAt table i index) ≡ length index
 unfolding indexedAt
-indexed-length table i index = go (ltb (keyOf (getD table i 0)) 1280)
+indexed-length table i index = go (ltb (keyOf (getD table i 0)) keyCount)
   where
     go : (b : Bool)
-        → length (cond b (set (set index (1280 + i) (getD index (keyOf (getD table i 0)) 0)) (keyOf (getD table i 0)) i) index)
+        → length (cond b (set (set index (keyCount + i) (getD index (keyOf (getD table i 0)) 0)) (keyOf (getD table i 0)) i) index)
         ≡ length index
     go true = simp length-set
     go false = refl
 
-back-none : (table : List ℕ) → replicate 3328 0 ≡ indexBack table 0
+back-none : (table : List ℕ) → replicate indexLength 0 ≡ indexBack table 0
 unfolding indexBack
 back-none table = refl
 
@@ -46,20 +47,20 @@ back-more table n j e = ap (λ (x : ℕ). indexedAt table x (indexBack table n))
 
 pub record Indexed (table index : List ℕ) (i : ℕ) : Type 0 where
   pub few : i ≤ length table
-  pub size : length index ≡ 3328
+  pub size : length index ≡ indexLength
   pub chains : index ≡ indexBack table (length table - i)
 
-pub indexed-none : (table : List ℕ) → Indexed table (replicate 3328 0) (length table)
+pub indexed-none : (table : List ℕ) → Indexed table (replicate indexLength 0) (length table)
 indexed-none table =
     let e : length table - length table ≡ 0 = omega arith in
     record {
       few = omega arith;
-      size = length-replicate {A = ℕ} 3328 0;
+      size = length-replicate {A = ℕ} indexLength 0;
       chains = back-none table ∙ ap (indexBack table) (sym e);
     }
 
 module _ {table index : List ℕ} {i : ℕ} (s : Indexed table index i) where
-  pub indexed-insertable : (j : ℕ) → j + 1 ≡ i → length table ≤ 2048 → Insertable table j index
+  pub indexed-insertable : (j : ℕ) → j + 1 ≡ i → length table ≤ tableMost → Insertable table j index
   indexed-insertable j e h = record { inside = omega arith; few = h; size = s .size }
 
   pub indexed-more : (j : ℕ) → j + 1 ≡ i → {after : List ℕ} → after ≡ indexedAt table j index → Indexed table after j
@@ -82,65 +83,67 @@ module _ {table index : List ℕ} {i : ℕ} (s : Indexed table index i) where
 
 -- the chains of the words from i on
 record Chains (table index : List ℕ) (i : ℕ) : Type 0 where
-  first : (key : ℕ) → key < 1280 → getD index key 0 ≡ nextWith table key i
-  next : (m key : ℕ) → i ≤ m → m < length table → keyOf (getD table m 0) ≡ key → key < 1280
-      → getD index (1280 + m) 0 ≡ nextWith table key (m + 1)
+  first : (key : ℕ) → key < keyCount → getD index key 0 ≡ nextWith table key i
+  next : (m key : ℕ) → i ≤ m → m < length table → keyOf (getD table m 0) ≡ key → key < keyCount
+      → getD index (keyCount + m) 0 ≡ nextWith table key (m + 1)
 
-module _ (table index : List ℕ) (few : length table ≤ 2048) (size : length index ≡ 3328) (i : ℕ) (inside : i < length table)
+module _ (table index : List ℕ) (few : length table ≤ tableMost) (size : length index ≡ indexLength) (i : ℕ) (inside : i < length table)
     (c : Chains table index (i + 1)) where
-  chains-put : (k : ℕ) → keyOf (getD table i 0) ≡ k → k < 1280 → Chains table (set (set index (1280 + i) (getD index k 0)) k i) i
+  chains-put : (k : ℕ) → keyOf (getD table i 0) ≡ k → k < keyCount → Chains table (set (set index (keyCount + i) (getD index k 0)) k i) i
   chains-put k e h = record {
     first = λ key s. first key s (ℕ-discrete key k);
     next = λ m key l g f s. next m key l g f s (ℕ-discrete m i);
   }
     where
       after : List ℕ
-      after = set index (1280 + i) (getD index k 0)
+      after = set index (keyCount + i) (getD index k 0)
 
-      first : (key : ℕ) → key < 1280 → Dec (key ≡ k) → getD (set after k i) key 0 ≡ nextWith table key i
+      first : (key : ℕ) → key < keyCount → Dec (key ≡ k) → getD (set after k i) key 0 ≡ nextWith table key i
       first key s (yes d) = rw d (getD-set-same after k i 0 (simp length-set (omega arith)) ∙ sym (next-here table k i inside e))
       first key s (no d) =
-          getD-set-other after k key i 0 d ∙ getD-set-other index (1280 + i) key (getD index k 0) 0 (λ z. omega arith)
+          getD-set-other after k key i 0 d ∙ getD-set-other index (keyCount + i) key (getD index k 0) 0 (λ z. omega arith)
           ∙ c .first key s ∙ sym (next-past table key i inside (λ z. d (sym z ∙ e)))
 
-      next : (m key : ℕ) → i ≤ m → m < length table → keyOf (getD table m 0) ≡ key → key < 1280 → Dec (m ≡ i)
-          → getD (set after k i) (1280 + m) 0 ≡ nextWith table key (m + 1)
+      next : (m key : ℕ) → i ≤ m → m < length table → keyOf (getD table m 0) ≡ key → key < keyCount → Dec (m ≡ i)
+          → getD (set after k i) (keyCount + m) 0 ≡ nextWith table key (m + 1)
       next m key l g f s (yes d) =
-          rw d (getD-set-other after k (1280 + i) i 0 (λ z. omega arith) ∙ getD-set-same index (1280 + i) (getD index k 0) 0 (omega arith)
+          rw d (getD-set-other after k (keyCount + i) i 0 (λ z. omega arith)
+          ∙ getD-set-same index (keyCount + i) (getD index k 0) 0 (omega arith)
           ∙ c .first k h ∙ ap (λ (x : ℕ). nextWith table x (i + 1)) (sym e ∙ (rw d at f)))
       next m key l g f s (no d) =
-          getD-set-other after k (1280 + m) i 0 (λ z. omega arith)
-          ∙ getD-set-other index (1280 + i) (1280 + m) (getD index k 0) 0 (λ z. omega arith)
+          getD-set-other after k (keyCount + m) i 0 (λ z. omega arith)
+          ∙ getD-set-other index (keyCount + i) (keyCount + m) (getD index k 0) 0 (λ z. omega arith)
           ∙ c .next m key (omega arith) g f s
 
-  chains-kept : 1280 ≤ keyOf (getD table i 0) → Chains table index i
+  chains-kept : keyCount ≤ keyOf (getD table i 0) → Chains table index i
   chains-kept h = record {
     first = λ key s. c .first key s ∙ sym (next-past table key i inside (λ z. omega arith));
     next = λ m key l g f s. next m key l g f s (ℕ-discrete m i);
   }
     where
-      next : (m key : ℕ) → i ≤ m → m < length table → keyOf (getD table m 0) ≡ key → key < 1280 → Dec (m ≡ i)
-          → getD index (1280 + m) 0 ≡ nextWith table key (m + 1)
+      next : (m key : ℕ) → i ≤ m → m < length table → keyOf (getD table m 0) ≡ key → key < keyCount → Dec (m ≡ i)
+          → getD index (keyCount + m) 0 ≡ nextWith table key (m + 1)
       next m key l g f s (yes d) = absurd (omega (arith, rw d at f))
       next m key l g f s (no d) = c .next m key (omega arith) g f s
 
   chains-more : Chains table (indexedAt table i index) i
-  chains-more = go (decLt (keyOf (getD table i 0)) 1280)
+  chains-more = go (decLt (keyOf (getD table i 0)) keyCount)
     where
-      go : Dec (keyOf (getD table i 0) < 1280) → Chains table (indexedAt table i index) i
+      go : Dec (keyOf (getD table i 0) < keyCount) → Chains table (indexedAt table i index) i
       go (yes l) = rw (← put-key table i index (keyOf (getD table i 0)) refl l) (chains-put (keyOf (getD table i 0)) refl l)
       go (no l) = rw (← put-none table i index (keyOf (getD table i 0)) refl (omega arith)) (chains-kept (omega arith))
 
 module _ (table : List ℕ) where
-  back-length : (n : ℕ) → length (indexBack table n) ≡ 3328
-  back-length zero = ap length (sym (back-none table)) ∙ length-replicate {A = ℕ} 3328 0
+  back-length : (n : ℕ) → length (indexBack table n) ≡ indexLength
+  back-length zero = ap length (sym (back-none table)) ∙ length-replicate {A = ℕ} indexLength 0
   back-length (suc n) = ap length (back-more table n _ refl) ∙ indexed-length table _ (indexBack table n) ∙ back-length n
 
-  module _ (few : length table ≤ 2048) where
+  module _ (few : length table ≤ tableMost) where
     back-chains : (n : ℕ) → n ≤ length table → Chains table (indexBack table n) (length table - n)
     back-chains zero h =
         rw (← back-none table) (record {
-          first = λ key s. getD-replicate {A = ℕ} 3328 key 0 0 (omega arith) ∙ sym (next-over table key (length table - 0) (omega arith));
+          first = λ key s.
+              getD-replicate {A = ℕ} indexLength key 0 0 (omega arith) ∙ sym (next-over table key (length table - 0) (omega arith));
           next = λ m key l g f s. absurd (omega arith);
         })
     back-chains (suc n) h =
@@ -156,13 +159,13 @@ module _ (table : List ℕ) where
         let e : length table - length table ≡ 0 = omega arith in
         rw e at (back-chains (keyed .few) (length table) (omega arith))
 
-    pub index-first : (key : ℕ) → key < 1280 → getD (indexOf table) key 0 ≡ nextWith table key 0
+    pub index-first : (key : ℕ) → key < keyCount → getD (indexOf table) key 0 ≡ nextWith table key 0
     index-first key h = chains .first key h
 
-    pub index-next : (i key : ℕ) → i < length table → keyOf (getD table i 0) ≡ key → key < 1280
-        → getD (indexOf table) (1280 + i) 0 ≡ nextWith table key (i + 1)
+    pub index-next : (i key : ℕ) → i < length table → keyOf (getD table i 0) ≡ key → key < keyCount
+        → getD (indexOf table) (keyCount + i) 0 ≡ nextWith table key (i + 1)
     index-next i key l e h = chains .next i key (omega arith) l e h
 
-  pub index-length : length (indexOf table) ≡ 3328
+  pub index-length : length (indexOf table) ≡ indexLength
   unfolding indexOf
   index-length = back-length (length table)

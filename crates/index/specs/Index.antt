@@ -15,23 +15,23 @@ abbrev pub stateKey : ℕ → ℕ
 stateKey s = symbolRange + s
 
 -- how many keys there are
-abbrev pub keys : ℕ
-keys = stateKey stateRange
+abbrev pub keyCount : ℕ
+keyCount = stateKey stateRange
 
 -- the key of a word: the symbol of a symbol transition, that of the from state of an epsilon transition; any other word has none
 unfoldable pub keyOf : ℕ → ℕ
-keyOf w = cond (hasKind transitionKind w) (symbolAbove w) (cond (hasKind epsilonKind w) (stateKey (stateAbove w)) keys)
+keyOf w = cond (hasKind transitionKind w) (symbolAbove w) (cond (hasKind epsilonKind w) (stateKey (stateAbove w)) keyCount)
 
 -- First stand the first words of the keys' chains; behind them the word of the table with number i has the next word of its
 -- chain. A chain ends with 0: the head is in none.
 unfoldable pub indexedAt : List ℕ → ℕ → List ℕ → List ℕ
 indexedAt table i index =
     let key = keyOf (getD table i 0) in
-    cond (ltb key keys) (set (set index (keys + i) (getD index key 0)) key i) index
+    cond (ltb key keyCount) (set (set index (keyCount + i) (getD index key 0)) key i) index
 
 -- the words of an index: for each key, and for each word of the longest table
 abbrev pub indexLength : ℕ
-indexLength = keys + tableMost
+indexLength = keyCount + tableMost
 
 -- the index of the last n words, from the last one backwards
 unfoldable pub indexBack : List ℕ → ℕ → List ℕ

@@ -10,10 +10,10 @@ use words::word::kind_of;
 // The numbers that a symbol may have; the keys of the states stand behind them, and behind all keys the words' next words.
 pub const STATE_KEYS: usize = SYMBOL_RANGE as usize;
 
-pub const KEYS: usize = STATE_KEYS + STATE_RANGE as usize;
+pub const KEY_COUNT: usize = STATE_KEYS + STATE_RANGE as usize;
 
 // The words of an index.
-pub const INDEX_LENGTH: usize = KEYS + TABLE_MOST;
+pub const INDEX_LENGTH: usize = KEY_COUNT + TABLE_MOST;
 
 // The key of a word.
 fn key(w: u32) -> usize
@@ -25,7 +25,7 @@ fn key(w: u32) -> usize
     match kind {
         Kind::Transition => symbol,
         Kind::Epsilon => STATE_KEYS + from,
-        _ => KEYS,
+        _ => KEY_COUNT,
     }
 }
 
@@ -35,8 +35,8 @@ fn put_word(table: &[u32], i: usize, index: &mut [u32])
     ensures { λ _. ⌜ now (index .exit) ≡ indexedAt (now (table .entry)) i (now (index .entry)) ⌝ }
 {
     let at = key(table[i]);
-    if at < KEYS {
-        index[KEYS + i] = index[at];
+    if at < KEY_COUNT {
+        index[KEY_COUNT + i] = index[at];
         index[at] = i as u32;
     }
 }

@@ -19,6 +19,7 @@ use Rattle.language.specs.Reading.{expressionOn, expressionOf}
 use Rattle.words.proofs.RankedTree.{Ranked, RankedAll}
 use Rattle.words.proofs.TestLaws.{true-and, all-append}
 use Rattle.words.specs.ExactlyOne.{ExactlyOne}
+use Rattle.words.specs.Limits.{alphabetMost}
 use Rattle.words.proofs.ExactlyOneLaws.{one-along}
 use Rattle.words.proofs.WordLaws.{arity-wordOf, isExpressionWord-wordOf}
 use Rattle.words.proofs.ReadingLaws.{stack-tree, oneTree-tree}
@@ -32,7 +33,7 @@ module _ (a : List ℕ) where
       let p = tree-expression a t (k .ranked) (rw (k .words) h) in
       record { over = p .0; words = ap postfix (p .1) ∙ k .words }
 
-  module _ (m : length a ≤ 64) where
+  module _ (m : length a ≤ alphabetMost) where
     mutual
       pub ranked-syntax : (E : Expression) → ExpressionOver a E → Ranked (arity a) (syntaxTree E)
       ranked-syntax (symbol f es) h =

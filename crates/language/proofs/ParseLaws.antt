@@ -7,11 +7,12 @@ use Prim.Native.Nat.{ℕ, suc, _<_, _≤_}
 use native.Mathlib.Omega.{arith}
 use lib.ListN.{length}
 use Rattle.words.specs.Lists.{all}
-use Rattle.words.specs.Word.{Kind, symbolKind, emptyKind, unionKind, productKind, closureKind, kindOf, bodyOf, wordOf, lowByte}
+use Rattle.words.specs.Word.{Kind, symbolKind, emptyKind, unionKind, productKind, closureKind, kindOf, bodyOf, wordOf, lowByte, symbolRange}
 use Rattle.words.specs.Alphabet.{rankOf, isConstant}
 use Rattle.words.specs.Tree.{Tree, Trees, node, none, more, number, postfix, postfixAll}
 use Rattle.words.specs.Postfix.{arity}
 use Rattle.words.specs.ExpressionWords.{isExpressionWord}
+use Rattle.words.specs.Limits.{alphabetMost}
 use Rattle.language.specs.Expression.{Expression, Expressions, symbol, empty, union, product, closure, noneᵉ}
 use Rattle.language.specs.Expression.{moreᵉ, numberᵉ, syntaxTree, syntaxTrees, ExpressionOver, ExpressionsOver}
 use Rattle.language.specs.Reading.{childrenᵉ, ofKind, expressionOn}
@@ -41,7 +42,7 @@ module _ (a : List ℕ) where
     tree : syntaxTree (ofKind k (lowByte w) es) ≡ node w (syntaxTrees (childrenᵉ es))
 
   -- a word with a symbol in its low byte, and one without
-  named : (w : ℕ) (k : Kind) → w ≡ wordOf k (bodyOf w) → bodyOf w < 256 → wordOf k (lowByte w) ≡ w
+  named : (w : ℕ) (k : Kind) → w ≡ wordOf k (bodyOf w) → bodyOf w < symbolRange → wordOf k (lowByte w) ≡ w
   named w k f l = let e : lowByte w ≡ bodyOf w = omega arith in ap (wordOf k) e ∙ sym f
 
   bare : (w : ℕ) (k : Kind) → w ≡ wordOf k (bodyOf w) → bodyOf w < 1 → wordOf k 0 ≡ w
@@ -121,12 +122,13 @@ module _ (a : List ℕ) where
 
   -- ---- and back
 
-  module _ (m : length a ≤ 64) where
-    pub constant-small : (c : ℕ) → isConstant a c ≡ true → c < 256
+  module _ (m : length a ≤ alphabetMost) where
+    pub constant-small : (c : ℕ) → isConstant a c ≡ true → c < symbolRange
     constant-small c h = omega (arith, isConstant-zero a c h .0)
 
     -- `treeExpression` gives the expression back
-    kind-back : (k : Kind) (b : ℕ) (es : List Expression) → b < 256 → ofKind (kindOf (wordOf k b)) (lowByte (wordOf k b)) es ≡ ofKind k b es
+    kind-back : (k : Kind) (b : ℕ) (es : List Expression) → b < symbolRange
+        → ofKind (kindOf (wordOf k b)) (lowByte (wordOf k b)) es ≡ ofKind k b es
     kind-back k b es l =
         let e : lowByte (wordOf k b) ≡ b = omega arith in
         ap₂ (λ (x : Kind) (y : ℕ). ofKind x y es) (kindOf-wordOf k b (omega arith)) e

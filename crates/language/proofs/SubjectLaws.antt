@@ -15,6 +15,7 @@ use Rattle.language.specs.Expression.{treeWords, TreeOver, TreesOver, Su
 use Rattle.words.proofs.RankedTree.{Ranked, RankedAll}
 use Rattle.words.proofs.TestLaws.{and-true, true-and, all-left, all-right, all-append}
 use Rattle.words.specs.ExactlyOne.{ExactlyOne}
+use Rattle.words.specs.Limits.{alphabetMost}
 use Rattle.words.proofs.ExactlyOneLaws.{one-along}
 use Rattle.words.proofs.WordLaws.{arity-wordOf, isNode-facts, isNode-wordOf, symbolOf-wordOf}
 use Rattle.words.proofs.RelabelLaws.{relabel, relabelAll, number-relabel, postfix-relabel}
@@ -63,7 +64,7 @@ module _ (a : List ℕ) where
 
   -- ---- from symbols to words
 
-  module _ (m : length a ≤ 64) where
+  module _ (m : length a ≤ alphabetMost) where
     mutual
       ranked-words : (t : Tree) → TreeOver a t → Ranked (arity a) (wordTree t)
       ranked-words (node s ts) h =

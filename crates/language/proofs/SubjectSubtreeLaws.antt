@@ -15,9 +15,11 @@ use Rattle.language.specs.Expression.{TreeOver, TreesOver, SubjectOf}
 use Rattle.words.proofs.TreeFold.{fold, foldAll}
 use Rattle.words.proofs.TestLaws.{all-left, all-right}
 use Rattle.words.specs.ExactlyOne.{ExactlyOne}
+use Rattle.words.specs.Limits.{alphabetMost}
 use Rattle.words.proofs.WordLaws.{symbolOf-wordOf}
 use Rattle.words.proofs.RelabelLaws.{relabelAll}
-use Rattle.words.proofs.SubtreeLaws.{subtree-tree, value-subtree}
+use Rattle.words.proofs.PostfixLaws.{sub-tree}
+use Rattle.words.proofs.SubtreeLaws.{value-subtree}
 use Rattle.language.proofs.SubjectLaws.{wordTree, subject-words, exactly-one-subject}
 
 -- the words of a subtree are nodes
@@ -28,10 +30,10 @@ subtree-nodes a ch i h =
     all-right (isNode a) (take (startOf a ch i) (take (i + 1) ch)) (subtreeOf a ch i)
     (rw (take-append-drop (startOf a ch i) (take (i + 1) ch)) l)
 
-module _ (a : List ℕ) (m : length a ≤ 64) where
+module _ (a : List ℕ) (m : length a ≤ alphabetMost) where
   pub exactly-one-subtree : (ch : List ℕ) (i : ℕ) → all (isNode a) ch ≡ true → oneTree a ch ≡ true → i < length ch
       → ExactlyOne (SubjectOf a (subtreeOf a ch i))
-  exactly-one-subtree ch i h o hi = exactly-one-subject a m (subtreeOf a ch i) (subtree-nodes a ch i h) (subtree-tree (arity a) ch i hi o)
+  exactly-one-subtree ch i h o hi = exactly-one-subject a m (subtreeOf a ch i) (subtree-nodes a ch i h) (sub-tree (arity a) ch i o hi)
 
   module _ {A : Type 0} (g : ℕ → List A → A) where
     -- the same value of a word: it looks at the symbol

@@ -18,7 +18,7 @@ use Rattle.nodes.proofs.LoopLaws.{Recomputing}
 use Rattle.operations.proofs.AcceptedLaws.{run-accepted}
 use Rattle.operations.proofs.RunLaws.{run-writes, run-length}
 use Rattle.sets.specs.Size.{marksMost}
-use Rattle.sets.proofs.StoredLaws.{words-few}
+use Rattle.sets.proofs.SizeLaws.{words-few}
 use Rattle.nodes.specs.Nodes.{markedFrom, Workable}
 use Rattle.nodes.proofs.WorkedLaws.{workedFrom, worked-is}
 use Rattle.nodes.proofs.MarkLaws.{holding-stored, markedFrom-rows}

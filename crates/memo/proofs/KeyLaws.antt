@@ -1,15 +1,17 @@
 -- Laws of keys: they fit into 64 bits, they are not 0, and different steps have different keys.
-use mathlib.Core.Path.{_≡_, refl, ap, ap₂, _∙_, sym}
+use mathlib.Core.Path.{_≡_, refl, ap, ap₂}
 use mathlib.Core.List.{List, [], _∷_}
 use Prim.Native.Nat.{ℕ, zero, suc, _+_, _-_, _*_, _/_, _^_, _<_, _≤_}
 use native.Mathlib.Omega.{arith}
 use lib.ListN.{length, getD, drop, length-drop}
-use Rattle.words.proofs.ListLaws.{below-drop}
-use Rattle.automaton.specs.Table.{AllBelow}
-use Rattle.memo.specs.Key.{packed, stepKey, Packable, Keyable}
+use Rattle.words.specs.Lists.{AllBelow}
+use Rattle.words.specs.Limits.{nodesMost, rankMost}
+use Rattle.words.specs.Word.{symbolRange}
+use Rattle.words.proofs.AllLaws.{each-drop}
+use Rattle.memo.specs.Key.{packed, stepKey, Packable, Keyable, digitRange, lastDigitRange}
 
 -- four digits of 13 bits
-pub packed-few : (cs : List ℕ) → length cs ≤ 4 → AllBelow 4096 cs → packed cs < 4503599627370496
+pub packed-few : (cs : List ℕ) → length cs ≤ rankMost → AllBelow nodesMost cs → packed cs < digitRange ^ rankMost
 packed-few [] l h = omega arith
 packed-few (a ∷ []) l h = let x = h .0 in omega arith
 packed-few (a ∷ b ∷ []) l h =
@@ -31,7 +33,7 @@ packed-few (a ∷ b ∷ c ∷ d ∷ e ∷ cs) l h = absurd (omega arith)
 
 -- ---- different lists have different numbers
 
-pub packed-same : (n : ℕ) → n ≤ 4096 → (cs ds : List ℕ) → AllBelow n cs → AllBelow n ds → packed cs ≡ packed ds → cs ≡ ds
+pub packed-same : (n : ℕ) → n ≤ nodesMost → (cs ds : List ℕ) → AllBelow n cs → AllBelow n ds → packed cs ≡ packed ds → cs ≡ ds
 packed-same n m [] [] h g e = refl
 packed-same n m [] (d ∷ ds) h g e = absurd (omega arith)
 packed-same n m (c ∷ cs) [] h g e = absurd (omega arith)
@@ -42,7 +44,7 @@ packed-same n m (c ∷ cs) (d ∷ ds) h g e =
     let tail : packed cs ≡ packed ds = omega arith in
     ap₂ (λ (x : ℕ) (xs : List ℕ). x ∷ xs) head (packed-same n m cs ds (h .1) (g .1) tail)
 
-module _ (f g : ℕ) (cs ds : List ℕ) (hf : f < 256) (hg : g < 256) (e : stepKey f cs ≡ stepKey g ds) where
+module _ (f g : ℕ) (cs ds : List ℕ) (hf : f < symbolRange) (hg : g < symbolRange) (e : stepKey f cs ≡ stepKey g ds) where
   pub stepKey-symbol : f ≡ g
   unfolding stepKey
   stepKey-symbol = omega arith
@@ -58,24 +60,28 @@ key-some f cs e = omega arith
 -- ---- the last of four nodes
 
 pub record Digits (four : List ℕ) : Type 0 where
-  pub first : getD four 0 0 < 4096
-  pub second : getD four 1 0 < 4096
-  pub third : getD four 2 0 < 4096
-  pub fourth : getD four 3 0 < 4096
+  pub first : getD four 0 0 < nodesMost
+  pub second : getD four 1 0 < nodesMost
+  pub third : getD four 2 0 < nodesMost
+  pub fourth : getD four 3 0 < nodesMost
 
 pub digits : {four : List ℕ} {rank : ℕ} → Packable four rank → Digits four
 digits {four} g = go four (g .length-is) (g .below)
   where
-    go : (l : List ℕ) → length l ≡ 4 → AllBelow 4096 l → Digits l
+    go : (l : List ℕ) → length l ≡ rankMost → AllBelow nodesMost l → Digits l
     go [] e h = absurd (omega arith)
     go (a ∷ []) e h = absurd (omega arith)
     go (a ∷ b ∷ []) e h = absurd (omega arith)
     go (a ∷ b ∷ c ∷ []) e h = absurd (omega arith)
     go (a ∷ b ∷ c ∷ d ∷ l) e h = record { first = h .0; second = h .1 .0; third = h .1 .1 .0; fourth = h .1 .1 .1 .0 }
 
+-- the digits of four nodes as code puts them together
+abbrev fourDigits : ℕ → ℕ → ℕ → ℕ → ℕ
+fourDigits a b c d = (((d + 1) * digitRange + (c + 1)) * digitRange + (b + 1)) * digitRange + (a + 1)
+
 -- the digits of the others are shifted out
-shifted : (a b c d : ℕ) → a < 4096 → b < 4096 → c < 4096 → d < 4096 → (k : ℕ) → k ≤ 4
-    → (((((d + 1) * 8192 + (c + 1)) * 8192 + (b + 1)) * 8192) + (a + 1)) / 2 ^ (k * 13) ≡ packed (drop k (a ∷ b ∷ c ∷ d ∷ []))
+shifted : (a b c d : ℕ) → a < nodesMost → b < nodesMost → c < nodesMost → d < nodesMost → (k : ℕ) → k ≤ rankMost
+    → fourDigits a b c d / 2 ^ (k * 13) ≡ packed (drop k (a ∷ b ∷ c ∷ d ∷ []))
 shifted a b c d x y z u zero h = omega arith
 shifted a b c d x y z u (suc zero) h = omega arith
 shifted a b c d x y z u (suc (suc zero)) h = omega arith
@@ -84,31 +90,31 @@ shifted a b c d x y z u (suc (suc (suc (suc zero)))) h = omega arith
 shifted a b c d x y z u (suc (suc (suc (suc (suc k))))) h = absurd (omega arith)
 
 pub pack-is : {four : List ℕ} {rank : ℕ} → Packable four rank
-    → ((((getD four 3 0 + 1) * 8192 + (getD four 2 0 + 1)) * 8192 + (getD four 1 0 + 1)) * 8192 + (getD four 0 0 + 1)) / 2 ^
-    ((4 - rank) * 13)
-    ≡ packed (drop (4 - rank) four)
+    → fourDigits (getD four 0 0) (getD four 1 0) (getD four 2 0) (getD four 3 0) / 2 ^ ((rankMost - rank) * 13)
+    ≡ packed (drop (rankMost - rank) four)
 pack-is {four} {rank} g = go four (g .length-is) (g .below)
   where
-    go : (l : List ℕ) → length l ≡ 4 → AllBelow 4096 l
-        → ((((getD l 3 0 + 1) * 8192 + (getD l 2 0 + 1)) * 8192 + (getD l 1 0 + 1)) * 8192 + (getD l 0 0 + 1)) / 2 ^ ((4 - rank) * 13)
-        ≡ packed (drop (4 - rank) l)
+    go : (l : List ℕ) → length l ≡ rankMost → AllBelow nodesMost l
+        → fourDigits (getD l 0 0) (getD l 1 0) (getD l 2 0) (getD l 3 0) / 2 ^ ((rankMost - rank) * 13)
+        ≡ packed (drop (rankMost - rank) l)
     go [] e h = absurd (omega arith)
     go (a ∷ []) e h = absurd (omega arith)
     go (a ∷ b ∷ []) e h = absurd (omega arith)
     go (a ∷ b ∷ c ∷ []) e h = absurd (omega arith)
-    go (a ∷ b ∷ c ∷ d ∷ []) e h = shifted a b c d (h .0) (h .1 .0) (h .1 .1 .0) (h .1 .1 .1 .0) (4 - rank) (omega arith)
+    go (a ∷ b ∷ c ∷ d ∷ []) e h = shifted a b c d (h .0) (h .1 .0) (h .1 .1 .0) (h .1 .1 .1 .0) (rankMost - rank) (omega arith)
     go (a ∷ b ∷ c ∷ d ∷ x ∷ l) e h = absurd (omega arith)
 
 -- a key fits
-pub key-few : {f : ℕ} {four : List ℕ} {rank : ℕ} → Keyable f four rank → packed (drop (4 - rank) four) * 512 + f + 1 < 18446744073709551616
+pub key-few : {f : ℕ} {four : List ℕ} {rank : ℕ} → Keyable f four rank
+    → packed (drop (rankMost - rank) four) * lastDigitRange + f + 1 < 18446744073709551616
 key-few {f} {four} {rank} g =
     let s = g .symbol in
     let e = g .nodes .length-is in
     let n =
-    packed-few (drop (4 - rank) four) (rw (length-drop (4 - rank) four) (omega arith))
-    (below-drop 4096 (4 - rank) four (g .nodes .below)) in
+    packed-few (drop (rankMost - rank) four) (rw (length-drop (rankMost - rank) four) (omega arith))
+    (each-drop (λ c. c < nodesMost) (rankMost - rank) four (g .nodes .below)) in
     omega arith
 
-pub key-is : (f : ℕ) (cs : List ℕ) (number : ℕ) → number ≡ packed cs → number * 512 + f + 1 ≡ stepKey f cs
+pub key-is : (f : ℕ) (cs : List ℕ) (number : ℕ) → number ≡ packed cs → number * lastDigitRange + f + 1 ≡ stepKey f cs
 unfolding stepKey
-key-is f cs number e = ap (λ (n : ℕ). n * 512 + f + 1) e
+key-is f cs number e = ap (λ (n : ℕ). n * lastDigitRange + f + 1) e

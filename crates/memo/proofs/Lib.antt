@@ -1,4 +1,4 @@
 pub mod KeyLaws
 pub mod RepresentLaws
 pub mod MemoLaws
-pub mod MarkingLaws
+pub mod NodeWritingLaws

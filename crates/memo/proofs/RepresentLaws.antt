@@ -6,16 +6,19 @@ use Prim.Native.Nat.{ℕ, _+_, _-_, _*_, _<_, _≤_}
 use native.Mathlib.Omega.{arith}
 use native.Mathlib.Nat.{le-trans, mul-le-mul-right}
 use lib.ListN.{length, take, drop}
+use Rattle.words.specs.Word.{wordRange}
 use Rattle.operations.specs.Marks.{storedSet, sameWords}
 use Rattle.operations.proofs.MarksLaws.{same-words}
-use Rattle.sets.proofs.StoredLaws.{row-inside, words-few}
+use Rattle.sets.specs.Size.{marksMost, setMost}
+use Rattle.sets.proofs.StoredLaws.{row-inside}
+use Rattle.sets.proofs.SizeLaws.{words-few}
 use Rattle.memo.specs.Memo.{Placeable, Represents, earlier}
 
 module _ {marks set : List ℕ} {i : ℕ} {places : List ℕ} (g : Placeable marks set i places) (node : ℕ) (l : node < i) where
   pub place-inside : node * length set + length set ≤ length marks
   place-inside = row-inside node i (length set) (length marks) l (g .rows)
 
-  pub place-few : node * length set ≤ 131072
+  pub place-few : node * length set ≤ marksMost
   place-few = let few = g .few in words-few node (length set) (omega arith) (g .small)
 
   pub represents : (b : Bool)
@@ -34,5 +37,5 @@ pub record Mixing (set : List ℕ) (mixed k : ℕ) : Type 0 where
   pub inside : k ≤ length set
   pub few : mixed ≤ k * 9007199254740992
 
-pub mixed-word : (w k : ℕ) → w < 4294967296 → k < 32 → w * (k * 40503 + 1) ≤ 9007199254740992
-mixed-word w k h l = le-trans (mul-le-mul-right (k * 40503 + 1) (let x : w ≤ 4294967296 = omega arith in x)) (omega arith)
+pub mixed-word : (w k : ℕ) → w < wordRange → k < setMost → w * (k * 40503 + 1) ≤ 9007199254740992
+mixed-word w k h l = le-trans (mul-le-mul-right (k * 40503 + 1) (let x : w ≤ wordRange = omega arith in x)) (omega arith)

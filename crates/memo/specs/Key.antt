@@ -5,7 +5,7 @@ use mathlib.Core.List.{List, [], _∷_}
 use lib.ListN.{length}
 use Rattle.words.specs.Limits.{rankMost, nodesMost}
 use Rattle.words.specs.Word.{symbolRange}
-use Rattle.automaton.specs.Table.{AllBelow}
+use Rattle.words.specs.Lists.{AllBelow}
 
 -- a node's number and 1 is below this, and so is a digit
 abbrev pub digitRange : ℕ

@@ -6,7 +6,7 @@ use lib.ListN.{length, getD, drop}
 use lib.Seq.{paste}
 use Rattle.words.specs.Limits.{rankMost, statesMost, nodesMost}
 use Rattle.words.specs.Word.{symbolRange}
-use Rattle.automaton.specs.Table.{AllBelow}
+use Rattle.words.specs.Lists.{AllBelow}
 use Rattle.automaton.specs.Transition.{automatonOf}
 use Rattle.automaton.specs.StateSet.{StateSet, stateSet}
 use Rattle.operations.specs.Marks.{sizeOf, storedSet}
@@ -47,19 +47,19 @@ slotsMost = 1024
 -- A slot is empty, or it holds the key of a symbol and nodes before i, and such a node that has the state set over these.
 pub data Slot (table marks : List ℕ) (i key node : ℕ) : Type 0 where
   empty : key ≡ 0 → Slot table marks i key node
-  known : (f : ℕ) (cs : List ℕ) → f < symbolRange → AllBelow i cs → key ≡ stepKey f cs → node < i
+  occupied : (f : ℕ) (cs : List ℕ) → f < symbolRange → AllBelow i cs → key ≡ stepKey f cs → node < i
       → storedSet (sizeOf table) marks node ≡ setOver table f marks cs → Slot table marks i key node
 
 -- the memo before node i is marked
-pub record Memo (table marks : List ℕ) (i : ℕ) (keys nodes : List ℕ) : Type 0 where
+pub record Memo (table marks : List ℕ) (i : ℕ) (keys known : List ℕ) : Type 0 where
   pub keys-are : length keys ≡ slotsMost
-  pub nodes-are : length nodes ≡ slotsMost
-  pub slots : (s : ℕ) → s < slotsMost → Slot table marks i (getD keys s 0) (getD nodes s 0)
+  pub known-are : length known ≡ slotsMost
+  pub slots : (s : ℕ) → s < slotsMost → Slot table marks i (getD keys s 0) (getD known s 0)
 
 -- what is kept from node to node, before node i is marked: the memo, the places of the nodes that represent others, closures of
 -- states, and a stack of states, which may hold anything
-pub record Remembered (table marks : List ℕ) (i : ℕ) (keys nodes places owners rows pending : List ℕ) : Type 0 where
-  pub memo : Memo table marks i keys nodes
+pub record Remembered (table marks : List ℕ) (i : ℕ) (keys known places owners rows pending : List ℕ) : Type 0 where
+  pub memo : Memo table marks i keys known
   pub places-are : length places ≡ placesMost
   pub closures : Closures table owners rows
   pub pending-are : length pending ≡ statesMost
@@ -81,14 +81,14 @@ pub record MarkedNew (table : List ℕ) (f : ℕ) (marks cs : List ℕ) (i : ℕ
 
 -- what marking it by the memo asks; its children are represented by the last `rank` of four nodes
 pub record NextMarkable (table index : List ℕ) (f : ℕ) (marks four : List ℕ) (rank i : ℕ)
-    (keys nodes places owners rows pending : List ℕ) : Type 0 where
+    (keys known places owners rows pending : List ℕ) : Type 0 where
   pub new : NewMarkable table index f marks (drop (rankMost - rank) four) i places owners rows pending
   pub keyable : Keyable f four rank
   pub below : AllBelow i (drop (rankMost - rank) four)
-  pub remembered : Remembered table marks i keys nodes places owners rows pending
+  pub remembered : Remembered table marks i keys known places owners rows pending
 
 -- what it leaves
 pub record MarkedNext (table : List ℕ) (f : ℕ) (marks cs : List ℕ) (i : ℕ) (marks′ : List ℕ) (r : ℕ)
-    (keys nodes places owners rows pending : List ℕ) : Type 0 where
+    (keys known places owners rows pending : List ℕ) : Type 0 where
   pub new : MarkedNew table f marks cs i marks′ r
-  pub remembered : Remembered table marks′ (i + 1) keys nodes places owners rows pending
+  pub remembered : Remembered table marks′ (i + 1) keys known places owners rows pending

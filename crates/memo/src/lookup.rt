@@ -44,21 +44,21 @@ fn mark_new(
 
 // Copies the words of an earlier node to node i's place. With a size that is known to be 1 the compiler makes a load and a store
 // of the copy.
-fn copy_known(marks: &mut [u32], known: usize, i: usize, size: usize)
-    requires { ⌜ Copyable (now marks) (known * size) (i * size) size ⌝ }
+fn copy_node(marks: &mut [u32], node: usize, i: usize, size: usize)
+    requires { ⌜ Copyable (now marks) (node * size) (i * size) size ⌝ }
     ensures { λ _. ⌜
-        now (marks .exit) ≡ paste (now (marks .entry)) (i * size) (take size (drop (known * size) (now (marks .entry)))) size
+        now (marks .exit) ≡ paste (now (marks .entry)) (i * size) (take size (drop (node * size) (now (marks .entry)))) size
         ⌝ }
 {
     if size == 1 {
-        copy_set(marks, known, i, 1);
+        copy_set(marks, node, i, 1);
         return;
     }
-    copy_set(marks, known * size, i * size, size);
+    copy_set(marks, node * size, i * size, size);
 }
 
 // Writes the state set of node i, which has this symbol and children that the last `rank` of the four nodes represent; answers
-// its representative. Slot s of the memo is the key keys[s] and the representative nodes[s].
+// its representative. Slot s of the memo is the key keys[s] and the representative known[s].
 pub fn mark_next(
     table: &[u32],
     index: &[u32],
@@ -68,28 +68,28 @@ pub fn mark_next(
     rank: usize,
     i: usize,
     keys: &mut [u64],
-    nodes: &mut [u32],
+    known: &mut [u32],
     places: &mut [u32],
     owners: &mut [u32],
     rows: &mut [u32],
     pending: &mut [u32],
 ) -> usize
     requires { ⌜
-        NextMarkable (now table) (now index) symbol (now marks) (now four) rank i (now keys) (now nodes) (now places) (now owners)
+        NextMarkable (now table) (now index) symbol (now marks) (now four) rank i (now keys) (now known) (now places) (now owners)
         (now rows) (now pending)
         ⌝ }
     ensures { λ r. ⌜
         MarkedNext (now (table .entry)) symbol (now (marks .entry)) (drop (rankMost - rank) (now (four .entry))) i (now (marks .exit)) r
-        (now (keys .exit)) (now (nodes .exit)) (now (places .exit)) (now (owners .exit)) (now (rows .exit)) (now (pending .exit))
+        (now (keys .exit)) (now (known .exit)) (now (places .exit)) (now (owners .exit)) (now (rows .exit)) (now (pending .exit))
         ⌝ }
 {
     let key = step_key(symbol, four, rank);
     let slot = slot_of(key);
     if keys[slot] == key {
         let size = set_size(table);
-        let known = nodes[slot] as usize;
-        copy_known(marks, known, i, size);
-        return known;
+        let found = known[slot] as usize;
+        copy_node(marks, found, i, size);
+        return found;
     }
     let node = mark_new(
         table,
@@ -104,6 +104,6 @@ pub fn mark_next(
         pending,
     );
     keys[slot] = key;
-    nodes[slot] = node as u32;
+    known[slot] = node as u32;
     node
 }

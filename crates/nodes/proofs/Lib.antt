@@ -1,5 +1,4 @@
 pub mod LoopLaws
-pub mod RootLaws
 pub mod WorkedLaws
 pub mod MarkLaws
 pub mod WorkableLaws

@@ -1,24 +1,27 @@
 -- State sets that are worked out in the marks are those worked out over a list of state sets.
-use mathlib.Core.Path.{_≡_, refl, ap, ap₂, _∙_, sym}
-use mathlib.Core.List.{List, [], _++_, flatten, append-nil}
+use mathlib.Core.Path.{_≡_, ap, ap₂, _∙_, sym}
+use mathlib.Core.List.{List, _++_, flatten}
 use Prim.Native.Nat.{ℕ, zero, suc, _+_, _*_, _<_, _≤_}
 use native.Mathlib.Omega.{arith}
 use native.Mathlib.Nat.{zero-add}
-use lib.ListN.{length, getD, take, drop, set, drop-of-length-le}
-use lib.Seq.{paste, take-length}
+use lib.ListN.{length, getD, drop, set}
+use lib.Seq.{paste}
+use Rattle.memo.specs.Memo.{setOver}
+use Rattle.memo.proofs.NodeWritingLaws.{length-setOver}
 use Rattle.words.specs.Lists.{listFrom}
-use Rattle.words.specs.Postfix.{values, stackGiven, childrenOf}
-use Rattle.words.proofs.ListLaws.{map-below, length-listFrom}
-use Rattle.automaton.specs.StateSet.{StateSet}
-use Rattle.operations.specs.Marks.{sizeOf, nodeSet, nodeSets, storedSet}
-use Rattle.operations.specs.Run.{runMarks}
-use Rattle.operations.proofs.MarksLaws.{Sized, length-nodeSet, storedSet-flatten}
-use Rattle.nodes.proofs.LoopLaws.{setAt, Recomputing}
+use Rattle.words.specs.Postfix.{arity, childrenOf}
+use Rattle.words.specs.Chapter.{symbolOf}
+use Rattle.words.proofs.AllLaws.{map-below}
+use Rattle.words.proofs.ChildLaws.{children-below}
+use Rattle.automaton.specs.StateSet.{StateSet, stateSet}
+use Rattle.automaton.specs.Transition.{automatonOf}
+use Rattle.operations.specs.Marks.{sizeOf, nodeSet, storedSet}
+use Rattle.operations.proofs.MarksLaws.{Sized, storedSet-flatten}
+use Rattle.nodes.proofs.LoopLaws.{setAt}
 use Rattle.nodes.proofs.LoopLaws as loops
 use Rattle.sets.proofs.RowLaws.{paste-row, sized-set, sized-stored, stored-split}
 use Rattle.nodes.specs.Nodes.{setFrom, markedAt, markedFrom}
-use Rattle.nodes.proofs.RootLaws.{children-below}
-use Rattle.nodes.proofs.WorkedLaws.{workedFrom, length-worked, worked-is}
+use Rattle.nodes.proofs.WorkedLaws.{workedFrom, length-worked}
 
 -- the marks begin with these state sets
 pub record MarksHolding (size : ℕ) (marks : List ℕ) (rows : List StateSet) (rest : List ℕ) : Type 0 where
@@ -55,16 +58,16 @@ module _ (a table ch : List ℕ) where
 
   pub length-setFrom : (marks : List ℕ) (i : ℕ) → length (setFrom a table ch marks i) ≡ sizeOf table
   unfolding setFrom
-  length-setFrom marks i = length-nodeSet table (getD ch i 0) _
+  length-setFrom marks i = length-setOver table _ marks _
 
   -- node i's state set from the marks is the one from the list of state sets
   pub setFrom-rows : (marks : List ℕ) (rows : List StateSet) (rest : List ℕ) (i : ℕ) → MarksHolding (sizeOf table) marks rows rest
       → i ≤ length rows
       → i ≤ length ch → setFrom a table ch marks i ≡ loops.setFromSets a table ch i rows
-  unfolding setFrom loops.setFromSets
+  unfolding setFrom setOver nodeSet loops.setFromSets
   setFrom-rows marks rows rest i g l h =
-      ap (nodeSet table (getD ch i 0))
-      (map-below (storedSet size marks) (setAt rows) i (childrenOf a ch i) (children-below a ch i h)
+      ap (stateSet (automatonOf table) (symbolOf (getD ch i 0)))
+      (map-below (storedSet size marks) (setAt rows) i (childrenOf a ch i) (children-below (arity a) ch i h)
       (λ k m. holding-set size marks rows rest k g (omega arith)))
 
   -- node i, worked out and written

@@ -5,16 +5,17 @@ use Prim.Native.Nat.{ℕ, suc, _+_, _-_, _*_, _<_, _≤_}
 use native.Mathlib.Omega.{arith}
 use lib.ListN.{length, replicate}
 use Rattle.words.specs.Limits.{statesMost}
+use Rattle.words.specs.Postfix.{rootsOf}
 use Rattle.sets.specs.Size.{setMost}
 use Rattle.closures.specs.Closure.{rowsMost}
 use Rattle.memo.specs.Memo.{placesMost, slotsMost}
 use Rattle.memo.proofs.MemoLaws.{nothing-remembered}
-use Rattle.nodes.specs.Nodes.{rootsOf, stackLength, Held, markedAt, markedFrom}
+use Rattle.nodes.specs.Nodes.{stackLength, Held, markedAt, markedFrom}
 use Rattle.nodes.specs.Marking.{Maintained, NodeMarkable, NodesMarkable}
 use Rattle.nodes.proofs.WorkableLaws.{workable-long}
 use Rattle.nodes.proofs.RootStackLaws.{represent-roots}
 
-pub record Marking (a table ch : List ℕ) (from to : ℕ) (marks₀ marks array : List ℕ) (height : ℕ)
+pub record NodesMarking (a table ch : List ℕ) (from to : ℕ) (marks₀ marks array : List ℕ) (height : ℕ)
     (keys known places owners rows pending : List ℕ) (i : ℕ) : Type 0 where
   pub low : from ≤ i
   pub high : i ≤ to
@@ -25,14 +26,14 @@ pub record Marking (a table ch : List ℕ) (from to : ℕ) (marks₀ marks array
 module _ {a table index ch : List ℕ} {from to : ℕ} {marks₀ array₀ : List ℕ} {height₀ : ℕ}
     {keys₀ known₀ places₀ owners₀ rows₀ pending₀ : List ℕ}
     (pre : NodesMarkable a table index ch from to marks₀ array₀ height₀ keys₀ known₀ places₀ owners₀ rows₀ pending₀) where
-  pub marking-none : Marking a table ch from to marks₀ marks₀ array₀ height₀ keys₀ known₀ places₀ owners₀ rows₀ pending₀ from
+  pub marking-none : NodesMarking a table ch from to marks₀ marks₀ array₀ height₀ keys₀ known₀ places₀ owners₀ rows₀ pending₀ from
   unfolding markedFrom
   marking-none =
       let z : from - from ≡ 0 = omega arith in
       record { low = omega arith; high = pre .order; long = refl; marks-are = rw z refl; maintained = pre .maintained }
 
   module _ {marks array : List ℕ} {height : ℕ} {keys known places owners rows pending : List ℕ} {i : ℕ}
-      (g : Marking a table ch from to marks₀ marks array height keys known places owners rows pending i) where
+      (g : NodesMarking a table ch from to marks₀ marks array height keys known places owners rows pending i) where
     pub marking-at : i < to → NodeMarkable a table index ch i marks array height keys known places owners rows pending
     marking-at l =
         record {
@@ -47,7 +48,7 @@ module _ {a table index ch : List ℕ} {from to : ℕ} {marks₀ array₀ : List
         → length marks′ ≡ length marks
         → marks′ ≡ markedAt a table ch i marks
         → Maintained a table ch (i + 1) marks′ array′ height′ keys′ known′ places′ owners′ rows′ pending′
-        → Marking a table ch from to marks₀ marks′ array′ height′ keys′ known′ places′ owners′ rows′ pending′ (i + 1)
+        → NodesMarking a table ch from to marks₀ marks′ array′ height′ keys′ known′ places′ owners′ rows′ pending′ (i + 1)
     unfolding markedFrom
     marking-more l m w p =
         let low = g .low in

@@ -9,15 +9,14 @@ use lib.Seq.{length-take-le, take-take, take-suc-set, take-append-add}
 use Rattle.words.specs.Alphabet.{rankOf}
 use Rattle.words.specs.Chapter.{symbolOf}
 use Rattle.words.specs.Shape.{stackGivenBy}
-use Rattle.words.specs.Postfix.{arity}
-use Rattle.words.proofs.ListLaws.{below-more, map-append, map-take, map-below}
-use Rattle.words.proofs.ChildLaws.{numbers-more, numbers-below}
-use Rattle.automaton.specs.Table.{AllBelow}
+use Rattle.words.specs.Postfix.{arity, rootsOf}
+use Rattle.words.proofs.ListLaws.{map-append, map-take, take-reverse}
+use Rattle.words.proofs.ChildLaws.{roots-more, roots-below, arity-fits, roots-few}
+use Rattle.words.proofs.AllLaws.{map-below, below-more, each-append, each-take, each-reverse}
 use Rattle.automaton.specs.StateSet.{StateSet}
 use Rattle.operations.specs.Marks.{sizeOf, storedSet}
-use Rattle.nodes.specs.Nodes.{rootsOf, Held, Pushable, BoundedTree, Stackable}
+use Rattle.nodes.specs.Nodes.{Held, Pushable, BoundedTree, Stackable, stackBase, stackLength}
 use Rattle.nodes.specs.Marking.{Represented}
-use Rattle.nodes.proofs.RootLaws.{take-reverse, below-take, below-reverse, arity-fits, roots-few}
 use Rattle.nodes.proofs.WorkableLaws.{node-arity}
 
 -- r nodes are taken and one is put in their place: one store
@@ -26,14 +25,14 @@ pub held-push : (array : List ℕ) (height : ℕ) (nodes : List ℕ) (r x : ℕ)
     → Held (set array (height - r) x) (height - r + 1) (take (length nodes - r) nodes ++ x ∷ [])
 held-push array height nodes r x g fits inside =
     let left = take (length nodes - r) nodes in
-    let place : height - r ≡ 4 + (length nodes - r) = omega (arith, g .height-is) in
+    let place : height - r ≡ stackBase + (length nodes - r) = omega (arith, g .height-is) in
     record {
       words =
           ap (λ (k : ℕ). take k (set array (height - r) x)) (add-one (height - r)) ∙ take-suc-set array (height - r) x (omega arith)
           ∙ ap (λ (l : List ℕ). l ++ x ∷ [])
           (sym (take-take (height - r) height array (omega arith)) ∙ ap₂ (λ (k : ℕ) (l : List ℕ). take k l) place (g .words)
-          ∙ take-append-add (replicate 4 0) nodes (length nodes - r))
-          ∙ append-assoc (replicate 4 0) left (x ∷ []);
+          ∙ take-append-add (replicate stackBase 0) nodes (length nodes - r))
+          ∙ append-assoc (replicate stackBase 0) left (x ∷ []);
       height-is = omega (arith, place, length-append left (x ∷ []), length-take-le (length nodes - r) nodes (omega arith));
     }
 
@@ -44,21 +43,17 @@ module _ (a ch : List ℕ) (tree : BoundedTree a ch) (i : ℕ) (inside : i < len
 
   -- no node lacks children
   pub rank-fits : r ≤ length (rootsOf a ch i)
-  rank-fits = omega (arith, arity-is, arity-fits a ch i (tree .tree) inside)
+  rank-fits = omega (arith, arity-is, arity-fits (arity a) ch i (tree .tree) inside)
 
   -- node i in the place of its children
   pub roots-next : rootsOf a ch (i + 1) ≡ i ∷ drop r (rootsOf a ch i)
   roots-next =
-      ap (rootsOf a ch) (add-one i) ∙ numbers-more (arity a) ch i inside ∙ ap (λ (k : ℕ). i ∷ drop k (rootsOf a ch i)) (sym arity-is)
+      ap (rootsOf a ch) (add-one i) ∙ roots-more (arity a) ch i inside ∙ ap (λ (k : ℕ). i ∷ drop k (rootsOf a ch i)) (sym arity-is)
 
 -- ---- representatives
 
-below-snoc : (n : ℕ) (l : List ℕ) (x : ℕ) → AllBelow n l → x < n → AllBelow n (l ++ x ∷ [])
-below-snoc n [] x b h = (h, tt)
-below-snoc n (y ∷ l) x b h = (b .0, below-snoc n l x (b .1) h)
-
 -- the roots themselves
-pub represent-roots : {a table ch marks array : List ℕ} {i height : ℕ} → length array ≡ 4100 → i ≤ length ch
+pub represent-roots : {a table ch marks array : List ℕ} {i height : ℕ} → length array ≡ stackLength → i ≤ length ch
     → Held array height (reverse (rootsOf a ch i)) → Represented a table ch i marks array height
 represent-roots {a} {table} {ch} {marks} {array} {i} l h g =
     record {
@@ -66,7 +61,7 @@ represent-roots {a} {table} {ch} {marks} {array} {i} l h g =
       held = g;
       long = l;
       count = length-reverse (rootsOf a ch i);
-      below = below-reverse i (rootsOf a ch i) [] (numbers-below (arity a) ch i h) tt;
+      below = each-reverse (λ x. x < i) (rootsOf a ch i) (roots-below (arity a) ch i h);
       same = refl;
     }
 
@@ -82,29 +77,23 @@ module _ {a table ch : List ℕ} {i : ℕ} {marks array : List ℕ} {height : �
   pub nodes-fit : r ≤ length (g .nodes)
   nodes-fit = omega (arith, rank-fits a ch tree i inside r e, g .count)
 
-  pub stack-fits : r ≤ height
+  stack-fits : r ≤ height
   stack-fits = let f = nodes-fit in omega (arith, g .held .height-is)
 
   -- the stack has a place above its top
   pub stack-height : height < length array
   stack-height =
       let few = tree .few in
-      let f = roots-few a ch i (omega arith) in
+      let f = roots-few (arity a) ch i (omega arith) in
       omega (arith, g .held .height-is, g .count, g .long)
 
-  pub stack-pushable : Pushable a ch i array height
-  stack-pushable =
+  -- node i is put in the place of its children, or an earlier node
+  pub stack-pushable : (node : ℕ) → node < i + 1 → Pushable array height r node
+  stack-pushable node low =
       let few = tree .few in
-      record {
-        inside = inside;
-        few = omega arith;
-        fits = rw (← e) stack-fits;
-        height-inside = stack-height;
-        small = omega
-            (arith, g .long);
-      }
+      record { few = omega arith; fits = stack-fits; height-inside = stack-height; small = omega (arith, g .long) }
 
-  -- node i is put in the place of its children, or an earlier node with the same words; earlier words have not changed
+  -- the node has the same words; earlier words have not changed
   module _ (node : ℕ) (low : node < i + 1) (marks′ : List ℕ)
       (kept : (j : ℕ) → j < i → storedSet (sizeOf table) marks′ j ≡ storedSet (sizeOf table) marks j)
       (own : storedSet (sizeOf table) marks′ i ≡ storedSet (sizeOf table) marks′ node) where
@@ -118,7 +107,7 @@ module _ {a table ch : List ℕ} {i : ℕ} {marks array : List ℕ} {height : �
     same =
         map-below stored (storedSet (sizeOf table) marks) i nodes (g .below) kept ∙ g .same
         ∙ sym (map-below stored (storedSet (sizeOf table) marks) i (reverse roots)
-        (below-reverse i roots [] (numbers-below (arity a) ch i (omega arith)) tt) kept)
+        (each-reverse (λ x. x < i) roots (roots-below (arity a) ch i (omega arith))) kept)
 
     same-left : map (storedSet (sizeOf table) marks′) left ≡ map (storedSet (sizeOf table) marks′) (reverse (drop r (rootsOf a ch i)))
     same-left =
@@ -136,7 +125,9 @@ module _ {a table ch : List ℕ} {i : ℕ} {marks array : List ℕ} {height : �
           count =
               length-append left (node ∷ []) ∙ ap (λ (k : ℕ). k + 1) (length-take-le (length nodes - r) nodes (omega arith))
               ∙ add-one (length nodes - r) ∙ ap (λ (k : ℕ). suc (k - r)) (g .count) ∙ sym (ap length next ∙ ap suc (length-drop r roots));
-          below = below-snoc (i + 1) left node (rw (add-one i) (below-more i left (below-take i (length nodes - r) nodes (g .below)))) low;
+          below =
+              each-append (λ x. x < i + 1) left (node ∷ [])
+              (below-more i (i + 1) (omega arith) left (each-take (λ x. x < i) (length nodes - r) nodes (g .below))) (low, tt);
           same =
               map-append stored left (node ∷ []) ∙ ap₂ (λ (l : List StateSet) (x : StateSet). l ++ x ∷ []) same-left (sym own)
               ∙ sym (ap (map stored) (ap reverse next ∙ reverse-cons i (drop r roots))
@@ -147,10 +138,10 @@ module _ {a table ch : List ℕ} {i : ℕ} {marks array : List ℕ} {height : �
 
 pub record Stacking (a ch array : List ℕ) (height count i : ℕ) : Type 0 where
   pub high : i ≤ count
-  pub long : length array ≡ 4100
+  pub long : length array ≡ stackLength
   pub held : Held array height (reverse (rootsOf a ch i))
 
-pub stacking-none : {a ch : List ℕ} {count : ℕ} {array : List ℕ} → Stackable a ch count array → Stacking a ch array 4 count 0
+pub stacking-none : {a ch : List ℕ} {count : ℕ} {array : List ℕ} → Stackable a ch count array → Stacking a ch array stackBase count 0
 unfolding stackGivenBy
 stacking-none g = record { high = omega arith; long = g .long; held = record { words = g .zeros; height-is = refl } }
 
@@ -159,26 +150,25 @@ module _ {a ch : List ℕ} {count : ℕ} {array₀ : List ℕ} (pre : Stackable 
   itself : i ≤ length ch → Represented a ch ch i array array height
   itself h = represent-roots (g .long) h (g .held)
 
-  module _ (l : i < count) where
+  module _ (l : i < count) (r : ℕ) (e : r ≡ rankOf a (symbolOf (getD ch i 0))) where
     inside : i < length ch
     inside = omega (arith, pre .within)
 
-    pub stacking-pushable : Pushable a ch i array height
-    stacking-pushable = stack-pushable (itself (omega (arith, inside))) (pre .tree) inside (rankOf a (symbolOf (getD ch i 0))) refl
+    pub stacking-pushable : Pushable array height r i
+    stacking-pushable = stack-pushable (itself (omega (arith, inside))) (pre .tree) inside r e i (omega arith)
 
-    pub stacking-more : (array′ : List ℕ) (height′ : ℕ) → height′ ≡ height - rankOf a (symbolOf (getD ch i 0)) + 1
-        → array′ ≡ set array (height - rankOf a (symbolOf (getD ch i 0))) i → Stacking a ch array′ height′ count (i + 1)
+    pub stacking-more : (array′ : List ℕ) (height′ : ℕ) → height′ ≡ height - r + 1 → array′ ≡ set array (height - r) i
+        → Stacking a ch array′ height′ count (i + 1)
     stacking-more array′ height′ p q =
-        let r = rankOf a (symbolOf (getD ch i 0)) in
         let roots = rootsOf a ch i in
         let rep = itself (omega (arith, inside)) in
         let pushed =
         held-push array height (reverse roots) r i (g .held)
-        (omega (arith, rank-fits a ch (pre .tree) i inside r refl, length-reverse roots))
-        (stack-height rep (pre .tree) inside r refl) in
+        (omega (arith, rank-fits a ch (pre .tree) i inside r e, length-reverse roots))
+        (stack-height rep (pre .tree) inside r e) in
         let same : take (length (reverse roots) - r) (reverse roots) ++ i ∷ [] ≡ reverse (rootsOf a ch (i + 1))
         = ap (λ (l : List ℕ). l ++ i ∷ []) (ap (λ (k : ℕ). take (k - r) (reverse roots)) (length-reverse roots) ∙ take-reverse r roots)
-        ∙ sym (ap reverse (roots-next a ch (pre .tree) i inside r refl) ∙ reverse-cons i (drop r roots)) in
+        ∙ sym (ap reverse (roots-next a ch (pre .tree) i inside r e) ∙ reverse-cons i (drop r roots)) in
         rw (p, q) (record {
           high = omega arith;
           long = length-set array (height - r) i ∙ g .long;

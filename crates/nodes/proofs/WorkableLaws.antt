@@ -15,16 +15,16 @@ use Rattle.words.proofs.TestLaws.{and-true, all-right}
 use Rattle.words.proofs.WordLaws.{isNode-facts}
 use Rattle.words.proofs.AcceptedAlphabet.{alphabet-accepted}
 use Rattle.words.proofs.AcceptedTree.{tree-accepted}
-use Rattle.automaton.proofs.TableLaws.{isTable-tables, isTable-sizes}
+use Rattle.automaton.proofs.TableLaws.{isTable-tables}
 use Rattle.operations.specs.Marks.{sizeOf}
 use Rattle.operations.proofs.AcceptedLaws.{RunAccepted}
 use Rattle.sets.specs.Size.{setMost}
+use Rattle.sets.proofs.SizeLaws.{set-small}
 use Rattle.nodes.specs.Nodes.{BoundedTree, Workable}
 
 -- no state set has more words than there may be
 pub workable-size : {a table ch : List ℕ} {marksLength : ℕ} → Workable a table ch marksLength → sizeOf table ≤ setMost
-unfolding sizeOf
-workable-size {a} {table} g = isTable-sizes a table (g .checked) .size-most
+workable-size {a} {table} g = set-small a table (g .checked)
 
 -- and no table
 pub table-few : {a table ch : List ℕ} {marksLength : ℕ} → Workable a table ch marksLength → length table ≤ tableMost

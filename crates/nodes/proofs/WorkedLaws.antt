@@ -4,9 +4,9 @@ use mathlib.Core.List.{List, map}
 use Prim.Native.Nat.{ℕ, zero, suc, _+_, _≤_}
 use native.Mathlib.Omega.{arith}
 use lib.ListN.{length, set, length-set}
+use Rattle.words.specs.Postfix.{rootsOf}
 use Rattle.automaton.specs.StateSet.{StateSet}
 use Rattle.nodes.proofs.LoopLaws.{setAt, setFromSets, Recomputing, recomputing-none, recomputing-more}
-use Rattle.nodes.specs.Nodes.{rootsOf}
 
 module _ (a table ch : List ℕ) where
   -- the state sets behind n nodes from node i on

@@ -3,11 +3,12 @@ use Prim.Native.Nat.{ℕ, _<_, _≤_}
 use mathlib.Core.Path.{_≡_}
 use mathlib.Core.List.{List, reverse, map}
 use lib.ListN.{length}
-use Rattle.automaton.specs.Table.{AllBelow}
+use Rattle.words.specs.Lists.{AllBelow}
+use Rattle.words.specs.Postfix.{rootsOf}
 use Rattle.operations.specs.Marks.{sizeOf, storedSet}
 use Rattle.index.specs.Index.{indexOf}
 use Rattle.memo.specs.Memo.{Remembered}
-use Rattle.nodes.specs.Nodes.{rootsOf, stackLength, Held, Workable}
+use Rattle.nodes.specs.Nodes.{stackLength, Held, Workable}
 
 -- the stack holds nodes before i, which have the state sets of the roots of the first i nodes, the last root on top
 pub record Represented (a table ch : List ℕ) (i : ℕ) (marks array : List ℕ) (height : ℕ) : Type 0 where

@@ -3,23 +3,24 @@
 use Prim.Native.Nat.{ℕ, zero, suc, _+_, _*_, _<_, _≤_}
 use mathlib.Core.Path.{_≡_}
 use mathlib.Core.Bool.{true}
-use mathlib.Core.List.{List, [], _++_, map}
+use mathlib.Core.List.{List, _++_}
 use lib.ListN.{length, getD, take, replicate}
 use lib.Seq.{paste}
 use Rattle.words.specs.Limits.{alphabetMost, rankMost, nodesMost}
 use Rattle.words.specs.Alphabet.{rankOf}
 use Rattle.words.specs.Lists.{all}
 use Rattle.words.specs.Chapter.{isNode, symbolOf}
-use Rattle.words.specs.Postfix.{oneTree, stackGiven, childrenOf}
+use Rattle.words.specs.Postfix.{oneTree, childrenOf}
 use Rattle.automaton.specs.Table.{isTable}
 use Rattle.automaton.specs.StateSet.{StateSet}
-use Rattle.operations.specs.Marks.{sizeOf, nodeSet, storedSet}
+use Rattle.operations.specs.Marks.{sizeOf}
+use Rattle.memo.specs.Memo.{setOver}
 
 -- ---- the marks
 
 -- node i's state set from its children's, which are in the marks
 unfoldable pub setFrom : List ℕ → List ℕ → List ℕ → List ℕ → ℕ → StateSet
-setFrom a table ch marks i = nodeSet table (getD ch i 0) (map (storedSet (sizeOf table) marks) (childrenOf a ch i))
+setFrom a table ch marks i = setOver table (symbolOf (getD ch i 0)) marks (childrenOf a ch i)
 
 -- the marks with node i's words as they are worked out
 unfoldable pub markedAt : List ℕ → List ℕ → List ℕ → ℕ → List ℕ → List ℕ
@@ -31,10 +32,6 @@ markedFrom a table ch i zero marks = marks
 markedFrom a table ch i (suc n) marks = markedAt a table ch (i + n) (markedFrom a table ch i n marks)
 
 -- ---- the stack
-
--- the roots of the trees that the first j nodes make, the last one first
-abbrev pub rootsOf : List ℕ → List ℕ → ℕ → List ℕ
-rootsOf a ch j = stackGiven a (λ k. k) 0 (take j ch) []
 
 -- the zeros at the bottom of the stack: there are always as many words to read at its top as a node has children
 abbrev pub stackBase : ℕ
@@ -49,11 +46,10 @@ pub record Held (array : List ℕ) (height : ℕ) (nodes : List ℕ) : Type 0 wh
   pub words : take height array ≡ replicate stackBase 0 ++ nodes
   pub height-is : height ≡ stackBase + length nodes
 
--- what putting node i on the stack asks
-pub record Pushable (a ch : List ℕ) (i : ℕ) (array : List ℕ) (height : ℕ) : Type 0 where
-  pub inside : i < length ch
-  pub few : i < nodesMost
-  pub fits : rankOf a (symbolOf (getD ch i 0)) ≤ height
+-- what putting a node on the stack in the place of its children asks
+pub record Pushable (array : List ℕ) (height children node : ℕ) : Type 0 where
+  pub few : node < nodesMost
+  pub fits : children ≤ height
   pub height-inside : height < length array
   pub small : length array ≤ stackLength
 

@@ -5,6 +5,7 @@ ghost use Prim.Native.Nat.{_+_, _-_};
 ghost use Rattle.nodes.specs.Nodes.{markedAt, markedFrom};
 ghost use Rattle.nodes.specs.Marking.{Maintained, NodeMarkable, NodesMarkable};
 use super::stack::STACK_BASE;
+use super::stack::push_node;
 use alphabet::rank;
 use memo::lookup::mark_next;
 use words::word::SYMBOL_RANGE;
@@ -55,9 +56,7 @@ pub fn mark_node(
         rows,
         pending,
     );
-    let below = height - children;
-    stack[below] = node as u32;
-    below + 1
+    push_node(stack, height, children, node)
 }
 
 // Marks the nodes from `from` up to `to`, one after the other; answers the stack's height.

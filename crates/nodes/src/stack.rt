@@ -3,38 +3,28 @@
 ghost use mathlib.Core.Path.{_≡_};
 ghost use mathlib.Core.List.{reverse};
 ghost use Prim.Native.Nat.{_+_, _-_};
-ghost use lib.ListN.{getD, set};
-ghost use Rattle.words.specs.Alphabet.{rankOf};
-ghost use Rattle.words.specs.Chapter.{symbolOf};
-ghost use Rattle.nodes.specs.Nodes.{rootsOf, Held, Pushable, Stackable};
+ghost use lib.ListN.{set};
+ghost use Rattle.words.specs.Postfix.{rootsOf};
+ghost use Rattle.nodes.specs.Nodes.{Held, Pushable, Stackable};
 use alphabet::rank;
 use words::limits::NODES_MOST;
 use words::limits::RANK_MOST;
 use words::word::SYMBOL_RANGE;
 
 // The zeros at the bottom.
-pub const STACK_BASE: usize = RANK_MOST;
+pub(crate) const STACK_BASE: usize = RANK_MOST;
 
 // The words of the array.
 pub const STACK_LENGTH: usize = STACK_BASE + NODES_MOST;
 
-// Puts node i on the stack in the place of its children, and answers the stack's height.
-pub fn push_node(
-    alphabet: &[u32],
-    nodes: &[u32],
-    i: usize,
-    stack: &mut [u32],
-    height: usize,
-) -> usize
-    requires { ⌜ Pushable (now alphabet) (now nodes) i (now stack) height ⌝ }
-    ensures answer { λ r. ⌜ r ≡ height - rankOf (now (alphabet .entry)) (symbolOf (getD (now (nodes .entry)) i 0)) + 1 ⌝ }
-    ensures stack { λ _. ⌜
-        now (stack .exit)
-        ≡ set (now (stack .entry)) (height - rankOf (now (alphabet .entry)) (symbolOf (getD (now (nodes .entry)) i 0))) i
-        ⌝ }
+// Puts a node on the stack in the place of its children, of which there are so many, and answers the stack's height.
+pub fn push_node(stack: &mut [u32], height: usize, children: usize, node: usize) -> usize
+    requires { ⌜ Pushable (now stack) height children node ⌝ }
+    ensures answer { λ r. ⌜ r ≡ height - children + 1 ⌝ }
+    ensures stack { λ _. ⌜ now (stack .exit) ≡ set (now (stack .entry)) (height - children) node ⌝ }
 {
-    let below = height - rank(alphabet, (nodes[i] % SYMBOL_RANGE) as usize);
-    stack[below] = i as u32;
+    let below = height - children;
+    stack[below] = node as u32;
     below + 1
 }
 
@@ -46,7 +36,8 @@ pub fn stack_nodes(alphabet: &[u32], nodes: &[u32], count: usize, stack: &mut [u
     let mut height = STACK_BASE;
     let mut i = 0;
     while i < count {
-        height = push_node(alphabet, nodes, i, stack, height);
+        let children = rank(alphabet, (nodes[i] % SYMBOL_RANGE) as usize);
+        height = push_node(stack, height, children, i);
         i += 1;
     }
     height

@@ -1,16 +1,17 @@
 -- The ones in a list of words: of a list behind a list, and how many there are at most.
 use mathlib.Core.Path.{_≡_, ap, _∙_, sym}
 use mathlib.Core.List.{List, [], _∷_, _++_, flatten}
-use Prim.Native.Nat.{ℕ, suc, _+_, _*_, _≤_}
+use Prim.Native.Nat.{ℕ, _+_, _*_, _≤_}
 use native.Mathlib.Omega.{arith}
 use native.Mathlib.Nat.{zero-add, add-assoc, suc-mul}
 use lib.ListN.{length, drop}
 use lib.Count.{ones, ones-le}
 use Rattle.words.specs.Shape.{valueOnBy, valuesBy}
 use Rattle.words.specs.Postfix.{arity, valueOn, values}
+use Rattle.words.specs.Word.{wordRange}
+use Rattle.words.specs.Lists.{AllBelow}
 use Rattle.automaton.specs.StateSet.{StateSet}
 use Rattle.automaton.specs.Transition.{automatonOf}
-use Rattle.automaton.proofs.BitLaws.{Words}
 use Rattle.automaton.proofs.ClosureLaws.{words-stateSet}
 use Rattle.operations.specs.Marks.{sizeOf, nodeSet, nodeSets}
 use Rattle.operations.specs.Run.{cellsIn}
@@ -22,16 +23,16 @@ cells-append [] k = sym (zero-add (cellsIn k))
 cells-append (w ∷ l) k = ap (λ (i : ℕ). ones w + i) (cells-append l k) ∙ sym (add-assoc (ones w) (cellsIn l) (cellsIn k))
 
 -- a word has at most 32 ones
-cells-most : (ws : List ℕ) → Words ws → cellsIn ws ≤ 32 * length ws
+cells-most : (ws : List ℕ) → AllBelow wordRange ws → cellsIn ws ≤ 32 * length ws
 unfolding cellsIn
 cells-most [] h = omega arith
 cells-most (w ∷ ws) h =
-    let few = ones-le 32 w (h 0) in
-    let rest = cells-most ws (λ i. h (suc i)) in
+    let few = ones-le 32 w (h .0) in
+    let rest = cells-most ws (h .1) in
     omega arith
 
 module _ (a table : List ℕ) where
-  words-nodeSet : (w : ℕ) (rs : List StateSet) → Words (nodeSet table w rs)
+  words-nodeSet : (w : ℕ) (rs : List StateSet) → AllBelow wordRange (nodeSet table w rs)
   unfolding nodeSet
   words-nodeSet w rs = words-stateSet (automatonOf table) _ rs
 

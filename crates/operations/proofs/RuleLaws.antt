@@ -8,12 +8,12 @@ use native.Mathlib.Omega.{arith}
 use lib.ListN.{length, getD, take, drop}
 use lib.Seq.{drop-cons, length-take-le}
 use Rattle.words.specs.Shape.{spliceBy, valuesBy, stackAfterBy, stackGivenBy}
-use Rattle.words.specs.Postfix.{arity, oneTree, startOf, isAncestor, splice, valueOn, values, stackAfter, stackGiven, childrenOf}
+use Rattle.words.specs.Postfix.{arity, oneTree, startOf, isAncestor, splice, valueOn, values, stackAfter, stackGiven, childrenOf, rootsOf}
 use Rattle.words.proofs.TestLaws.{Tested, holds, fails, tested}
 use Rattle.words.proofs.ListLaws.{map-drop}
 use Rattle.words.proofs.PostfixLaws.{start-le}
 use Rattle.words.proofs.StackLaws.{read}
-use Rattle.words.proofs.ChildLaws.{numbers, numbers-more, children-value}
+use Rattle.words.proofs.ChildLaws.{roots-more, children-value}
 use Rattle.automaton.specs.StateSet.{StateSet}
 use Rattle.operations.specs.Marks.{nodeSet, nodeSets, sameWords}
 use Rattle.operations.specs.Exchange.{Outcome, kept, recomputed, setIn, keptFrom, propagate, rootSet, outcomesBehind, outcomesAfter}
@@ -167,21 +167,21 @@ module _ (a table : List ℕ) where
         (subst (Follows (drop j ws) s) (drop-cons os j (kept []) (omega (arith, follows-length ws [] os h))) g)
 
     -- the words from j on, over the sets of the roots of the first j
-    follows-from : (j : ℕ) → j ≤ length ws → Follows (drop j ws) (map setAt (numbers (arity a) ws j)) (drop j os)
+    follows-from : (j : ℕ) → j ≤ length ws → Follows (drop j ws) (map setAt (rootsOf a ws j)) (drop j os)
     unfolding stackGivenBy
     follows-from zero l = h
     follows-from (suc j) l =
         subst (λ (s : List StateSet). Follows (drop (suc j) ws) s (drop (suc j) os)) (sym stack)
-        (opened j (map setAt (numbers (arity a) ws j)) l (follows-from j (omega arith)) .1)
+        (opened j (map setAt (rootsOf a ws j)) l (follows-from j (omega arith)) .1)
       where
-        stack : map setAt (numbers (arity a) ws (suc j)) ≡ setAt j ∷ drop (arity a (getD ws j 0)) (map setAt (numbers (arity a) ws j))
+        stack : map setAt (rootsOf a ws (suc j)) ≡ setAt j ∷ drop (arity a (getD ws j 0)) (map setAt (rootsOf a ws j))
         stack =
-            ap (map setAt) (numbers-more (arity a) ws j l)
-            ∙ ap (λ (t : List StateSet). setAt j ∷ t) (map-drop setAt (arity a (getD ws j 0)) (numbers (arity a) ws j))
+            ap (map setAt) (roots-more (arity a) ws j l)
+            ∙ ap (λ (t : List StateSet). setAt j ∷ t) (map-drop setAt (arity a (getD ws j 0)) (rootsOf a ws j))
 
     pub from-children : (j : ℕ) (r : StateSet) → j < length ws → outcomeAt os j ≡ recomputed r
         → r ≡ nodeSet table (getD ws j 0) (map (λ i. setIn (outcomeAt os i)) (childrenOf a ws j))
     from-children j r l e =
-        subst (λ (o : Outcome). Is o (on (getD ws j 0) (map setAt (numbers (arity a) ws j)))) e
-        (opened j (map setAt (numbers (arity a) ws j)) l (follows-from j (omega arith)) .0)
-        ∙ sym (children-value (arity a) ws (nodeSet table) setAt j (map setAt (numbers (arity a) ws j)) refl)
+        subst (λ (o : Outcome). Is o (on (getD ws j 0) (map setAt (rootsOf a ws j)))) e
+        (opened j (map setAt (rootsOf a ws j)) l (follows-from j (omega arith)) .0)
+        ∙ sym (children-value (arity a) ws (nodeSet table) setAt j (map setAt (rootsOf a ws j)) refl)

@@ -15,12 +15,14 @@ use Rattle.automaton.specs.StateSet.{StateSet}
 use Rattle.operations.specs.Marks.{sizeOf, storedSet, sameWords}
 use Rattle.operations.proofs.MarksLaws.{same-words}
 use Rattle.slices.proofs.CopyLaws.{paste-same}
-use Rattle.sets.proofs.StoredLaws.{row-inside, words-few, stored-written}
+use Rattle.sets.specs.Size.{marksMost, setMost}
+use Rattle.sets.proofs.StoredLaws.{row-inside, stored-written}
+use Rattle.sets.proofs.SizeLaws.{words-few}
 use Rattle.memo.proofs.MemoLaws.{remembered-later}
-use Rattle.nodes.specs.Nodes.{setFrom, markedAt, Pushable}
+use Rattle.nodes.specs.Nodes.{setFrom, markedAt}
 use Rattle.nodes.specs.Marking.{NodeMarkable, Maintained}
 use Rattle.nodes.proofs.WorkableLaws.{workable-size, node-arity}
-use Rattle.nodes.proofs.RootStackLaws.{stack-pushable, represented-more}
+use Rattle.nodes.proofs.RootStackLaws.{represented-more}
 use Rattle.nodes.proofs.MarkLaws.{length-setFrom}
 use Rattle.propagation.specs.declared.Progress.{Progress}
 use Rattle.propagation.specs.Propagation.{recomputeAt, propagateStep, propagateFrom}
@@ -53,12 +55,12 @@ module _ {a table index ch : List ℕ} {i : ℕ} {marks array : List ℕ} {heigh
   pub row-fits : i * size + size ≤ length marks
   row-fits = rw s (row-inside i (length ch) (sizeOf table) (length marks) (g .inside) (g .workable .marks-fit))
 
-  pub row-small : i * size + size ≤ 131072
+  pub row-small : i * size + size ≤ marksMost
   row-small =
-      row-inside i (length ch) size 131072 (g .inside)
+      row-inside i (length ch) size marksMost (g .inside)
       (words-few (length ch) size (g .workable .tree .few) (rw s (workable-size (g .workable))))
 
-  pub row-few : size ≤ 32
+  pub row-few : size ≤ setMost
   row-few = rw s (workable-size (g .workable))
 
   stored-new : (marks′ : List ℕ) → i * size + size - i * size ≡ size
@@ -66,7 +68,7 @@ module _ {a table index ch : List ℕ} {i : ℕ} {marks array : List ℕ} {heigh
   unfolding storedSet
   stored-new marks′ n = ap (λ (k : ℕ). take k (drop (i * size) marks′)) n ∙ ap (λ (k : ℕ). take k (drop (i * k) marks′)) s
 
-  pub row-part : length (take (i * size + size - i * size) (drop (i * size) marks)) ≤ 32
+  pub row-part : length (take (i * size + size - i * size) (drop (i * size) marks)) ≤ setMost
   row-part =
       let n : i * size + size - i * size ≡ size = omega arith in
       let l = row-fits in
@@ -109,22 +111,18 @@ module _ {a table index ch : List ℕ} {i : ℕ} {marks array : List ℕ} {heigh
 -- ---- one node is passed
 
 module _ {a table index ch : List ℕ} {i : ℕ} {marks array : List ℕ} {height : ℕ} {keys known places owners rows pending : List ℕ}
-    (g : NodeMarkable a table index ch i marks array height keys known places owners rows pending) where
-  pub node-rank : (k : ℕ) → k ≡ rankOf a (symbolOf (getD ch i 0)) → k ≡ arity a (getD ch i 0)
-  node-rank k e = e ∙ sym (node-arity (g .workable .tree) i (g .inside))
-
-  pub node-pushable : Pushable a ch i array height
-  node-pushable = stack-pushable (g .maintained .represented) (g .workable .tree) (g .inside) (rankOf a (symbolOf (getD ch i 0))) refl
+    (g : NodeMarkable a table index ch i marks array height keys known places owners rows pending) (k : ℕ)
+    (e : k ≡ rankOf a (symbolOf (getD ch i 0))) where
+  pub node-rank : k ≡ arity a (getD ch i 0)
+  node-rank = e ∙ sym (node-arity (g .workable .tree) i (g .inside))
 
   -- the node is put on the stack, and its words stay
-  pub node-passed : {array′ : List ℕ} {height′ : ℕ} → height′ ≡ height - rankOf a (symbolOf (getD ch i 0)) + 1
-      → array′ ≡ set array (height - rankOf a (symbolOf (getD ch i 0))) i
+  pub node-passed : {array′ : List ℕ} {height′ : ℕ} → height′ ≡ height - k + 1 → array′ ≡ set array (height - k) i
       → Maintained a table ch (i + 1) marks array′ height′ keys known places owners rows pending
   node-passed p q =
       rw (p, q) (record {
         represented =
-            represented-more (g .maintained .represented) (g .workable .tree) (g .inside) (rankOf a (symbolOf (getD ch i 0))) refl i
-            (omega arith) marks (λ j l. refl) refl;
+            represented-more (g .maintained .represented) (g .workable .tree) (g .inside) k e i (omega arith) marks (λ j l. refl) refl;
         remembered = remembered-later (g .maintained .remembered);
       })
 

@@ -129,7 +129,7 @@ fn propagate_node(
     let reach = progress.reach;
     let recomputed = progress.recomputed;
     if children < reach {
-        let top = push_node(alphabet, nodes, i, stack, height);
+        let top = push_node(stack, height, children, i);
         return Passed {
             progress: Progress {
                 reach: reach - children + 1,

@@ -12,10 +12,10 @@ use borrow.Author.Tests.{ltb-false, eqb-true}
 use Rattle.words.specs.Limits.{statesMost}
 use Rattle.words.specs.Chapter.{symbolOf}
 use Rattle.words.specs.Postfix.{startOf}
+use Rattle.words.specs.Lists.{AllBelow}
 use Rattle.words.proofs.LimitLaws.{not-outside}
 use Rattle.words.proofs.RefusalLaws.{none-applies, refusal-most}
 use Rattle.automaton.specs.StateSet.{StateSet, contains}
-use Rattle.automaton.specs.Table.{AllBelow}
 use Rattle.automaton.specs.Numbering.{compiled}
 use Rattle.operations.specs.Compile.{compiledTable, tooManyStates}
 use Rattle.operations.specs.Marks.{nodeSets}

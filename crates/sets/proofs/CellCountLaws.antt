@@ -1,22 +1,23 @@
 -- The ones in a list of words are counted word by word.
 use mathlib.Core.Path.{_≡_, refl, ap, ap₂, _∙_, sym}
 use mathlib.Core.List.{List, [], _∷_}
-use Prim.Native.Nat.{ℕ, _+_, _*_, _<_, _≤_, _^_}
+use Prim.Native.Nat.{ℕ, _+_, _*_, _<_, _≤_}
 use native.Mathlib.Omega.{arith}
 use native.Mathlib.Nat.{add-zero, add-comm}
 use native.Mathlib.Numerals.{add-one}
 use lib.ListN.{length, getD, take}
 use lib.Seq.{take-suc, take-all}
 use lib.Count.{ones, ones-le, ones-cat}
+use Rattle.words.specs.Word.{wordRange}
 use Rattle.operations.specs.Run.{cellsIn}
 use Rattle.operations.proofs.CellLaws.{cells-append}
 
 -- two words of 32 bits as one of 64
-pub pair-ones : (low high : ℕ) → low < 2 ^ 32 → ones (high * 4294967296 + low) ≡ ones low + ones high
+pub pair-ones : (low high : ℕ) → low < wordRange → ones (high * wordRange + low) ≡ ones low + ones high
 pair-ones low high h = ones-cat 32 high low h ∙ add-comm (ones high) (ones low)
 
 -- a word has at most 32 ones
-pub pair-few : (low high r : ℕ) → low < 2 ^ 32 → high < 2 ^ 32 → r ≡ ones low + ones high → r ≤ 64
+pub pair-few : (low high r : ℕ) → low < wordRange → high < wordRange → r ≡ ones low + ones high → r ≤ 64
 pair-few low high r l h e = omega (arith, ones-le 32 low l, ones-le 32 high h)
 
 -- the ones of the first k words; each word has at most 32
@@ -30,7 +31,7 @@ module _ (ws : List ℕ) where
   unfolding cellsIn
   summed-none = record { few = omega arith; small = omega arith; same = refl }
 
-  pub summed-more : (n k : ℕ) → Summed ws n k → k < length ws → getD ws k 0 < 2 ^ 32 → Summed ws (n + ones (getD ws k 0)) (k + 1)
+  pub summed-more : (n k : ℕ) → Summed ws n k → k < length ws → getD ws k 0 < wordRange → Summed ws (n + ones (getD ws k 0)) (k + 1)
   unfolding cellsIn
   summed-more n k g h word =
       let small = g .small in
@@ -45,7 +46,7 @@ module _ (ws : List ℕ) where
       }
 
   -- two words at once
-  pub summed-pair : (n k r : ℕ) → Summed ws n k → k + 1 < length ws → getD ws k 0 < 2 ^ 32 → getD ws (k + 1) 0 < 2 ^ 32
+  pub summed-pair : (n k r : ℕ) → Summed ws n k → k + 1 < length ws → getD ws k 0 < wordRange → getD ws (k + 1) 0 < wordRange
       → r ≡ ones (getD ws k 0) + ones (getD ws (k + 1) 0) → Summed ws (n + r) (k + 2)
   summed-pair n k r g h first second e =
       let sum : n + ones (getD ws k 0) + ones (getD ws (k + 1) 0) ≡ n + r = omega arith in

@@ -1,19 +1,21 @@
 -- Two sets joined word by word: the states of either, and no other.
-use mathlib.Core.Path.{_≡_, refl, ap, ap₂, _∙_, sym}
-use mathlib.Core.Logic.{_⊎_, inl, inr, ⊎-elim}
-use mathlib.Core.Bool.{true, false, true≢false}
-use mathlib.Core.List.{List}
+use mathlib.Core.Path.{_≡_, refl, ap, _∙_, sym}
+use mathlib.Core.Logic.{_⊎_, inl, inr}
+use mathlib.Core.Bool.{true, true≢false}
 use Prim.Native.Nat.{ℕ, zero, suc, _+_, _<_, _≤_, _/_, _%_, _^_, max}
 use native.Mathlib.Omega.{arith}
 use native.Mathlib.Numerals.{add-one}
 use native.Mathlib.Decide.{ℕ-discrete, decLt}
-use lib.Bits.{bitOr, or-lt}
+use lib.Bits.{bitOr}
 use lib.Dec.{eqb}
-use lib.ListN.{length, getD, set, length-set, List·getD-eq-default}
+use lib.ListN.{length, getD, set, length-set}
 use lib.Seq.{getD-set-same, getD-set-other}
 use borrow.Author.Tests.{eq-eqb, eqb-true}
+use Rattle.words.specs.Lists.{AllBelow}
+use Rattle.words.specs.Word.{wordRange}
+use Rattle.words.proofs.AllLaws.{each-set}
 use Rattle.automaton.specs.StateSet.{StateSet, contains}
-use Rattle.automaton.proofs.BitLaws.{Words, or-bit, contains-beyond}
+use Rattle.automaton.proofs.BitLaws.{or-bit, contains-beyond, words-or}
 use Rattle.sets.specs.Joined.{joinedTo, joined}
 
 -- ---- one word after the other
@@ -55,18 +57,17 @@ word-joined (suc k) r t i h l = go (ℕ-discrete i k) (λ m. word-joined k r t i
         ∙ ap (λ (x : ℕ). bitOr x (getD t k 0)) (word-past k r t k (omega arith)))
     go (no e) before = getD-set-other (joinedTo k r t) k i v 0 e ∙ before (omega arith)
 
+-- joined words have 32 bits
+pub words-joined : (k : ℕ) (r t : StateSet) → AllBelow wordRange r → AllBelow wordRange t → AllBelow wordRange (joinedTo k r t)
+unfolding joinedTo
+words-joined zero r t w v = w
+words-joined (suc k) r t w v =
+    let before = words-joined k r t w v in
+    each-set (λ x. x < wordRange) (words-or (joinedTo k r t) t k k before v) (joinedTo k r t) k before
+
 -- ---- the states
 
 module _ (r t : StateSet) (e : length t ≡ length r) where
-  pub words-joined : Words r → Words t → Words (joined r t)
-  words-joined w v i = go (decLt i (length r))
-    where
-      go : Dec (i < length r) → getD (joined r t) i 0 < 2 ^ 32
-      go (yes l) = rw (word-joined (length t) r t i (omega arith) l) (or-lt 32 (getD r i 0) (getD t i 0) (w i) (v i))
-      go (no l) =
-          let h : length (joined r t) ≤ i = rw (joined-length (length t) r t) (omega arith) in
-          rw (List·getD-eq-default (joined r t) 0 h) (omega arith)
-
   -- the bit of a state in the joined word
   bit : (q : ℕ) → q / 32 < length r
       → getD (joined r t) (q / 32) 0 / 2 ^ (q % 32) % 2 ≡ max (getD r (q / 32) 0 / 2 ^ (q % 32) % 2) (getD t (q / 32) 0 / 2 ^ (q % 32) % 2)

@@ -1,8 +1,9 @@
-pub mod Constants
+pub mod ComputedTest
 pub mod MaskLaws
 pub mod JoinLaws
 pub mod CompareLaws
 pub mod CellCountLaws
 pub mod RowLaws
 pub mod SetLaws
+pub mod SizeLaws
 pub mod StoredLaws

@@ -5,7 +5,7 @@ use mathlib.Core.List.{List, [], _∷_}
 use Prim.Native.Nat.{ℕ, _<_, _^_}
 use lib.Dec.{eqb, eqb→eq}
 use lib.ListN.{getD}
-use Rattle.sets.proofs.Constants.{every-at}
+use Rattle.sets.proofs.ComputedTest.{every-at}
 
 -- the numbers of the constant table
 abbrev pub masks : List ℕ

@@ -4,9 +4,9 @@ use mathlib.Core.List.{List, _++_, append-assoc}
 use Prim.Native.Nat.{ℕ, _+_, _-_, _*_, _<_, _≤_}
 use native.Mathlib.Omega.{arith}
 use native.Mathlib.Decide.{decLt}
-use native.Mathlib.Nat.{suc-mul, le-trans, mul-le-mul-left, mul-le-mul-right}
+use native.Mathlib.Nat.{suc-mul, le-trans, mul-le-mul-right}
 use lib.ListN.{length, take, drop}
-use lib.Seq.{paste, slice, length-take-le, take-all, take-at, drop-at, drop-drop, drop-paste, take-take}
+use lib.Seq.{paste, length-take-le, take-all, take-at, drop-at, drop-drop, drop-paste, take-take}
 use Rattle.automaton.specs.StateSet.{StateSet}
 use Rattle.operations.specs.Marks.{storedSet}
 use Rattle.slices.proofs.RefitLaws.{take-drop}
@@ -14,10 +14,6 @@ use Rattle.slices.proofs.RefitLaws.{take-drop}
 -- node i's words lie inside the marks of n nodes
 pub row-inside : (i n size marksLength : ℕ) → i < n → n * size ≤ marksLength → i * size + size ≤ marksLength
 row-inside i n size marksLength h l = le-trans (rw (← suc-mul i size) (mul-le-mul-right size h)) l
-
--- the words of all marks are at most 4,096 times 32
-pub words-few : (n size : ℕ) → n ≤ 4096 → size ≤ 32 → n * size ≤ 131072
-words-few n size h l = le-trans (mul-le-mul-right size h) (mul-le-mul-left 4096 l)
 
 -- equal words up to a place are equal sets before it
 part-same : (size at j : ℕ) (l m : List ℕ) → j * size + size ≤ at → take at l ≡ take at m → storedSet size l j ≡ storedSet size m j

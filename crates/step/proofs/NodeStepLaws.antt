@@ -3,41 +3,42 @@
 use mathlib.Core.Path.{_≡_, refl, ap, _∙_, sym, subst}
 use mathlib.Core.Bool.{true, true≢false}
 use mathlib.Core.List.{List, [], _∷_, _++_, List·Memᴰ}
-use Prim.Native.Nat.{ℕ, zero, suc, _-_, _/_}
+use Prim.Native.Nat.{ℕ, zero, suc, _-_, _<_, _/_}
 use native.Mathlib.Omega.{arith}
 use lib.ListN.{length, getD, replicate, length-append, length-replicate}
+use Rattle.sets.specs.Size.{setMost}
+use Rattle.sets.proofs.SizeLaws.{set-small}
+use Rattle.words.specs.Word.{wordRange}
 use Rattle.words.proofs.TestLaws.{same-truth}
-use Rattle.automaton.proofs.PassLaws.{closed-test, test-closed}
+use Rattle.words.proofs.AllLaws.{each-append}
+use Rattle.automaton.proofs.PassLaws.{closed-test}
 use Rattle.automaton.specs.Transition.{Automaton, onSymbol, automatonOf}
 use Rattle.automaton.specs.StateSet.{StateSet, sizeFor, contains, allContained, stateSet}
 use Rattle.automaton.specs.Reached.{Reached}
-use Rattle.automaton.proofs.BitLaws.{Words, words-replicate, contains-replicate, contains-determines}
+use Rattle.automaton.proofs.BitLaws.{words-replicate, contains-replicate, contains-determines}
 use Rattle.automaton.proofs.ClosureLaws.{targets-below, seeded-closed-all, words-stateSet, stateSet-reached}
 use Rattle.automaton.proofs.SetLength.{length-stateSet}
-use Rattle.automaton.proofs.TableLaws.{isTable-automaton, isTable-sizes}
+use Rattle.automaton.proofs.TableLaws.{isTable-automaton}
 use Rattle.operations.specs.Marks.{sizeOf}
 use Rattle.index.specs.Index.{IndexedTable}
 use Rattle.step.specs.NodeSteppable.{NodeSteppable, childSets}
-use Rattle.step.specs.Node.{Growing, Steppable, SymbolFollowable, SymbolFollowed}
+use Rattle.step.specs.Node.{Steppable, SymbolFollowable, SymbolFollowed}
 use Rattle.closures.proofs.TransitionStartLaws.{member-starts, table-transitions}
 use Rattle.closures.proofs.KeyedWordLaws.{starts-symbol, starts-target}
+use Rattle.closures.proofs.KeptClosureLaws.{empty-closed}
 
 -- ---- before the first transition
 
 pub node-followable : {table index : List ℕ} {f size : ℕ} {marks children owners rows pending : List ℕ}
     → Steppable table index f marks children owners rows pending
-    → size ≡ sizeOf table → SymbolFollowable table index f size marks children owners rows pending (replicate 32 0)
+    → size ≡ sizeOf table → SymbolFollowable table index f size marks children owners rows pending (replicate setMost 0)
 node-followable {table} g e =
     record {
       steppable = g;
       size-is = e;
       growing = record {
-        size = length-replicate {A = ℕ} 32 0;
-        words = words-replicate 32;
-        reached = λ q h. absurd (true≢false (sym h ∙ contains-replicate 32 q));
-        closed =
-            test-closed (automatonOf table .transitions) (replicate 32 0)
-            (λ p q m h. absurd (true≢false (sym h ∙ contains-replicate 32 p)));
+        set = empty-closed table;
+        reached = λ q h. absurd (true≢false (sym h ∙ contains-replicate setMost q));
       };
     }
 
@@ -56,9 +57,6 @@ zeros-at (w ∷ x) n (suc i) = zeros-at x n i
 contains-zeros : (x : StateSet) (n q : ℕ) → contains (x ++ replicate n 0) q ≡ contains x q
 unfolding contains
 contains-zeros x n q = rw (zeros-at x n (q / 32))
-
-words-zeros : (x : StateSet) (n : ℕ) → Words x → Words (x ++ replicate n 0)
-words-zeros x n w i = rw (zeros-at x n i) (w i)
 
 -- ---- the node's state set
 
@@ -79,28 +77,29 @@ module _ {table index : List ℕ} {f : ℕ} (indexed : IndexedTable table index)
   has-reached : {q : ℕ} → Reached (A .transitions) f rs q → contains r q ≡ true
   unfolding A
   has-reached =
-      seeded-closed-all (A .transitions) f rs (λ q. contains r q ≡ true) seeded (closed-test (A .transitions) r (g .growing .closed))
+      seeded-closed-all (A .transitions) f rs (λ q. contains r q ≡ true) seeded (closed-test (A .transitions) r (g .growing .set .closed))
 
-  whole : r ≡ stateSet (automatonOf table) f rs ++ replicate (32 - sizeOf table) 0
+  whole : r ≡ stateSet (automatonOf table) f rs ++ replicate (setMost - sizeOf table) 0
   unfolding A sizeOf
   whole =
       let x = stateSet A f rs in
-      let most = isTable-sizes (indexed .alphabet) table (indexed .checked) .size-most in
+      let most = set-small (indexed .alphabet) table (indexed .checked) in
       let short = indexed .short in
       let below = targets-below (isTable-automaton (indexed .alphabet) (omega arith) table (indexed .checked)) in
-      let long : length (x ++ replicate (32 - sizeFor (A .states)) 0) ≡ 32 =
+      let long : length (x ++ replicate (setMost - sizeFor (A .states)) 0) ≡ setMost =
       rw (length-append, length-stateSet A f rs, length-replicate {A = ℕ}) (omega arith) in
-      contains-determines r (x ++ replicate (32 - sizeFor (A .states)) 0) (g .growing .size ∙ sym long) (g .growing .words)
-      (words-zeros x (32 - sizeFor (A .states)) (words-stateSet A f rs))
+      contains-determines r (x ++ replicate (setMost - sizeFor (A .states)) 0) (g .growing .set .size ∙ sym long) (g .growing .set .words)
+      (each-append (λ w. w < wordRange) x (replicate (setMost - sizeFor (A .states)) 0) (words-stateSet A f rs)
+      (words-replicate (setMost - sizeFor (A .states))))
       (λ q.
-      same-truth (contains r q) (contains (x ++ replicate (32 - sizeFor (A .states)) 0) q)
-      (λ e. contains-zeros x (32 - sizeFor (A .states)) q ∙ stateSet-reached A f rs below q .1 (g .growing .reached q e))
-      (λ e. has-reached (stateSet-reached A f rs below q .0 (sym (contains-zeros x (32 - sizeFor (A .states)) q) ∙ e))))
+      same-truth (contains r q) (contains (x ++ replicate (setMost - sizeFor (A .states)) 0) q)
+      (λ e. contains-zeros x (setMost - sizeFor (A .states)) q ∙ stateSet-reached A f rs below q .1 (g .growing .reached q e))
+      (λ e. has-reached (stateSet-reached A f rs below q .0 (sym (contains-zeros x (setMost - sizeFor (A .states)) q) ∙ e))))
 
 pub node-end : {table index : List ℕ} {f size : ℕ} {marks children owners rows : List ℕ} → NodeSteppable table index f marks children
     → size ≡ sizeOf table
     → {r : StateSet} → SymbolFollowed table f (childSets size marks children) r owners rows
-    → r ≡ stateSet (automatonOf table) f (childSets (sizeOf table) marks children) ++ replicate (32 - sizeOf table) 0
+    → r ≡ stateSet (automatonOf table) f (childSets (sizeOf table) marks children) ++ replicate (setMost - sizeOf table) 0
 node-end {table} {index} {f} {size} {marks} {children} {owners} {rows} p e {r} g =
     whole (p .indexed) (childSets size marks children) r owners rows g
-    ∙ ap (λ (k : ℕ). stateSet (automatonOf table) f (childSets k marks children) ++ replicate (32 - sizeOf table) 0) e
+    ∙ ap (λ (k : ℕ). stateSet (automatonOf table) f (childSets k marks children) ++ replicate (setMost - sizeOf table) 0) e

@@ -1,28 +1,29 @@
 -- The chain of a node's symbol, followed from its first word to its end: the set holds what the transitions on the symbol
 -- lead to, and stays closed.
-use mathlib.Core.Path.{_≡_, refl, ap, _∙_, sym, subst}
+use mathlib.Core.Path.{_≡_, refl, _∙_, sym, subst}
 use mathlib.Core.Logic.{⊎-elim}
-use mathlib.Core.Bool.{Bool, true, false, true≢false}
+use mathlib.Core.Bool.{true}
 use mathlib.Core.List.{List}
 use Prim.Native.Nat.{ℕ, _+_, _<_, _≤_}
 use native.Mathlib.Omega.{arith}
 use native.Mathlib.Decide.{ℕ-discrete, decLt}
 use lib.ListN.{length, getD, drop}
 use Rattle.words.specs.Word.{stateBelow}
+use Rattle.words.specs.Limits.{tableMost}
 use Rattle.automaton.specs.Transition.{Transition, automatonOf, sourcesAt}
-use Rattle.automaton.specs.StateSet.{StateSet, contains, allContained}
+use Rattle.automaton.specs.StateSet.{StateSet, allContained}
 use Rattle.automaton.specs.Reached.{Reached, byEpsilon}
 use Rattle.automaton.proofs.ClosureLaws.{targets-below, reached-below}
 use Rattle.automaton.proofs.TableLaws.{isTable-automaton}
-use Rattle.index.specs.Index.{keyOf}
+use Rattle.index.specs.Index.{keyOf, keyCount}
 use Rattle.index.specs.Index.{IndexedTable}
-use Rattle.step.specs.NodeSteppable.{NodeSteppable, RowsInside, childSets}
-use Rattle.closures.specs.Closure.{ReachedFrom, itself, onward, Closures, Joinable, JoinedClosure}
-use Rattle.step.specs.Node.{SourcesReadable, Growing, Satisfied, Steppable}
+use Rattle.step.specs.NodeSteppable.{RowsInside, childSets}
+use Rattle.closures.specs.Closure.{ReachedFrom, itself, onward, Joinable, JoinedClosure}
+use Rattle.step.specs.Node.{SourcesReadable, Growing, Satisfied}
 use Rattle.step.specs.Node.{SymbolFollowable, SymbolFollowed, TransitionFollowable, TransitionFollowed}
 use Rattle.index.proofs.ChainLaws.{FirstWith, SymbolWord, nextWith, next-some, next-none, keyed-symbol}
 use Rattle.closures.proofs.KeyedWordLaws.{symbol-below, symbol-reached, symbol-sources}
-use Rattle.closures.proofs.FollowLaws.{InChain, left, states-most, keyed, chain-first, in-chain, chain-next, left-less}
+use Rattle.closures.proofs.FollowLaws.{InChain, left, keyed, chain-first, in-chain, chain-next, left-less}
 
 -- what is reached from a reached state is reached
 reached-on : {ts : List Transition} {f : ℕ} {rs : List StateSet} {s q : ℕ} → ReachedFrom ts s q → Reached ts f rs s → Reached ts f rs q
@@ -48,7 +49,7 @@ module _ {table index : List ℕ} {size : ℕ} {marks children owners rows pendi
   target-below : stateBelow (getD table i 0) < automatonOf table .states
   target-below = symbol-below checked i (g .inside) symbol
 
-  pub transition-few : i < 2048
+  pub transition-few : i < tableMost
   transition-few = omega (arith, keyed checked .few, g .inside)
 
   -- a transition on the node's symbol has as many part states as the node has children
@@ -71,12 +72,8 @@ module _ {table index : List ℕ} {size : ℕ} {marks children owners rows pendi
           closable = record { checked = checked; state = target-below; fits = g .followable .steppable .fits };
           closures = g .followable .steppable .closures;
         };
-        set = record {
-          size = k .size;
-          words = k .words;
-          below = λ q e. reached-below (automatonOf table) (keyOf (getD table i 0)) (childSets size marks children) over (k .reached q e);
-          closed = k .closed;
-        };
+        set = k .set;
+        below = λ q e. reached-below (automatonOf table) (keyOf (getD table i 0)) (childSets size marks children) over (k .reached q e);
       }
 
   -- the set stays: it has the target, or the part states are not in the children's sets
@@ -95,10 +92,8 @@ module _ {table index : List ℕ} {size : ℕ} {marks children owners rows pendi
       record {
         closures = j .closures;
         growing = record {
-          size = a .size;
-          words = a .words;
+          set = a .set;
           reached = λ q e. ⊎-elim (g .followable .growing .reached q) (λ d. reached-on d target) (a .within q e);
-          closed = a .closed;
         };
         grown = a .grown;
         satisfied = λ _. a .holds;
@@ -133,7 +128,7 @@ module _ {table index : List ℕ} {f size : ℕ} {marks children owners rows pen
     chain : IndexedTable table index
     chain = s .followable .steppable .node .indexed
 
-    key-below : f < 1280
+    key-below : f < keyCount
     key-below = let small = s .followable .steppable .node .symbol-below in omega arith
 
     pub symbol-end : i ≤ 0 → SymbolFollowed table f (childSets size marks children) r owners rows
@@ -165,12 +160,12 @@ module _ {table index : List ℕ} {f size : ℕ} {marks children owners rows pen
             inside = symbol-next .inside;
           }
 
-      pub symbol-less : left table (getD index (1280 + i) 0) < left table i
+      pub symbol-less : left table (getD index (keyCount + i) 0) < left table i
       symbol-less = left-less chain symbol-next key-below h
 
       pub symbol-more : {t : StateSet} {owners′ rows′ pending′ : List ℕ} → length pending′ ≡ length pending
           → TransitionFollowed table (keyOf (getD table i 0)) (childSets size marks children) i r t owners′ rows′
-          → SymbolAt table index f size marks children owners′ rows′ pending′ t pendingLength (getD index (1280 + i) 0)
+          → SymbolAt table index f size marks children owners′ rows′ pending′ t pendingLength (getD index (keyCount + i) 0)
       symbol-more {t} {owners′} {rows′} {pending′} e j =
           record {
             followable = record {

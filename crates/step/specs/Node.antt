@@ -1,6 +1,6 @@
 -- How a node's state set is worked out: the closures of the targets that its symbol's transitions lead to are joined. These
 -- definitions serve inner functions.
-use Prim.Native.Nat.{ℕ, _+_, _^_, _<_, _≤_}
+use Prim.Native.Nat.{ℕ, _+_, _<_, _≤_}
 use mathlib.Core.Path.{_≡_}
 use mathlib.Core.Bool.{true}
 use mathlib.Core.List.{List}
@@ -10,10 +10,9 @@ use Rattle.automaton.specs.Transition.{sourcesAt, automatonOf}
 use Rattle.automaton.specs.StateSet.{StateSet, contains, allContained}
 use Rattle.automaton.specs.Reached.{Reached}
 use Rattle.operations.specs.Marks.{sizeOf}
-use Rattle.sets.specs.Size.{setMost}
 use Rattle.index.specs.Index.{keyOf}
 use Rattle.step.specs.NodeSteppable.{RowsInside, NodeSteppable, childSets}
-use Rattle.closures.specs.Closure.{Closed, Closures}
+use Rattle.closures.specs.Closure.{ClosedSet, Closures}
 
 -- the part states at an index are as many as the children
 pub record SourcesReadable (table : List ℕ) (at size : ℕ) (marks children : List ℕ) : Type 0 where
@@ -23,10 +22,8 @@ pub record SourcesReadable (table : List ℕ) (at size : ℕ) (marks children : 
 -- The set r of a node with symbol f over children with the sets rs, while it is worked out: it holds only reached states and is
 -- closed under the epsilon transitions.
 pub record Growing (table : List ℕ) (f : ℕ) (rs : List StateSet) (r : StateSet) : Type 0 where
-  pub size : length r ≡ setMost
-  pub words : (i : ℕ) → getD r i 0 < 2 ^ 32
+  pub set : ClosedSet table r
   pub reached : (q : ℕ) → contains r q ≡ true → Reached (automatonOf table .transitions) f rs q
-  pub closed : Closed table r
 
 -- the symbol transition at word i adds nothing to the set
 abbrev pub Satisfied : List ℕ → List StateSet → StateSet → ℕ → Type 0

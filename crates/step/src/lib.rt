@@ -13,7 +13,7 @@ ghost use Rattle.closures.specs.Closure.{Closures};
 ghost use Rattle.step.specs.Node.{SourcesReadable, Steppable, SymbolFollowable, SymbolFollowed};
 ghost use Rattle.step.specs.Node.{TransitionFollowable, TransitionFollowed};
 use closures::join_closure;
-use index::KEYS;
+use index::KEY_COUNT;
 use sets::state::SET_MOST;
 use sets::state::contains;
 use tables::head::set_size;
@@ -107,7 +107,7 @@ fn follow_symbol(
             pending,
             set,
         );
-        i = index[KEYS + i] as usize;
+        i = index[KEY_COUNT + i] as usize;
     }
 }
 

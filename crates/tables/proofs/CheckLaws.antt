@@ -1,5 +1,5 @@
 -- What the check of a table tells of one word, by the tests of the code.
-use mathlib.Core.Path.{_≡_, refl, _∙_, sym}
+use mathlib.Core.Path.{_≡_, _∙_, sym}
 use mathlib.Core.Bool.{Bool, true, false, cond, _&&_}
 use mathlib.Core.List.{List}
 use Prim.Native.Nat.{ℕ, zero, suc, _+_, _<_, _≤_}
@@ -12,6 +12,7 @@ use Rattle.words.proofs.TestLaws.{and-none}
 use Rattle.words.specs.Word.{Kind, headKind, transitionKind, epsilonKind, sourceKind, kindNumber, numberOf}
 use Rattle.words.specs.Word.{hasKind, spareBitsClear, isOf, symbolAbove, countAbove, stateAbove, stateBelow}
 use Rattle.words.specs.Alphabet.{rankOf}
+use Rattle.words.specs.Limits.{statesMost}
 use Rattle.automaton.specs.Table.{isHead, isTableWord, sourcesLeft}
 
 -- ---- a test of two, by the branch on the first
@@ -24,7 +25,7 @@ and-first a b r e h = h ∙ e ∙ sym (rw e)
 
 -- ---- the head
 
-pub head-value : (w : ℕ) (p q r s : Bool) → p ≡ isOf headKind w → q ≡ p && ltb 0 (countAbove w) → r ≡ q && leb (countAbove w) 1024
+pub head-value : (w : ℕ) (p q r s : Bool) → p ≡ isOf headKind w → q ≡ p && ltb 0 (countAbove w) → r ≡ q && leb (countAbove w) statesMost
     → s ≡ r && ltb (stateBelow w) (countAbove w) → s ≡ isHead w
 unfolding isHead
 head-value w p q r s ep eq er es = es ∙ rw (er, eq, ep)

@@ -2,15 +2,16 @@
 -- together.
 use mathlib.Core.Path.{_≡_, refl, ap, _∙_}
 use mathlib.Core.List.{List, reverse}
-use Prim.Native.Nat.{ℕ, _-_, _*_, _≤_}
+use Prim.Native.Nat.{ℕ, _-_, _*_}
 use native.Mathlib.Omega.{arith}
 use lib.ListN.{length, replicate, length-replicate}
 use Rattle.words.specs.Limits.{statesMost}
+use Rattle.words.specs.Postfix.{rootsOf}
 use Rattle.sets.specs.Size.{setMost}
 use Rattle.index.specs.Index.{indexLength, indexOf, Indexable}
 use Rattle.closures.specs.Closure.{rowsMost}
 use Rattle.memo.specs.Memo.{placesMost, slotsMost}
-use Rattle.nodes.specs.Nodes.{rootsOf, stackLength, Held, Stackable, markedFrom}
+use Rattle.nodes.specs.Nodes.{stackLength, Held, Stackable, markedFrom}
 use Rattle.nodes.specs.Marking.{Maintained, NodesMarkable}
 use Rattle.nodes.proofs.WorkableLaws.{table-few, workable-long}
 use Rattle.nodes.proofs.NodesLaws.{nothing-maintained}

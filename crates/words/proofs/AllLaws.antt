@@ -1,10 +1,11 @@
--- A property of every member of a list.
-use mathlib.Core.Path.{refl, sym, subst}
-use mathlib.Core.List.{List, [], _∷_, _++_, List·Memᴰ, List·Memᴰ·head, List·Memᴰ·tail}
-
-abbrev pub All : {A : Type 0} → (A → Type 0) → List A → Type 0
-All P [] = Unit {0}
-All P (x ∷ xs) = P x × All P xs
+-- A property of every member of a list, and lists of numbers below a bound.
+use mathlib.Core.Path.{_≡_, refl, ap₂, sym, subst}
+use mathlib.Core.List.{List, [], _∷_, _++_, map, reverse, reverseAux, List·Memᴰ, List·Memᴰ·head, List·Memᴰ·tail}
+use Prim.Native.Nat.{ℕ, zero, suc, _<_, _≤_}
+use native.Mathlib.Omega.{arith}
+use lib.ListN.{length, getD, take, drop, set}
+use lib.Seq.{getD-set-other}
+use Rattle.words.specs.Lists.{All, AllBelow}
 
 module _ {A : Type 0} (P : A → Type 0) where
   pub each-append : (xs ys : List A) → All P xs → All P ys → All P (xs ++ ys)
@@ -18,6 +19,39 @@ module _ {A : Type 0} (P : A → Type 0) where
   pub each-right : (xs ys : List A) → All P (xs ++ ys) → All P ys
   each-right [] ys p = p
   each-right (x ∷ xs) ys p = each-right xs ys (p .1)
+
+  pub each-take : (k : ℕ) (xs : List A) → All P xs → All P (take k xs)
+  each-take zero xs p = tt
+  each-take (suc k) [] p = tt
+  each-take (suc k) (x ∷ xs) p = (p .0, each-take k xs (p .1))
+
+  pub each-drop : (k : ℕ) (xs : List A) → All P xs → All P (drop k xs)
+  each-drop zero xs p = p
+  each-drop (suc k) [] p = tt
+  each-drop (suc k) (x ∷ xs) p = each-drop k xs (p .1)
+
+  each-reverseAux : (xs ys : List A) → All P xs → All P ys → All P (reverseAux xs ys)
+  each-reverseAux [] ys p q = q
+  each-reverseAux (x ∷ xs) ys p q = each-reverseAux xs (x ∷ ys) (p .1) (p .0, q)
+
+  pub each-reverse : (xs : List A) → All P xs → All P (reverse xs)
+  each-reverse xs p = each-reverseAux xs [] p tt
+
+  pub each-getD : (d : A) (xs : List A) (k : ℕ) → All P xs → k < length xs → P (getD xs k d)
+  each-getD d [] k p h = absurd (omega arith)
+  each-getD d (x ∷ xs) zero p h = p .0
+  each-getD d (x ∷ xs) (suc k) p h = each-getD d xs k (p .1) (omega arith)
+
+  -- also beyond the list, where the default has the property
+  pub each-default : {d : A} → P d → (xs : List A) (k : ℕ) → All P xs → P (getD xs k d)
+  each-default h [] k p = h
+  each-default h (x ∷ xs) zero p = p .0
+  each-default h (x ∷ xs) (suc k) p = each-default h xs k (p .1)
+
+  pub each-set : {v : A} → P v → (xs : List A) (k : ℕ) → All P xs → All P (set xs k v)
+  each-set h [] k p = tt
+  each-set h (x ∷ xs) zero p = (h, p .1)
+  each-set h (x ∷ xs) (suc k) p = (p .0, each-set h xs k (p .1))
 
   pub each-at : {x : A} (xs : List A) → All P xs → List·Memᴰ x xs → P x
   each-at (y ∷ ys) p (List·Memᴰ·head e) = subst P (sym e) (p .0)
@@ -37,3 +71,19 @@ pub each-self : {A : Type 0} (xs : List A) → All (λ x. List·Memᴰ x xs) xs
 each-self [] = tt
 each-self (x ∷ xs) =
     (List·Memᴰ·head refl, each-map (λ y. List·Memᴰ y xs) (λ y. List·Memᴰ y (x ∷ xs)) (λ y m. List·Memᴰ·tail m) xs (each-self xs))
+
+-- ---- numbers below a bound
+
+pub below-more : (m n : ℕ) → m ≤ n → (l : List ℕ) → AllBelow m l → AllBelow n l
+below-more m n h l b = each-map (λ x. x < m) (λ x. x < n) (λ x k. omega arith) l b
+
+-- functions that agree below the bound
+pub map-below : {A : Type 0} (f g : ℕ → A) (n : ℕ) (ns : List ℕ) → AllBelow n ns → ((k : ℕ) → k < n → f k ≡ g k) → map f ns ≡ map g ns
+map-below f g n [] b h = refl
+map-below {A} f g n (k ∷ ns) b h = ap₂ (λ (x : A) (y : List A). x ∷ y) (h k (b .0)) (map-below f g n ns (b .1) h)
+
+-- a member that is stored at index i changes none below it
+pub map-set-below : {A : Type 0} (rows : List A) (i : ℕ) (r d : A) (ns : List ℕ) → AllBelow i ns
+    → map (λ k. getD (set rows i r) k d) ns ≡ map (λ k. getD rows k d) ns
+map-set-below rows i r d ns h =
+    map-below (λ k. getD (set rows i r) k d) (λ k. getD rows k d) i ns h (λ k l. getD-set-other rows i k r d (omega arith))

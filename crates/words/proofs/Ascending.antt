@@ -2,7 +2,7 @@
 use Prim.Native.Nat.{ℕ, suc, _+_, _<_, _≤_}
 use mathlib.Core.Path.{_≡_, refl}
 use mathlib.Core.Bool.{Bool, true, false, cond}
-use mathlib.Core.List.{List, [], _∷_, _++_, List·Memᴰ, List·Memᴰ·head, List·Memᴰ·tail}
+use mathlib.Core.List.{List, [], _∷_, _++_}
 use native.Mathlib.Omega.{arith}
 use native.Mathlib.Nat.{le-trans}
 use Rattle.words.specs.Lists.{count}
@@ -20,20 +20,12 @@ pub ascending-from : {lo lo′ hi : ℕ} {xs : List ℕ} → lo′ ≤ lo → As
 ascending-from l (end h) = end (le-trans l h)
 ascending-from l (next h a) = next (le-trans l h) a
 
-pub ascending-to : {lo hi hi′ : ℕ} {xs : List ℕ} → hi ≤ hi′ → Ascending lo hi xs → Ascending lo hi′ xs
-ascending-to l (end h) = end (le-trans h l)
-ascending-to l (next h a) = next h (ascending-to l a)
-
 pub ascending-append : {lo m hi : ℕ} {xs ys : List ℕ} → Ascending lo m xs → Ascending m hi ys → Ascending lo hi (xs ++ ys)
 ascending-append (end h) b = ascending-from h b
 ascending-append (next h a) b = next h (ascending-append a b)
 
 pub ascending-one : {lo hi x : ℕ} → lo ≤ x → x < hi → Ascending lo hi (x ∷ [])
 ascending-one l h = next l (end h)
-
-pub ascending-member : {lo hi x : ℕ} {xs : List ℕ} → Ascending lo hi xs → List·Memᴰ x xs → (lo ≤ x) × (x < hi)
-ascending-member (next h a) (List·Memᴰ·head e) = let l = ascending-le a in (omega arith, omega arith)
-ascending-member (next h a) (List·Memᴰ·tail m) = let p = ascending-member a m in (omega arith, p .1)
 
 -- ---- a test that only x passes counts at most one number
 

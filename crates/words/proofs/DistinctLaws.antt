@@ -1,7 +1,8 @@
 -- Lists in which nothing stands twice.
 use mathlib.Core.Logic.{⊎-elim}
 use mathlib.Core.List.{List, [], _∷_, _++_, List·Memᴰ, List·Memᴰ·append-cases}
-use Rattle.words.proofs.AllLaws.{All, each-at}
+use Rattle.words.specs.Lists.{All}
+use Rattle.words.proofs.AllLaws.{each-at}
 
 abbrev pub Distinct : {A : Type 0} → List A → Type 0
 Distinct [] = Unit {0}

@@ -6,9 +6,9 @@ use mathlib.Core.Logic.{_⊎_, inl, inr, ⊎-elim}
 use Prim.Native.Nat.{ℕ, _<_, _≤_}
 use native.Mathlib.Omega.{arith}
 use lib.Dec.{eqb}
-use borrow.Author.Tests.{eq-eqb, ne-eqb, eqb-true, lt-ltb, le-ltb, ltb-true}
+use borrow.Author.Tests.{eq-eqb, ne-eqb, eqb-true, lt-ltb, ltb-true}
 use Rattle.words.proofs.TestLaws.{Tested, holds, fails, tested, and-true, true-and}
-use Rattle.words.specs.Word.{Kind, entryKind, symbolKind, emptyKind, unionKind, productKind, closureKind, nodeKind}
+use Rattle.words.specs.Word.{Kind, entryKind, symbolKind, emptyKind, unionKind, productKind, closureKind, nodeKind, kindUnit}
 use Rattle.words.specs.Word.{headKind, transitionKind, epsilonKind, sourceKind, noKind, kinds, kindAmong, kindAt, kindNumber}
 use Rattle.words.specs.Word.{numberOf, kindOf, hasKind, bodyOf, fieldRange, spareBitsClear, isOf, wordOf, lowByte}
 
@@ -63,7 +63,7 @@ kindAt-rest n r = among-rest kinds n (Unit {0}) r .1
 
 -- ---- the word of a kind with given fields
 
-module _ (k : Kind) (b : ℕ) (h : b < 0x1000_0000) where
+module _ (k : Kind) (b : ℕ) (h : b < kindUnit) where
   pub numberOf-wordOf : numberOf (wordOf k b) ≡ kindNumber k
   numberOf-wordOf = omega arith
 
@@ -94,7 +94,7 @@ module _ (k : Kind) (w : ℕ) where
 
 -- ---- a word of a kind whose spare bits are clear
 
-pub fieldRange-fits : (k : Kind) → fieldRange k ≤ 0x1000_0000
+pub fieldRange-fits : (k : Kind) → fieldRange k ≤ kindUnit
 fieldRange-fits noKind = omega arith
 fieldRange-fits entryKind = omega arith
 fieldRange-fits symbolKind = omega arith
@@ -135,18 +135,5 @@ isOf-from k w e h =
 
 pub isOf-wordOf : (k : Kind) (b : ℕ) → b < fieldRange k → isOf k (wordOf k b) ≡ true
 isOf-wordOf k b h =
-    let l : b < 0x1000_0000 = omega (arith, fieldRange-fits k) in
+    let l : b < kindUnit = omega (arith, fieldRange-fits k) in
     isOf-from k (wordOf k b) (numberOf-wordOf k b l) (rw (bodyOf-wordOf k b l) h)
-
--- no word is of no kind
-pub spare-noKind : (w : ℕ) → kindOf w ≡ noKind → spareBitsClear w ≡ false
-unfolding spareBitsClear
-spare-noKind w e = rw e (le-ltb (bodyOf w) 0 (omega arith))
-
-pub isOf-noKind : (w : ℕ) → isOf noKind w ≡ false
-unfolding isOf
-isOf-noKind w = go (tested (hasKind noKind w))
-  where
-    go : Tested (hasKind noKind w) → isOf noKind w ≡ false
-    go (holds e) = rw (e, spare-noKind w (hasKind-kindOf noKind w e))
-    go (fails e) = rw e

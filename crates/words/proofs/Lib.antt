@@ -23,8 +23,6 @@ pub mod ChildLaws
 pub mod ExactlyOneLaws
 pub mod TreeLaws
 pub mod SubtreeLaws
-pub mod ChildSubtreeLaws
-pub mod AncestorLaws
 pub mod CountLaws
 pub mod HoldingLaws
 pub mod WordLaws

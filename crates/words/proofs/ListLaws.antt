@@ -1,13 +1,13 @@
--- Laws of lists: map over parts of a list, lists by their index, parts side by side, runs of stores, words in front of a
--- slice, counts, and lists of numbers below a bound.
+-- Laws of lists: map over parts of a list, lists by their index, parts side by side and in reverse, runs of stores, words in front of
+-- a slice, and counts.
 use mathlib.Core.Path.{_≡_, refl, ap, ap₂, _∙_, sym}
 use mathlib.Core.Bool.{Bool, cond, _&&_}
-use mathlib.Core.List.{List, [], _∷_, _++_, map, reverse, reverseAux}
-use Prim.Native.Nat.{ℕ, zero, suc, _+_, _<_, _≤_}
+use mathlib.Core.List.{List, [], _∷_, _++_, map, reverse, reverseAux, reverse-append}
+use Prim.Native.Nat.{ℕ, zero, suc, _+_, _-_, _<_, _≤_}
 use native.Mathlib.Omega.{arith}
 use native.Mathlib.Nat.{zero-add, add-zero, add-suc, suc-add, add-assoc}
-use lib.ListN.{length, getD, take, drop, set, take-append-drop, length-append, length-drop}
-use lib.Seq.{slice, sets, sets-eq, getD-set-other, take-take, take-at, length-take-le, drop-append-le}
+use lib.ListN.{length, getD, take, drop, length-append, length-drop, length-reverse, take-append-drop}
+use lib.Seq.{sets, sets-eq, take-at, drop-at}
 use Rattle.words.specs.Lists.{all, count, listFrom, writtenOver}
 
 -- ---- map
@@ -72,13 +72,19 @@ listFrom-getD {A} d (x ∷ l) =
 
 -- ---- parts of a list
 
--- two parts of a list side by side
-pub slice-slice : {A : Type 0} (l : List A) (s m t : ℕ) → s ≤ m → m ≤ t → t ≤ length l → slice s m l ++ slice m t l ≡ slice s t l
-slice-slice {A} l s m t hs hm ht =
-    let q : take m (take t l) ≡ take m l = take-take m t l hm in
-    let n : length (take m l) ≡ m = length-take-le m l (omega arith) in
-    sym (drop-append-le s (take m l) (slice m t l) (rw n hs))
-    ∙ ap (drop s) (ap (λ (x : List A). x ++ slice m t l) (sym q) ∙ take-append-drop m (take t l))
+-- the top of a stack is the end of its reverse
+module _ {A : Type 0} (r : ℕ) (l : List A) where
+  pub take-reverse : take (length l - r) (reverse l) ≡ reverse (drop r l)
+  take-reverse =
+      ap (λ (t : List A). take (length l - r) (reverse t)) (sym (take-append-drop r l))
+      ∙ ap (take (length l - r)) (reverse-append (take r l) (drop r l))
+      ∙ take-at (reverse (drop r l)) (reverse (take r l)) (length l - r) (length-reverse (drop r l) ∙ length-drop r l)
+
+  pub drop-reverse : drop (length l - r) (reverse l) ≡ reverse (take r l)
+  drop-reverse =
+      ap (λ (t : List A). drop (length l - r) (reverse t)) (sym (take-append-drop r l))
+      ∙ ap (drop (length l - r)) (reverse-append (take r l) (drop r l))
+      ∙ drop-at (reverse (drop r l)) (reverse (take r l)) (length l - r) (length-reverse (drop r l) ∙ length-drop r l)
 
 -- ---- runs of stores
 
@@ -116,29 +122,3 @@ pub count-append : (f : ℕ → Bool) (l k : List ℕ) → count f (l ++ k) ≡ 
 count-append f [] k = sym (zero-add (count f k))
 count-append f (x ∷ l) k =
     ap (λ (i : ℕ). cond (f x) 1 0 + i) (count-append f l k) ∙ sym (add-assoc (cond (f x) 1 0) (count f l) (count f k))
-
--- ---- numbers below a bound
-
-abbrev pub Below : ℕ → List ℕ → Type 0
-Below n [] = Unit {0}
-Below n (x ∷ xs) = (x < n) × Below n xs
-
-pub below-more : (n : ℕ) (l : List ℕ) → Below n l → Below (suc n) l
-below-more n [] h = tt
-below-more n (x ∷ l) h = (let g = h .0 in omega arith, below-more n l (h .1))
-
-pub below-drop : (n k : ℕ) (l : List ℕ) → Below n l → Below n (drop k l)
-below-drop n zero l h = h
-below-drop n (suc k) [] h = tt
-below-drop n (suc k) (x ∷ l) h = below-drop n k l (h .1)
-
--- functions that agree below the bound
-pub map-below : {A : Type 0} (f g : ℕ → A) (n : ℕ) (ns : List ℕ) → Below n ns → ((k : ℕ) → k < n → f k ≡ g k) → map f ns ≡ map g ns
-map-below f g n [] b h = refl
-map-below {A} f g n (k ∷ ns) b h = ap₂ (λ (x : A) (y : List A). x ∷ y) (h k (b .0)) (map-below f g n ns (b .1) h)
-
--- a member that is stored at index i changes none below it
-pub map-set-below : {A : Type 0} (rows : List A) (i : ℕ) (r d : A) (ns : List ℕ) → Below i ns
-    → map (λ k. getD (set rows i r) k d) ns ≡ map (λ k. getD rows k d) ns
-map-set-below rows i r d ns h =
-    map-below (λ k. getD (set rows i r) k d) (λ k. getD rows k d) i ns h (λ k l. getD-set-other rows i k r d (omega arith))

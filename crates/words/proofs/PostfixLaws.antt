@@ -4,7 +4,6 @@ use mathlib.Core.Bool.{true}
 use mathlib.Core.List.{List, [], _∷_, _++_, append-assoc}
 use Prim.Native.Nat.{ℕ, zero, suc, _+_, _-_, _<_, _≤_}
 use native.Mathlib.Omega.{arith}
-use native.Mathlib.Decide.{decLe}
 use native.Mathlib.Numerals.{add-one}
 use native.Mathlib.Nat.{zero-add, suc-add}
 use lib.ListN.{length, getD, take, drop, length-append, take-append-drop}
@@ -144,28 +143,6 @@ module _ (arity : ℕ → ℕ) (ch : List ℕ) where
       let s = startFromBy arity ch j (n + r) in
       rw (run-snoc ch s j (startFrom-le j (n + r)) hj, ← q)
       (trees-snoc arity (slice s j ch) 0 w (n + r) (run-is j (n + r) (b .0) (omega arith) (b .1) (omega (arith, b .2, b .3))) (omega arith))
-
-  -- whatever run makes n trees up to j, it begins where startFrom says
-  pub run-start : (j n s : ℕ) → s ≤ j → j ≤ length ch → treesBy arity 0 (slice s j ch) n ≡ true → startFromBy arity ch j n ≡ s
-  unfolding startFromBy treesBy
-  run-start zero n s hs hj h = omega arith
-  run-start (suc j) n s hs hj h = go (decLe s j) (run-start j)
-    where
-      go : Dec (s ≤ j) → ((n s : ℕ) → s ≤ j → j ≤ length ch → treesBy arity 0 (slice s j ch) n ≡ true → startFromBy arity ch j n ≡ s)
-          → startFromBy arity ch (suc j) n ≡ s
-      go (yes k) ih =
-          let r = arity (getD ch j 0) in
-          let b = trees-unsnoc arity (slice s j ch) 0 (getD ch j 0) n (rw (run-snoc ch s j k hj) at h) in
-          let z : b .0 - r + r ≡ b .0 = omega (arith, b .2) in
-          ap (startFromBy arity ch (suc j)) (b .3 ∙ add-one (b .0 - r)) ∙ ap (startFromBy arity ch j) z ∙ ih (b .0) s k (omega arith) (b .1)
-      go (no k) ih =
-          let q : s ≡ suc j = omega arith in
-          let z : 0 ≡ n = eqb-true 0 n (rw (q, slice-empty (suc j) ch) at h) in
-          ap (startFromBy arity ch (suc j)) (sym z) ∙ sym q
-
-  -- "the run of words that ends at it and makes one tree": there is no other
-  pub subtree-run : (i s : ℕ) → s ≤ i → i < length ch → oneTreeBy arity (slice s (i + 1) ch) ≡ true → startOfBy arity ch i ≡ s
-  subtree-run i s hs hi h = run-start (i + 1) 1 s (omega arith) (omega arith) h
 
 -- ---- a node's subtree, what stands before it, and what behind
 

@@ -1,37 +1,16 @@
--- A node's subtree is the words of exactly one tree, it ends with the node's word, and the node's value is the fold of that
--- tree: it depends on the subtree alone.
+-- A node's value is the fold of the tree that its subtree's words make: it depends on the subtree alone.
 use mathlib.Core.Path.{_≡_, refl, ap, _∙_, sym}
-use mathlib.Core.Bool.{true}
-use mathlib.Core.List.{List, [], _∷_, _++_, head-eq-of-cons-eq}
+use mathlib.Core.List.{List, [], _∷_, head-eq-of-cons-eq}
 use Prim.Native.Nat.{ℕ, zero, suc, _+_, _-_, _<_}
 use native.Mathlib.Omega.{arith}
 use native.Mathlib.Numerals.{add-one}
 use lib.ListN.{length, getD, take, drop, take-append-drop}
-use lib.Seq.{slice}
 use Rattle.words.specs.Tree.{Tree}
-use Rattle.words.specs.Shape.{oneTreeBy, startOfBy, subtreeOfBy, valueOnBy, valuesBy, stackAfterBy}
+use Rattle.words.specs.Shape.{startOfBy, subtreeOfBy, valueOnBy, valuesBy, stackAfterBy}
 use Rattle.words.proofs.TreeFold.{fold}
-use Rattle.words.proofs.PostfixLaws.{run-snoc, start-le, sub-tree}
 use Rattle.words.proofs.StackLaws.{stack-append}
-use Rattle.words.specs.ExactlyOne.{ExactlyOne}
 use Rattle.words.proofs.ReadingLaws.{stack-tree}
-use Rattle.words.proofs.TreeLaws.{TreeOf, exactly-one-tree}
-
--- ---- the words of a subtree
-
-module _ (arity : ℕ → ℕ) (ws : List ℕ) (i : ℕ) (hi : i < length ws) where
-  -- its last word is the node's
-  pub subtree-last : subtreeOfBy arity ws i ≡ slice (startOfBy arity ws i) i ws ++ getD ws i 0 ∷ []
-  subtree-last =
-      ap (λ (n : ℕ). slice (startOfBy arity ws i) n ws) (add-one i) ∙ run-snoc ws (startOfBy arity ws i) i (start-le arity ws i) hi
-
-  pub subtree-tree : oneTreeBy arity ws ≡ true → oneTreeBy arity (subtreeOfBy arity ws i) ≡ true
-  subtree-tree h = sub-tree arity ws i h hi
-
-  pub subtree-exactly-one : oneTreeBy arity ws ≡ true → ExactlyOne (TreeOf arity (subtreeOfBy arity ws i))
-  subtree-exactly-one h = exactly-one-tree arity (subtreeOfBy arity ws i) (subtree-tree h)
-
--- ---- the value of a node
+use Rattle.words.proofs.TreeLaws.{TreeOf}
 
 module _ {A : Type 0} (arity : ℕ → ℕ) (value : ℕ → List A → A) where
   -- behind the words up to word i the stack has its value on top

@@ -6,8 +6,8 @@ use Prim.Native.Nat.{ℕ, _<_, _≤_}
 use native.Mathlib.Omega.{arith}
 use lib.ListN.{length}
 use borrow.Author.Tests.{ltb-true, lt-ltb}
-use Rattle.words.specs.Word.{Kind, entryKind, symbolKind, emptyKind, unionKind, productKind, closureKind, nodeKind}
-use Rattle.words.specs.Word.{headKind, transitionKind, epsilonKind, sourceKind, noKind}
+use Rattle.words.specs.Word.{Kind, entryKind, symbolKind, emptyKind, unionKind, productKind, closureKind, nodeKind, kindUnit}
+use Rattle.words.specs.Word.{headKind, transitionKind, epsilonKind, sourceKind, noKind, symbolRange}
 use Rattle.words.specs.Word.{kindOf, bodyOf, fieldRange, spareBitsClear, isOf, wordOf, lowByte}
 use Rattle.words.specs.Alphabet.{rankOf, isSymbol}
 use Rattle.words.specs.Postfix.{arity, arityAt}
@@ -24,7 +24,7 @@ module _ (a : List ℕ) where
   unfolding arity
   arity-kind w k e = ap (arityAt (rankOf a (lowByte w))) e
 
-  pub arity-wordOf : (k : Kind) (b : ℕ) → b < 256 → arity a (wordOf k b) ≡ arityAt (rankOf a b) k
+  pub arity-wordOf : (k : Kind) (b : ℕ) → b < symbolRange → arity a (wordOf k b) ≡ arityAt (rankOf a b) k
   arity-wordOf k b h =
       let e : lowByte (wordOf k b) ≡ b = omega arith in
       arity-kind (wordOf k b) k (kindOf-wordOf k b (omega arith)) ∙ ap (λ (s : ℕ). arityAt (rankOf a s) k) e
@@ -52,7 +52,7 @@ pub record IsNode (a : List ℕ) (w : ℕ) : Type 0 where
   pub word : w ≡ wordOf nodeKind (symbolOf w)
   pub arity-rank : arity a w ≡ rankOf a (symbolOf w)
 
-pub symbolOf-wordOf : (s : ℕ) → s < 256 → symbolOf (wordOf nodeKind s) ≡ s
+pub symbolOf-wordOf : (s : ℕ) → s < symbolRange → symbolOf (wordOf nodeKind s) ≡ s
 symbolOf-wordOf s h = omega arith
 
 module _ (a : List ℕ) where
@@ -69,7 +69,7 @@ module _ (a : List ℕ) where
       }
 
   -- the word of a node with a symbol that the alphabet has
-  pub isNode-wordOf : (s : ℕ) → s < 256 → s < length a → isNode a (wordOf nodeKind s) ≡ true
+  pub isNode-wordOf : (s : ℕ) → s < symbolRange → s < length a → isNode a (wordOf nodeKind s) ≡ true
   unfolding isNode
   isNode-wordOf s b h =
       true-and (isOf nodeKind (wordOf nodeKind s)) (isSymbol a (symbolOf (wordOf nodeKind s)))
@@ -98,7 +98,7 @@ pub isExpressionWord-wordOf : (a : List ℕ) (k : Kind) (b : ℕ) → b < fieldR
     → isExpressionWord a (wordOf k b) ≡ true
 unfolding isExpressionWord spareBitsClear
 isExpressionWord-wordOf a k b h n =
-    let l : b < 0x1000_0000 = omega (arith, fieldRange-fits k) in
+    let l : b < kindUnit = omega (arith, fieldRange-fits k) in
     let e = kindOf-wordOf k b l in
     true-and (spareBitsClear (wordOf k b)) (namesAt a (lowByte (wordOf k b)) (kindOf (wordOf k b)))
     (rw (e, bodyOf-wordOf k b l) (lt-ltb b (fieldRange k) h))

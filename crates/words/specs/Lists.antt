@@ -1,5 +1,5 @@
--- Tests over a list, lists by their index, and words written into a slice.
-use Prim.Native.Nat.{ℕ, zero, suc, _+_}
+-- Tests over a list, properties of all its members, lists by their index, and words written into a slice.
+use Prim.Native.Nat.{ℕ, zero, suc, _+_, _<_}
 use mathlib.Core.List.{List, [], _∷_, _++_}
 use mathlib.Core.Bool.{Bool, true, cond, _&&_}
 use lib.ListN.{length, drop}
@@ -13,6 +13,15 @@ all f (x ∷ xs) = f x && all f xs
 abbrev pub count : (ℕ → Bool) → List ℕ → ℕ
 count f [] = 0
 count f (x ∷ xs) = cond (f x) 1 0 + count f xs
+
+-- the property holds of every member of the list
+abbrev pub All : {A : Type 0} → (A → Type 0) → List A → Type 0
+All P [] = Unit {0}
+All P (x ∷ xs) = P x × All P xs
+
+-- every number of the list is below n
+abbrev pub AllBelow : ℕ → List ℕ → Type 0
+AllBelow n = All (λ x. x < n)
 
 -- f j, f (j + 1), .., n values
 abbrev pub listFrom : {A : Type 0} → (ℕ → A) → ℕ → ℕ → List A

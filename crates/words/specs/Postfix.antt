@@ -7,7 +7,7 @@ use Rattle.words.specs.Word.{Kind, entryKind, symbolKind, emptyKind, uni
 use Rattle.words.specs.Word.{headKind, transitionKind, epsilonKind, sourceKind, noKind, kindOf, lowByte}
 use Rattle.words.specs.Alphabet.{rankOf}
 use Rattle.words.specs.Shape.{treesBy, oneTreeBy, notOneTreeBy, startFromBy, startOfBy, subtreeOfBy, isAncestorBy}
-use Rattle.words.specs.Shape.{depthOfBy, spliceBy, valueOnBy, valuesBy, stackAfterBy, stackGivenBy, childrenOfBy}
+use Rattle.words.specs.Shape.{depthOfBy, spliceBy, valueOnBy, valuesBy, stackAfterBy, stackGivenBy, rootsBy, childrenOfBy}
 
 -- how many children (document 01's parts) a word of a kind takes, where `rank` is the rank of its symbol
 abbrev pub arityAt : ℕ → Kind → ℕ
@@ -70,6 +70,9 @@ stackAfter a = stackAfterBy (arity a)
 
 abbrev pub stackGiven : {A : Type 0} → List ℕ → (ℕ → A) → ℕ → List ℕ → List A → List A
 stackGiven a = stackGivenBy (arity a)
+
+abbrev pub rootsOf : List ℕ → List ℕ → ℕ → List ℕ
+rootsOf a = rootsBy (arity a)
 
 abbrev pub childrenOf : List ℕ → List ℕ → ℕ → List ℕ
 childrenOf a = childrenOfBy (arity a)

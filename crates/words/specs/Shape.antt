@@ -69,6 +69,10 @@ unfoldable pub stackGivenBy : {A : Type 0} → (ℕ → ℕ) → (ℕ → A) →
 stackGivenBy arity given j [] stack = stack
 stackGivenBy arity given j (w ∷ ws) stack = stackGivenBy arity given (suc j) ws (given j ∷ drop (arity w) stack)
 
+-- the roots of the trees that the first j words make, the last one first
+abbrev pub rootsBy : (ℕ → ℕ) → List ℕ → ℕ → List ℕ
+rootsBy arity ws j = stackGivenBy arity (λ k. k) 0 (take j ws) []
+
 -- the numbers of node i's children, from left to right
 unfoldable pub childrenOfBy : (ℕ → ℕ) → List ℕ → ℕ → List ℕ
-childrenOfBy arity ws i = reverse (take (arity (getD ws i 0)) (stackGivenBy arity (λ j. j) 0 (take i ws) []))
+childrenOfBy arity ws i = reverse (take (arity (getD ws i 0)) (rootsBy arity ws i))

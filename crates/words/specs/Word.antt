@@ -1,5 +1,5 @@
 -- Words of 32 bits (document 01, "Words"): their kinds, which bits each kind names, and its fields.
-use Prim.Native.Nat.{ℕ, _+_, _*_, _/_, _%_}
+use Prim.Native.Nat.{ℕ, _+_, _*_, _/_, _%_, _^_}
 use mathlib.Core.List.{List, [], _∷_}
 use mathlib.Core.Bool.{Bool, cond, _&&_}
 use lib.Dec.{ltb, eqb}
@@ -39,6 +39,10 @@ kinds =
 -- the kind that has the number n
 unfoldable pub kindAt : ℕ → Kind
 kindAt n = kindAmong kinds n
+
+-- a word has 32 bits
+abbrev pub wordRange : ℕ
+wordRange = 2 ^ 32
 
 -- "bits 31..28 are the kind": the other 28 bits stay below this number
 abbrev pub kindUnit : ℕ

@@ -4,8 +4,8 @@ use borrow.Author.Needs.{needs}
 use Rattle.closures.proofs.add_closure.Statement.{statement}
 use Rattle.closures.proofs.add_closure.Tie as tie
 
-reach-requires : tie.Need-reach-requires
-reach-requires c κs = add-puttable (c .before .before .before .before .before .before .pre)
+put-state-requires : tie.Need-put-state-requires
+put-state-requires c κs = add-puttable (c .before .before .before .before .before .before .pre)
 
 follow-pending-requires : tie.Need-follow-pending-requires
 follow-pending-requires c κs = record {
@@ -13,7 +13,7 @@ follow-pending-requires c κs = record {
       c .before .before .before .before .before .before .before .before .before .before .before .before .before .pre .closable .checked;
   stack =
       add-stack (c .before .before .before .before .before .before .before .before .before .before .before .before .before .pre)
-      (c .before .before .before .before .before .before .reach .ensures);
+      (c .before .before .before .before .before .before .put-state .ensures);
 }
 
 same-length : tie.Need-same-length
@@ -26,9 +26,9 @@ returns : tie.Need-returns
 returns c =
     add-end (c .before .before .before .before .before .before .before .before .before .before .before .before .before .before .before
     .before .before .before .pre)
-    (c .before .before .before .before .before .before .before .before .before .before .before .reach .ensures)
+    (c .before .before .before .before .before .before .before .before .before .before .before .put-state .ensures)
     (c .before .before .before .before .follow-pending .ensures)
 
 pub add-closure-spec : {M : Type 1} → statement M
 add-closure-spec =
-    tie.close (tie.spec reach-requires follow-pending-requires same-length same-length-2 returns)
+    tie.close (tie.spec put-state-requires follow-pending-requires same-length same-length-2 returns)

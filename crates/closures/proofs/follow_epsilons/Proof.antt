@@ -3,6 +3,7 @@ use mathlib.Core.Path.{sym, _∙_}
 use Prim.Native.Nat.{_+_}
 use native.Mathlib.Omega.{arith}
 use borrow.Author.Needs.{needs}
+use Rattle.index.specs.Index.{keyCount, stateKey}
 use Rattle.closures.proofs.FollowLaws.{left, index-long}
 use Rattle.closures.proofs.EpsilonLaws.{EpsilonsAt, key-inside, epsilons-first, epsilons-in}
 use Rattle.closures.proofs.EpsilonLaws.{epsilons-puttable, epsilons-less, epsilons-more, epsilons-end}
@@ -27,7 +28,7 @@ shared-slice-read-i c =
     omega (arith, key-inside g, index-long (g .followable .checked))
 
 cast-i : tie.Need-cast-i Inv-loop μ-loop
-cast-i c = omega (arith, c .shared-slice-known3 .given (256 + c .before .before .before .before .before .args .p))
+cast-i c = omega (arith, c .shared-slice-known3 .given (stateKey (c .before .before .before .before .before .args .p)))
 
 loop-holds : tie.Need-loop-holds Inv-loop μ-loop
 loop-holds c = epsilons-first (c .before .before .before .before .before .pre)
@@ -43,8 +44,8 @@ shared-slice-read-target c =
 cast-target : tie.Need-cast-target Inv-loop μ-loop
 cast-target c = search needs
 
-reach-requires : tie.Need-reach-requires Inv-loop μ-loop
-reach-requires c κs =
+put-state-requires : tie.Need-put-state-requires Inv-loop μ-loop
+put-state-requires c κs =
     let t = c .before .before .before in
     epsilons-puttable (t .before .loop .inv) (t .loop-test .taken)
 
@@ -67,7 +68,7 @@ cast-i-2 : tie.Need-cast-i-2 Inv-loop μ-loop
 cast-i-2 c =
     omega (
       arith,
-      c .shared-slice-known5 .given (1280 + c .before .before .before .before .before .before .before .before .before .before .loop .i),
+      c .shared-slice-known5 .given (keyCount + c .before .before .before .before .before .before .before .before .before .before .loop .i),
     )
 
 loop-less : tie.Need-loop-less Inv-loop μ-loop
@@ -78,7 +79,7 @@ loop-less c =
 loop-again : tie.Need-loop-again Inv-loop μ-loop
 loop-again c =
     let t = c .before .before .before .before .before .before .before .before .before in
-    epsilons-more (t .before .loop .inv) (t .loop-test .taken) (c .before .before .before .before .before .reach .ensures)
+    epsilons-more (t .before .loop .inv) (t .loop-test .taken) (c .before .before .before .before .before .put-state .ensures)
 
 same-length : tie.Need-same-length Inv-loop μ-loop
 same-length c =
@@ -104,7 +105,7 @@ follow-epsilons-spec =
     mul-target
     shared-slice-read-target
     cast-target
-    reach-requires
+    put-state-requires
     add-i-2
     mul-i-2
     shared-slice-read-i-2

@@ -42,11 +42,11 @@ mul-write-set-at : tie.Need-mul-write-set-at
 mul-write-set-at c = search needs
 
 slice-aggregate-write-set-at : tie.Need-slice-aggregate-write-set-at
-slice-aggregate-write-set-at c = sym (c .before .before .before .before .close-state .ensures .size)
+slice-aggregate-write-set-at c = sym (c .before .before .before .before .close-state .ensures .set .size)
 
 write-set-at-requires : tie.Need-write-set-at-requires
 write-set-at-requires c κs =
-    rw (c .before .before .before .before .close-state .ensures .size)
+    rw (c .before .before .before .before .close-state .ensures .set .size)
     (closure-fits (c .before .before .before .before .before .before .before .before .before .before .before .before .before .before .pre))
 
 mul-owners : tie.Need-mul-owners

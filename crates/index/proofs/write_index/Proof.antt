@@ -1,8 +1,9 @@
 -- `index::write_index` meets its contract: before each turn the words from i on are indexed.
-use mathlib.Core.Path.{ap, sym, _∙_, subst}
+use mathlib.Core.Path.{ap, sym, _∙_}
 use native.Mathlib.Omega.{arith}
 use lib.ListN.{length, length-replicate}
 use Prim.Native.Nat.{ℕ}
+use Rattle.index.specs.Index.{indexLength}
 use Rattle.index.proofs.IndexLaws.{Indexed, indexed-none, indexed-insertable, indexed-more, indexed-end}
 use Rattle.index.proofs.write_index.Statement.{statement}
 use Rattle.index.proofs.write_index.Tie as tie
@@ -31,7 +32,7 @@ loop-again c = indexed-more (c .before .before .before .before .before .loop .in
 
 same-length : tie.Need-same-length Inv-loop μ-loop
 same-length c =
-    c .before .loop .inv .size ∙ sym (ap length (c .before .before .before .before .pre .zeros) ∙ length-replicate {A = ℕ} 3328 0)
+    c .before .loop .inv .size ∙ sym (ap length (c .before .before .before .before .pre .zeros) ∙ length-replicate {A = ℕ} indexLength 0)
 
 returns : tie.Need-returns Inv-loop μ-loop
 returns c = indexed-end (c .before .loop .inv) (omega arith)

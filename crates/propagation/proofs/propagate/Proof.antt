@@ -57,10 +57,10 @@ same-length-3 c =
 same-length-4 : tie.Need-same-length-4 Inv-loop μ-loop
 same-length-4 c =
     c .before .before .before .before .before .before .before .before .before .before .before .before .before .before .before .before
-    .before .before .before .propagate-node .ensures .1 .remembered .memo .nodes-are
+    .before .before .before .propagate-node .ensures .1 .remembered .memo .known-are
     ∙ sym (c .before .before .before .before .before .before .before .before .before .before .before .before .before .before .before .before
     .before .before .before .before .before .before .before .before .before .before .before .before .before .before .before .before .before
-    .before .before .before .before .before .before .before .before .before .pre .nodes .maintained .remembered .memo .nodes-are)
+    .before .before .before .before .before .before .before .before .before .pre .nodes .maintained .remembered .memo .known-are)
 
 same-length-5 : tie.Need-same-length-5 Inv-loop μ-loop
 same-length-5 c =
@@ -158,9 +158,9 @@ same-length-11 c =
 
 same-length-12 : tie.Need-same-length-12 Inv-loop μ-loop
 same-length-12 c =
-    c .before .loop .inv .maintained .remembered .memo .nodes-are
+    c .before .loop .inv .maintained .remembered .memo .known-are
     ∙ sym (c .before .before .before .before .before .before .before .before .before .before .before .before .before .before .pre .nodes
-    .maintained .remembered .memo .nodes-are)
+    .maintained .remembered .memo .known-are)
 
 same-length-13 : tie.Need-same-length-13 Inv-loop μ-loop
 same-length-13 c =

@@ -1,6 +1,7 @@
 -- `propagation::propagate_node` meets its contract: the rank tells whether the node is an ancestor.
 use native.Mathlib.Omega.{arith}
-use Rattle.propagation.proofs.PropagationLaws.{node-rank, node-pushable, node-passed, step-beside, step-ancestor}
+use Rattle.nodes.proofs.NodeLaws.{node-pushable}
+use Rattle.propagation.proofs.PropagationLaws.{node-rank, node-passed, step-beside, step-ancestor}
 use borrow.Author.Needs.{needs}
 use Rattle.propagation.proofs.propagate_node.Statement.{statement}
 use Rattle.propagation.proofs.propagate_node.Tie as tie
@@ -19,9 +20,10 @@ rank-requires c κs = search needs
 
 push-node-requires : tie.Need-push-node-requires
 push-node-requires c κs =
+    let k = c .before .before in
     node-pushable
-    (c .before .before .before .before .before .before .before .before .before .before .before .before .before .before .before
-    .before .pre .at)
+    (k .before .before .before .before .before .before .before .before .before .before .before .before .before .before .pre .at)
+    _ (k .rank .ensures) _ (omega arith)
 
 sub-t29 : tie.Need-sub-t29
 sub-t29 c = search needs
@@ -40,7 +42,7 @@ returns c =
     c .before .before .before .before .before .before .before .before .before .before .before .before .before .before .before .before
     .before .before .before .pre .at in (
       step-beside _ _ _ _ _ _ _ (node-rank g _ (k .rank .ensures)) (c .before .before .before .before .if1 .taken),
-      node-passed g (p .push-node .ensures .0) (p .push-node .ensures .1),
+      node-passed g _ (k .rank .ensures) (p .push-node .ensures .0) (p .push-node .ensures .1),
     )
 
 recompute-requires : tie.Need-recompute-requires

@@ -3,6 +3,7 @@
 use native.Mathlib.Omega.{arith}
 use Prim.Native.Nat.{ℕ}
 use lib.ListN.{length-replicate}
+use Rattle.sets.specs.Size.{setMost}
 use Rattle.propagation.proofs.PropagationLaws.{row-fits, row-small, row-few, row-part, before-length, node-recomputed}
 use borrow.Author.Needs.{needs}
 use Rattle.propagation.proofs.recompute.Statement.{statement}
@@ -85,7 +86,7 @@ array-share-prefix-before c =
       row-few (start s .pre) _ (s .set-size .ensures),
       c .before .before .before .before .before .before .before .before .before .before .before .before .before .before .before .before
           .before .before .before .before .before .before .before .before .before .before .before .before .write-set .kept .0,
-      length-replicate {A = ℕ} 32 0,
+      length-replicate {A = ℕ} setMost 0,
     )
 
 slice-aggregate-same-words : tie.Need-slice-aggregate-same-words

@@ -3,6 +3,7 @@ use mathlib.Core.Path.{sym, _∙_}
 use Prim.Native.Nat.{_+_}
 use native.Mathlib.Omega.{arith}
 use lib.ListN.{length}
+use Rattle.index.specs.Index.{keyCount}
 use Rattle.closures.proofs.FollowLaws.{left, index-long}
 use Rattle.step.proofs.SymbolLaws.{SymbolAt, symbol-first, symbol-in}
 use Rattle.step.proofs.SymbolLaws.{symbol-at, symbol-less, symbol-more, symbol-end}
@@ -68,7 +69,7 @@ cast-i-2 c =
     omega (
       arith,
       c .shared-slice-known6 .given
-          (1280 + c .before .before .before .before .before .before .before .before .before .before .before .before .before .before
+          (keyCount + c .before .before .before .before .before .before .before .before .before .before .before .before .before .before
           .before .loop .i),
     )
 
@@ -100,8 +101,8 @@ same-length-3 c = c .before .loop .inv .pending-long
 
 same-length-4 : tie.Need-same-length-4 Inv-loop μ-loop
 same-length-4 c =
-    c .before .loop .inv .followable .growing .size
-    ∙ sym (c .before .before .before .before .before .before .before .before .before .before .before .pre .growing .size)
+    c .before .loop .inv .followable .growing .set .size
+    ∙ sym (c .before .before .before .before .before .before .before .before .before .before .before .pre .growing .set .size)
 
 returns : tie.Need-returns Inv-loop μ-loop
 returns c = symbol-end (c .before .loop .inv) (c .loop-test .left)

@@ -1,7 +1,6 @@
 -- `memo::key::step_key` meets its contract: the number fits.
 use native.Mathlib.Omega.{arith}
 use Rattle.memo.proofs.KeyLaws.{key-few, key-is}
-use borrow.Author.Needs.{needs}
 use Rattle.memo.proofs.key.step_key.Statement.{statement}
 use Rattle.memo.proofs.key.step_key.Tie as tie
 

@@ -32,20 +32,20 @@ slice-read-if1 c = search needs
 set-size-requires : tie.Need-set-size-requires
 set-size-requires c κs = search needs
 
-mul-known : tie.Need-mul-known
-mul-known c = search needs
+mul-found : tie.Need-mul-found
+mul-found c = search needs
 
-slice-read-known : tie.Need-slice-read-known
-slice-read-known c = search needs
+slice-read-found : tie.Need-slice-read-found
+slice-read-found c = search needs
 
-cast-known : tie.Need-cast-known
-cast-known c =
+cast-found : tie.Need-cast-found
+cast-found c =
     let t = c .before .before in
     let l = found-few (start (slot t) .pre) _ (slot t .before .step-key .ensures) _ (slot t .slot-of .ensures) (t .if1 .taken) in
     omega arith
 
-copy-known-requires : tie.Need-copy-known-requires
-copy-known-requires c κs =
+copy-node-requires : tie.Need-copy-node-requires
+copy-node-requires c κs =
     let n = c .before .before in
     let t = n .before in
     found-copyable (start (slot t) .pre) _ (slot t .before .step-key .ensures) _ (slot t .slot-of .ensures) (t .if1 .taken) _
@@ -59,7 +59,7 @@ returns c =
     let n = c .before .before .before .before .before in
     let t = n .before in
     found-next (start (slot t) .pre) _ (slot t .before .step-key .ensures) _ (slot t .slot-of .ensures) (t .if1 .taken) _
-    (n .set-size .ensures) _ (c .before .before .copy-known .ensures)
+    (n .set-size .ensures) _ (c .before .before .copy-node .ensures)
 
 sub-mark-new : tie.Need-sub-mark-new
 sub-mark-new c = search needs
@@ -87,16 +87,16 @@ slice-write-keys c =
     let m = c .before .before .before .before .before .before .before .before .before .before in
     omega (arith, free m .slot-of .ensures, start (free m) .pre .remembered .memo .keys-are)
 
-cast-nodes : tie.Need-cast-nodes
-cast-nodes c = search needs
+cast-known : tie.Need-cast-known
+cast-known c = search needs
 
-mul-nodes : tie.Need-mul-nodes
-mul-nodes c = search needs
+mul-known : tie.Need-mul-known
+mul-known c = search needs
 
-slice-write-nodes : tie.Need-slice-write-nodes
-slice-write-nodes c =
+slice-write-known : tie.Need-slice-write-known
+slice-write-known c =
     let m = c .before .before .before .before .before .before .before .before .before .before in
-    omega (arith, free m .slot-of .ensures, start (free m) .pre .remembered .memo .nodes-are)
+    omega (arith, free m .slot-of .ensures, start (free m) .pre .remembered .memo .known-are)
 
 same-length-2 : tie.Need-same-length-2
 same-length-2 c = search needs
@@ -134,10 +134,10 @@ mark-next-spec =
     mul-if1
     slice-read-if1
     set-size-requires
-    mul-known
-    slice-read-known
-    cast-known
-    copy-known-requires
+    mul-found
+    slice-read-found
+    cast-found
+    copy-node-requires
     same-length
     returns
     sub-mark-new
@@ -148,9 +148,9 @@ mark-next-spec =
     mark-new-requires
     mul-keys
     slice-write-keys
-    cast-nodes
-    mul-nodes
-    slice-write-nodes
+    cast-known
+    mul-known
+    slice-write-known
     same-length-2
     same-length-3
     same-length-4

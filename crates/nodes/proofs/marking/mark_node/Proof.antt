@@ -1,6 +1,6 @@
 -- `nodes::marking::mark_node` meets its contract: the last of the four words that are lent represent the children.
 use native.Mathlib.Omega.{arith}
-use Rattle.nodes.proofs.NodeLaws.{node-low, node-fits, node-height, node-few, node-next, node-words, node-kept}
+use Rattle.nodes.proofs.NodeLaws.{node-height, node-few, node-pushable, node-next, node-words, node-kept}
 use borrow.Author.Needs.{needs}
 use Rattle.nodes.proofs.marking.mark_node.Statement.{statement}
 use Rattle.nodes.proofs.marking.mark_node.Tie as tie
@@ -24,7 +24,7 @@ rank-requires : tie.Need-rank-requires
 rank-requires c κs = search needs
 
 sub-mark-next : tie.Need-sub-mark-next
-sub-mark-next c = let n = c .before in node-low (start n .pre) _ (n .rank .ensures)
+sub-mark-next c = search needs
 
 mul-mark-next : tie.Need-mul-mark-next
 mul-mark-next c = let n = c .before in let l = node-few (start n .pre) _ (n .rank .ensures) in omega arith
@@ -42,30 +42,10 @@ mark-next-requires : tie.Need-mark-next-requires
 mark-next-requires c κs =
     let n = c .before .before .before .before .before .before .before .before .before in node-next (start n .pre) _ (n .rank .ensures)
 
-sub-below : tie.Need-sub-below
-sub-below c =
-    let n = ranked (c .before .before .before .before .before .before .before .before .before .before .before .before .before .before) in
-    node-fits (start n .pre) _ (n .rank .ensures)
-
-cast-stack : tie.Need-cast-stack
-cast-stack c =
-    let m = c .before .before .before .before .before .before .before .before .before .before .before .before .before .before in
-    let h = start (ranked m) .pre in omega (arith, m .mark-next .ensures .new .low, h .inside, h .workable .tree .few)
-
-mul-stack : tie.Need-mul-stack
-mul-stack c =
-    let n = ranked (c .before .before .before .before .before .before .before .before .before .before .before .before .before .before) in
-    let l = node-few (start n .pre) _ (n .rank .ensures) in omega arith
-
-slice-write-stack : tie.Need-slice-write-stack
-slice-write-stack c =
-    let n = ranked (c .before .before .before .before .before .before .before .before .before .before .before .before .before .before) in
-    let l = node-height (start n .pre) _ (n .rank .ensures) in omega arith
-
-add-result : tie.Need-add-result
-add-result c =
-    let n = ranked (c .before .before .before .before .before .before .before .before .before .before .before .before .before .before) in
-    let l = node-few (start n .pre) _ (n .rank .ensures) in omega arith
+push-node-requires : tie.Need-push-node-requires
+push-node-requires c κs =
+    let m = c .before .before .before .before .before .before .before .before .before .before .before .before .before .before .before in
+    let n = ranked m in node-pushable (start n .pre) _ (n .rank .ensures) _ (m .mark-next .ensures .new .low)
 
 same-length : tie.Need-same-length
 same-length c = search needs
@@ -93,10 +73,12 @@ same-length-8 c = search needs
 
 returns : tie.Need-returns
 returns c =
-    let m = c .before .before .before .before .before .before .before .before .before .before .before .before .before .before in
+    let p = c .before .before in
+    let m =
+    p .before .before .before .before .before .before .before .before .before .before .before .before .before .before .before .before in
     let n = ranked m in (
       node-words (start n .pre) _ (n .rank .ensures) (m .mark-next .ensures),
-      node-kept (start n .pre) _ (n .rank .ensures) (m .mark-next .ensures),
+      node-kept (start n .pre) _ (n .rank .ensures) (m .mark-next .ensures) (p .push-node .ensures .0) (p .push-node .ensures .1),
     )
 
 pub mark-node-spec : {M : Type 1} → statement M
@@ -113,11 +95,7 @@ mark-node-spec =
     part-mark-next-start
     part-mark-next-end
     mark-next-requires
-    sub-below
-    cast-stack
-    mul-stack
-    slice-write-stack
-    add-result
+    push-node-requires
     same-length
     same-length-2
     same-length-3

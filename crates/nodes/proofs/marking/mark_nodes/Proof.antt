@@ -3,7 +3,7 @@
 use mathlib.Core.Path.{sym, _∙_}
 use Prim.Native.Nat.{_-_}
 use native.Mathlib.Omega.{arith}
-use Rattle.nodes.proofs.NodesLaws.{Marking, marking-none, marking-at, marking-more, marking-end}
+use Rattle.nodes.proofs.NodesLaws.{NodesMarking, marking-none, marking-at, marking-more, marking-end}
 use borrow.Author.Needs.{needs}
 use Rattle.nodes.proofs.marking.mark_nodes.Statement.{statement}
 use Rattle.nodes.proofs.marking.mark_nodes.Tie as tie
@@ -11,7 +11,7 @@ use Rattle.nodes.proofs.marking.mark_nodes.Tie as tie
 abbrev Inv-loop : tie.InvT-loop
 Inv-loop alphabet table index nodes from to marks₀ stack₀ height keys₀ known₀ places₀ owners₀ rows₀ pending₀ top₀ i₀ marks stack keys known
     places owners rows pending top i =
-    Marking alphabet table nodes from to marks₀ marks stack top keys known places owners rows pending i
+    NodesMarking alphabet table nodes from to marks₀ marks stack top keys known places owners rows pending i
 
 abbrev μ-loop : tie.MeasureT-loop
 μ-loop alphabet table index nodes from to marks₀ stack₀ height keys₀ known₀ places₀ owners₀ rows₀ pending₀ top₀ i₀ marks stack keys known
@@ -71,44 +71,44 @@ same-length c = c .before .loop .inv .long
 same-length-2 : tie.Need-same-length-2 Inv-loop μ-loop
 same-length-2 c =
     c .before .loop .inv .maintained .represented .long
-    ∙ sym (c .before .before .before .before .before .before .before .before .before .before .before .before .before .before .pre .maintained
-    .represented .long)
+    ∙ sym (c .before .before .before .before .before .before .before .before .before .before .before .before .before .before .pre
+    .maintained .represented .long)
 
 same-length-3 : tie.Need-same-length-3 Inv-loop μ-loop
 same-length-3 c =
     c .before .loop .inv .maintained .remembered .memo .keys-are
-    ∙ sym (c .before .before .before .before .before .before .before .before .before .before .before .before .before .before .pre .maintained
-    .remembered .memo .keys-are)
+    ∙ sym (c .before .before .before .before .before .before .before .before .before .before .before .before .before .before .pre
+    .maintained .remembered .memo .keys-are)
 
 same-length-4 : tie.Need-same-length-4 Inv-loop μ-loop
 same-length-4 c =
-    c .before .loop .inv .maintained .remembered .memo .nodes-are
-    ∙ sym (c .before .before .before .before .before .before .before .before .before .before .before .before .before .before .pre .maintained
-    .remembered .memo .nodes-are)
+    c .before .loop .inv .maintained .remembered .memo .known-are
+    ∙ sym (c .before .before .before .before .before .before .before .before .before .before .before .before .before .before .pre
+    .maintained .remembered .memo .known-are)
 
 same-length-5 : tie.Need-same-length-5 Inv-loop μ-loop
 same-length-5 c =
     c .before .loop .inv .maintained .remembered .places-are
-    ∙ sym (c .before .before .before .before .before .before .before .before .before .before .before .before .before .before .pre .maintained
-    .remembered .places-are)
+    ∙ sym (c .before .before .before .before .before .before .before .before .before .before .before .before .before .before .pre
+    .maintained .remembered .places-are)
 
 same-length-6 : tie.Need-same-length-6 Inv-loop μ-loop
 same-length-6 c =
     c .before .loop .inv .maintained .remembered .closures .owners-are
-    ∙ sym (c .before .before .before .before .before .before .before .before .before .before .before .before .before .before .pre .maintained
-    .remembered .closures .owners-are)
+    ∙ sym (c .before .before .before .before .before .before .before .before .before .before .before .before .before .before .pre
+    .maintained .remembered .closures .owners-are)
 
 same-length-7 : tie.Need-same-length-7 Inv-loop μ-loop
 same-length-7 c =
     c .before .loop .inv .maintained .remembered .closures .rows-are
-    ∙ sym (c .before .before .before .before .before .before .before .before .before .before .before .before .before .before .pre .maintained
-    .remembered .closures .rows-are)
+    ∙ sym (c .before .before .before .before .before .before .before .before .before .before .before .before .before .before .pre
+    .maintained .remembered .closures .rows-are)
 
 same-length-8 : tie.Need-same-length-8 Inv-loop μ-loop
 same-length-8 c =
     c .before .loop .inv .maintained .remembered .pending-are
-    ∙ sym (c .before .before .before .before .before .before .before .before .before .before .before .before .before .before .pre .maintained
-    .remembered .pending-are)
+    ∙ sym (c .before .before .before .before .before .before .before .before .before .before .before .before .before .before .pre
+    .maintained .remembered .pending-are)
 
 returns : tie.Need-returns Inv-loop μ-loop
 returns c =

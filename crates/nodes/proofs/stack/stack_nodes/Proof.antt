@@ -1,7 +1,9 @@
 -- `nodes::stack::stack_nodes` meets its contract: before each turn the stack holds the roots of the first i nodes.
 use mathlib.Core.Path.{sym, _∙_}
-use Prim.Native.Nat.{_-_}
+use Prim.Native.Nat.{_-_, _<_}
+use lib.ListN.{length}
 use native.Mathlib.Omega.{arith}
+use borrow.Author.Needs.{needs}
 use Rattle.nodes.proofs.RootStackLaws.{Stacking, stacking-none, stacking-pushable, stacking-more, stacking-end}
 use Rattle.nodes.proofs.stack.stack_nodes.Statement.{statement}
 use Rattle.nodes.proofs.stack.stack_nodes.Tie as tie
@@ -12,27 +14,44 @@ Inv-loop alphabet nodes count stack₀ height₀ i₀ stack height i = Stacking 
 abbrev μ-loop : tie.MeasureT-loop
 μ-loop alphabet nodes count stack₀ height₀ i₀ stack height i = count - i
 
+abbrev start : tie.In-loop Inv-loop μ-loop → tie.Start Inv-loop μ-loop
+start t = t .before .before .before .before .before
+
+inside : (t : tie.In-loop Inv-loop μ-loop) → t .before .loop .i < length (start t .args .nodes .now)
+inside t = omega (arith, t .loop-test .taken, start t .pre .within)
+
 loop-holds : tie.Need-loop-holds Inv-loop μ-loop
 loop-holds c = stacking-none (c .before .before .before .pre)
 
+mul-rank : tie.Need-mul-rank Inv-loop μ-loop
+mul-rank c = omega (arith, inside c)
+
+shared-slice-read-rank : tie.Need-shared-slice-read-rank Inv-loop μ-loop
+shared-slice-read-rank c = inside (c .before)
+
+cast-rank : tie.Need-cast-rank Inv-loop μ-loop
+cast-rank c = search needs
+
+rank-requires : tie.Need-rank-requires Inv-loop μ-loop
+rank-requires c κs = search needs
+
 push-node-requires : tie.Need-push-node-requires Inv-loop μ-loop
 push-node-requires c κs =
-    stacking-pushable (c .before .before .before .before .before .before .pre) (c .before .before .loop .inv) (c .before .loop-test .taken)
+    let t = c .before .before .before in
+    stacking-pushable (start t .pre) (t .before .loop .inv) (t .loop-test .taken) _ (c .before .rank .ensures)
 
 add-i : tie.Need-add-i Inv-loop μ-loop
-add-i c =
-    let p = c .before .before .before .before .before .before .before .before .before .pre in
-    omega (arith, c .before .before .before .before .loop-test .taken, p .within, p .tree .few)
+add-i c = search needs
 
 loop-less : tie.Need-loop-less Inv-loop μ-loop
-loop-less c = omega (arith, c .before .before .before .before .loop-test .taken)
+loop-less c = omega (arith, c .before .before .before .before .before .before .loop-test .taken)
 
 loop-again : tie.Need-loop-again Inv-loop μ-loop
 loop-again c =
-    let m = c .before .before in
-    stacking-more (c .before .before .before .before .before .before .before .before .before .pre)
-    (c .before .before .before .before .before .loop .inv) (c .before .before .before .before .loop-test .taken) _ _
-    (m .push-node .ensures .0) (m .push-node .ensures .1)
+    let p = c .before .before in
+    let t = p .before .before .before .before in
+    stacking-more (start t .pre) (t .before .loop .inv) (t .loop-test .taken) _ (p .before .before .rank .ensures) _ _
+    (p .push-node .ensures .0) (p .push-node .ensures .1)
 
 same-length : tie.Need-same-length Inv-loop μ-loop
 same-length c = c .before .loop .inv .long ∙ sym (c .before .before .before .before .before .pre .long)
@@ -47,6 +66,10 @@ stack-nodes-spec =
     Inv-loop
     μ-loop
     loop-holds
+    mul-rank
+    shared-slice-read-rank
+    cast-rank
+    rank-requires
     push-node-requires
     add-i
     loop-less

@@ -1,7 +1,7 @@
 -- `sets::whole::count_cells` meets its contract: before each turn the first k words are counted; one may be left.
 use Prim.Native.Nat.{_+_, _-_}
 use native.Mathlib.Omega.{arith}
-use lib.ListN.{length, getD}
+use lib.ListN.{length}
 use lib.Count.{ones-le}
 use Rattle.sets.proofs.CellCountLaws.{Summed, pair-few, summed-none, summed-pair, summed-more, summed-end}
 use borrow.Author.Needs.{needs}

@@ -1,8 +1,8 @@
--- `memo::lookup::copy_known` meets its contract: one word is as many words as its index says.
-use Rattle.memo.proofs.MarkingLaws.{one-copyable, one-copied}
+-- `memo::lookup::copy_node` meets its contract: one word is as many words as its index says.
+use Rattle.memo.proofs.NodeWritingLaws.{one-copyable, one-copied}
 use borrow.Author.Needs.{needs}
-use Rattle.memo.proofs.lookup.copy_known.Statement.{statement}
-use Rattle.memo.proofs.lookup.copy_known.Tie as tie
+use Rattle.memo.proofs.lookup.copy_node.Statement.{statement}
+use Rattle.memo.proofs.lookup.copy_node.Tie as tie
 
 copy-set-requires : tie.Need-copy-set-requires
 copy-set-requires c κs = one-copyable _ _ _ _ (c .before .before .before .pre) (c .before .if1 .taken)
@@ -30,8 +30,8 @@ same-length-2 c = search needs
 returns-2 : tie.Need-returns-2
 returns-2 c = search needs
 
-pub copy-known-spec : {M : Type 1} → statement M
-copy-known-spec =
+pub copy-node-spec : {M : Type 1} → statement M
+copy-node-spec =
     tie.close
     (tie.spec
     copy-set-requires

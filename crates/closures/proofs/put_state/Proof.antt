@@ -1,10 +1,10 @@
--- `closures::reach` meets its contract: those of `contains` and `insert` give it.
+-- `closures::put_state` meets its contract: those of `contains` and `insert` give it.
 use mathlib.Core.Path.{sym, _∙_}
 use native.Mathlib.Omega.{arith}
 use borrow.Author.Needs.{needs}
 use Rattle.closures.proofs.PendingStackLaws.{put-present-none, put-one}
-use Rattle.closures.proofs.reach.Statement.{statement}
-use Rattle.closures.proofs.reach.Tie as tie
+use Rattle.closures.proofs.put_state.Statement.{statement}
+use Rattle.closures.proofs.put_state.Tie as tie
 
 contains-requires : tie.Need-contains-requires
 contains-requires c κs = search needs
@@ -47,8 +47,8 @@ returns-2 c =
     let d = c .before .before .before .before in
     put-one (sym (d .before .contains .ensures) ∙ d .if1 .left) (c .before .before .insert .ensures)
 
-pub reach-spec : {M : Type 1} → statement M
-reach-spec =
+pub put-state-spec : {M : Type 1} → statement M
+put-state-spec =
     tie.close
     (tie.spec
     contains-requires

@@ -1,7 +1,8 @@
--- A node that is worked out: what its parts ask, and that the marks and the representative are right.
+-- A node's words are written: where they are worked out, what the parts of this ask, and that the marks and the representative
+-- are right; and a set of one word that is copied.
 use mathlib.Core.Path.{_≡_, ap, ap₂, _∙_, sym}
 use mathlib.Core.List.{List, _++_}
-use Prim.Native.Nat.{ℕ, _+_, _-_, _*_, _<_, _≤_}
+use Prim.Native.Nat.{ℕ, _+_, _-_, _*_, _≤_}
 use native.Mathlib.Omega.{arith}
 use native.Mathlib.Nat.{mul-one}
 use lib.ListN.{length, take, drop, replicate, length-append}
@@ -9,11 +10,12 @@ use lib.Seq.{paste, take-at}
 use Rattle.automaton.specs.Transition.{automatonOf}
 use Rattle.automaton.specs.StateSet.{StateSet, stateSet}
 use Rattle.automaton.proofs.SetLength.{length-stateSet}
-use Rattle.automaton.proofs.TableLaws.{isTable-sizes}
 use Rattle.operations.specs.Marks.{sizeOf, storedSet}
 use Rattle.step.specs.NodeSteppable.{childSets}
 use Rattle.sets.specs.Copyable.{Copyable}
-use Rattle.sets.proofs.StoredLaws.{words-few, stored-written, stored-before}
+use Rattle.sets.specs.Size.{marksMost, setMost}
+use Rattle.sets.proofs.StoredLaws.{stored-written, stored-before}
+use Rattle.sets.proofs.SizeLaws.{words-few, set-small}
 use Rattle.memo.specs.Memo.{setOver, Placeable, Represents, itself, earlier, NewMarkable, MarkedNew}
 
 pub length-setOver : (table : List ℕ) (f : ℕ) (marks cs : List ℕ) → length (setOver table f marks cs) ≡ sizeOf table
@@ -22,18 +24,17 @@ length-setOver table f marks cs = length-stateSet _ f _
 
 pub size-few : {table index : List ℕ} {f : ℕ} {marks cs : List ℕ} {i : ℕ} {places owners rows pending : List ℕ}
     → NewMarkable table index f marks cs i places owners rows pending
-    → sizeOf table ≤ 32
-unfolding sizeOf
-size-few {table} g = let r = g .steppable .node .indexed in isTable-sizes (r .alphabet) table (r .checked) .size-most
+    → sizeOf table ≤ setMost
+size-few {table} g = let r = g .steppable .node .indexed in set-small (r .alphabet) table (r .checked)
 
 module _ {table index : List ℕ} {f : ℕ} {marks cs : List ℕ} {i : ℕ} {places owners rows pending : List ℕ}
     (g : NewMarkable table index f marks cs i places owners rows pending)
-    (set : StateSet) (e : set ≡ stateSet (automatonOf table) f (childSets (sizeOf table) marks cs) ++ replicate (32 - sizeOf table) 0)
+    (set : StateSet) (e : set ≡ stateSet (automatonOf table) f (childSets (sizeOf table) marks cs) ++ replicate (setMost - sizeOf table) 0)
     (size : ℕ) (s : size ≡ sizeOf table) where
   abbrev v : StateSet
   v = setOver table f marks cs
 
-  set-is : set ≡ setOver table f marks cs ++ replicate (32 - sizeOf table) 0
+  set-is : set ≡ setOver table f marks cs ++ replicate (setMost - sizeOf table) 0
   unfolding setOver
   set-is = e
 
@@ -46,9 +47,9 @@ module _ {table index : List ℕ} {f : ℕ} {marks cs : List ℕ} {i : ℕ} {pla
   pub set-long : size ≤ length set
   set-long =
       let n = length-setOver table f marks cs in
-      rw (set-is, length-append v (replicate (32 - sizeOf table) 0)) (omega arith)
+      rw (set-is, length-append v (replicate (setMost - sizeOf table) 0)) (omega arith)
 
-  pub set-few : i * size ≤ 131072
+  pub set-few : i * size ≤ marksMost
   set-few = let few = g .few in words-few i size (omega arith) (omega (arith, size-few g))
 
   pub set-fits : i * size + length (take size set) ≤ length marks
@@ -92,19 +93,19 @@ module _ {table index : List ℕ} {f : ℕ} {marks cs : List ℕ} {i : ℕ} {pla
 
 -- ---- a set of one word is copied
 
-module _ (marks : List ℕ) (known i size : ℕ) (g : Copyable marks (known * size) (i * size) size) (e : size ≡ 1) where
+module _ (marks : List ℕ) (node i size : ℕ) (g : Copyable marks (node * size) (i * size) size) (e : size ≡ 1) where
   times-one : (n : ℕ) → n * size ≡ n
   times-one n = ap (λ (k : ℕ). n * k) e ∙ mul-one n
 
-  pub one-copyable : Copyable marks known i 1
+  pub one-copyable : Copyable marks node i 1
   one-copyable = record {
     small = omega arith;
-    source = omega (arith, g .source, times-one known, e);
+    source = omega (arith, g .source, times-one node, e);
     target = omega (arith, g .target, times-one i, e);
   }
 
-  pub one-copied : (marks′ : List ℕ) → marks′ ≡ paste marks i (take 1 (drop known marks)) 1
-      → marks′ ≡ paste marks (i * size) (take size (drop (known * size) marks)) size
+  pub one-copied : (marks′ : List ℕ) → marks′ ≡ paste marks i (take 1 (drop node marks)) 1
+      → marks′ ≡ paste marks (i * size) (take size (drop (node * size) marks)) size
   one-copied marks′ q =
-      q ∙ ap (λ (n : ℕ). paste marks i (take n (drop known marks)) n) (sym e)
-      ∙ ap₂ (λ (j k : ℕ). paste marks j (take size (drop k marks)) size) (sym (times-one i)) (sym (times-one known))
+      q ∙ ap (λ (n : ℕ). paste marks i (take n (drop node marks)) n) (sym e)
+      ∙ ap₂ (λ (j k : ℕ). paste marks j (take size (drop k marks)) size) (sym (times-one i)) (sym (times-one node))
