@@ -57,7 +57,7 @@ numbered-states (c ∷ cs) n = next (le-refl n) (rw (suc-add, ← add-suc) at (n
 
 module _ (a : List ℕ) (n w : ℕ) where
   -- a word with children has an entry for each constant
-  pub hasEntries-arity : hasEntries a w ≡ false → arity a w ≡ 0
+  hasEntries-arity : hasEntries a w ≡ false → arity a w ≡ 0
   unfolding hasEntries
   hasEntries-arity h = eqb-true (arity a w) 0 (not-false (eqb (arity a w) 0) h)
 
