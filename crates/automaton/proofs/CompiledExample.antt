@@ -19,7 +19,7 @@ rule =
     ∷ 0x50000002 ∷ 0x40000000 ∷ 0x60000003 ∷ []
 
 -- 29 states, final state 24, 36 words
-abbrev pub table : List ℕ
+abbrev table : List ℕ
 table =
     0x80007418 ∷ 0x90000019 ∷ 0x9000041a ∷ 0x9000081b ∷ 0x90000c1c
     ∷ 0x90001002 ∷ 0xb0000000 ∷ 0xb0000001 ∷ 0xa0000c00 ∷ 0xa0001001

@@ -85,7 +85,7 @@ module _ (a : List ℕ) (n : ℕ) (few : length a ≤ symbolRange) (most : n ≤
   sources-read (p ∷ ps) ts b o =
       source-source p (sourceWords ps ++ transitionsWords ts) (omega (arith, b .0)) ∙ ap (λ l. p ∷ l) (sources-read ps ts (b .1) o)
 
-  pub transitionsAt-words : (ts : List Transition) → TransitionsOver a n ts → transitionsAt (transitionsWords ts) ≡ ts
+  transitionsAt-words : (ts : List Transition) → TransitionsOver a n ts → transitionsAt (transitionsWords ts) ≡ ts
   unfolding transitionsAt
   transitionsAt-words [] o = refl
   transitionsAt-words (onSymbol f ps q ∷ ts) o =

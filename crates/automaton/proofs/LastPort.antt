@@ -33,7 +33,7 @@ module _ (a : List ℕ) where
       let e : suc (length ws) - 1 ≡ length ws = omega arith in
       rw e (last-from ws 0 w)
 
-  pub last-in : (ws : List ℕ) {n w : ℕ} {stack : List Port} → AllRead a n (w ∷ ws) stack
+  last-in : (ws : List ℕ) {n w : ℕ} {stack : List Port} → AllRead a n (w ∷ ws) stack
       → PortIn a n (statesAfter a n (w ∷ ws)) (lastFrom a n w ws)
   unfolding statesAfter
   last-in [] (word d r) = d .port

@@ -35,16 +35,16 @@ In r q = contains r q ≡ true
 
 -- ---- a pass keeps each state that is in the set
 
-pub epsilonStep-grows : (t : Transition) (r : StateSet) → StatesWithin (In (epsilonStep t r)) r
+epsilonStep-grows : (t : Transition) (r : StateSet) → StatesWithin (In (epsilonStep t r)) r
 epsilonStep-grows t r q = epsilonStep-keeps (λ x. In x q) (λ x s. insert-keeps x s q) t r
 
-pub epsilonPass-grows : (ts : List Transition) (r : StateSet) → StatesWithin (In (epsilonPass ts r)) r
+epsilonPass-grows : (ts : List Transition) (r : StateSet) → StatesWithin (In (epsilonPass ts r)) r
 epsilonPass-grows ts r q = epsilonPass-keeps (λ x. In x q) (λ x s. insert-keeps x s q) ts r
 
 pub epsilonClosure-grows : (n : ℕ) (ts : List Transition) (r : StateSet) → StatesWithin (In (epsilonClosure n ts r)) r
 epsilonClosure-grows n ts r q = epsilonClosure-keeps (λ x. In x q) (λ x s. insert-keeps x s q) n ts r
 
-pub symbolPass-grows : (f : ℕ) (rs : List StateSet) (ts : List Transition) (r : StateSet) → StatesWithin (In (symbolPass f rs ts r)) r
+symbolPass-grows : (f : ℕ) (rs : List StateSet) (ts : List Transition) (r : StateSet) → StatesWithin (In (symbolPass f rs ts r)) r
 symbolPass-grows f rs ts r q = symbolPass-keeps (λ x. In x q) (λ x s. insert-keeps x s q) f rs ts r
 
 -- ---- what a pass adds
@@ -52,7 +52,7 @@ symbolPass-grows f rs ts r q = symbolPass-keeps (λ x. In x q) (λ x s. insert-k
 added : (b : Bool) (r : StateSet) (q : ℕ) → q / 32 < length r → b ≡ true → In (cond b (insert r q) r) q
 added b r q l e = rw e (insert-same r q l)
 
-pub epsilonPass-adds : (ts : List Transition) (r : StateSet) (p q : ℕ) → List·Memᴰ (epsilon p q) ts → q / 32 < length r → In r p
+epsilonPass-adds : (ts : List Transition) (r : StateSet) (p q : ℕ) → List·Memᴰ (epsilon p q) ts → q / 32 < length r → In r p
     → In (epsilonPass ts r) q
 unfolding epsilonPass
 epsilonPass-adds (t ∷ ts) r p q (List·Memᴰ·head e) l h =
@@ -89,7 +89,7 @@ module _ (P : ℕ → Type 0) where
   epsilonStep-within (onSymbol g ps q) r c w = w
   epsilonStep-within (epsilon p q) r c w = within-if (contains r p) r q (λ e. c p q refl (w p e)) w
 
-  pub epsilonPass-within : (ts : List Transition) (r : StateSet) → ClosedUnder ts P → StatesWithin P r → StatesWithin P (epsilonPass ts r)
+  epsilonPass-within : (ts : List Transition) (r : StateSet) → ClosedUnder ts P → StatesWithin P r → StatesWithin P (epsilonPass ts r)
   unfolding epsilonPass
   epsilonPass-within [] r c w = w
   epsilonPass-within (t ∷ ts) r c w =

@@ -53,7 +53,7 @@ module _ (a : List ℕ) where
         own = own a n w (childrenOn a w stack) h l;
       }
 
-  pub reading : (ws : List ℕ) (n t : ℕ) (stack : List Port) → all (isExpressionWord a) ws ≡ true → trees a (length stack) ws t ≡ true
+  reading : (ws : List ℕ) (n t : ℕ) (stack : List Port) → all (isExpressionWord a) ws ≡ true → trees a (length stack) ws t ≡ true
       → PortStack a n stack → AllRead a n ws stack
   unfolding treesBy
   reading [] n t stack h r s = ended

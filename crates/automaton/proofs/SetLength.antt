@@ -21,7 +21,7 @@ length-epsilonStep t r = epsilonStep-keeps (Size (length r)) (size-kept (length 
 pub length-epsilonPass : (ts : List Transition) (r : StateSet) → length (epsilonPass ts r) ≡ length r
 length-epsilonPass ts r = epsilonPass-keeps (Size (length r)) (size-kept (length r)) ts r refl
 
-pub length-epsilonClosure : (n : ℕ) (ts : List Transition) (r : StateSet) → length (epsilonClosure n ts r) ≡ length r
+length-epsilonClosure : (n : ℕ) (ts : List Transition) (r : StateSet) → length (epsilonClosure n ts r) ≡ length r
 length-epsilonClosure n ts r = epsilonClosure-keeps (Size (length r)) (size-kept (length r)) n ts r refl
 
 pub length-symbolStep : (f : ℕ) (rs : List StateSet) (t : Transition) (r : StateSet) → length (symbolStep f rs t r) ≡ length r

@@ -26,7 +26,7 @@ weight (P ∷ Ps) = suc (length (P .entries)) + weight Ps
 
 -- ---- laws of the number
 
-pub total-append : (f g : ℕ → List ℕ) (cs : List ℕ) → total (λ c. f c ++ g c) cs ≡ total f cs + total g cs
+total-append : (f g : ℕ → List ℕ) (cs : List ℕ) → total (λ c. f c ++ g c) cs ≡ total f cs + total g cs
 total-append f g [] = refl
 total-append f g (c ∷ cs) = omega (arith, length-append (f c) (g c), total-append f g cs)
 
@@ -70,7 +70,7 @@ lookup-once es c s = rw (counted es) (count-once (λ b. eqb b c) c (λ b h. eqb-
         go false h = omega arith
 
 module _ {lo hi : ℕ} {cs : List ℕ} (s : Ascending lo hi cs) where
-  pub total-lookup : (es : List (ℕ × ℕ)) → total (lookup es) cs ≤ length es
+  total-lookup : (es : List (ℕ × ℕ)) → total (lookup es) cs ≤ length es
   total-lookup [] = omega (arith, total-none cs)
   total-lookup (e ∷ es) =
       let o = count-once (λ c. eqb (e .0) c) (e .0) (λ c h. sym (eqb-true (e .0) c h)) s in

@@ -10,7 +10,7 @@ use Rattle.words.proofs.Ascending.{Ascending, end, next, ascending-from, ascend
 use Rattle.automaton.specs.Numbering.{Port, lookup, entryFor, symbolTargets, unionTargets, productTargets, closureTargets}
 use Rattle.automaton.proofs.PortStates.{statesIn, PortIn, Children, noChild, child}
 
-pub lookup-ascending : {lo hi : ℕ} (c : ℕ) (es : List (ℕ × ℕ)) → Ascending lo hi (statesIn es) → Ascending lo hi (lookup es c)
+lookup-ascending : {lo hi : ℕ} (c : ℕ) (es : List (ℕ × ℕ)) → Ascending lo hi (statesIn es) → Ascending lo hi (lookup es c)
 lookup-ascending c [] h = h
 lookup-ascending {lo} {hi} c (e ∷ es) (next l h) = go (eqb (e .0) c) (lookup-ascending c es h)
   where

@@ -44,7 +44,7 @@ module _ (cs : List ℕ) (E : Expression) where
       (each-left (Present ts) (constantTransitions (entryStates cs E 0)) (transitionsOf cs E 0) (each-self ts))))
       t (t, m, substitution-same t)
 
-  pub thompson-tree : ConstantsListed cs E → (t : Tree) → Reaches ts (exitState cs E 0) t ↔ Member E t
+  thompson-tree : ConstantsListed cs E → (t : Tree) → Reaches ts (exitState cs E 0) t ↔ Member E t
   thompson-tree k t = (reaches-member t, member-reaches k t)
 
 -- ---- numbered word by word
@@ -68,7 +68,7 @@ module _ (a : List ℕ) where
     constants-listed-all (moreᵉ e es) o = (constants-listed e (o .0), constants-listed-all es (o .1))
 
 -- the trees that the automaton accepts
-abbrev pub Accepts : Automaton → Tree → Type 0
+abbrev Accepts : Automaton → Tree → Type 0
 Accepts A t = Reaches (A .transitions) (A .final) t
 
 -- the theorem, of the very automaton that the table of a rule encodes

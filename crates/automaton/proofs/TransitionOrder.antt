@@ -25,7 +25,7 @@ pub data OrderedFrom : ℕ → ℕ → List Transition → Type 0 where
   fromLater : {p q p′ q′ : ℕ} {ts : List Transition} → p < p′ → OrderedFrom p′ (suc q′) ts → OrderedFrom p q (epsilon p′ q′ ∷ ts)
   toLater : {p q q′ : ℕ} {ts : List Transition} → q ≤ q′ → OrderedFrom p (suc q′) ts → OrderedFrom p q (epsilon p q′ ∷ ts)
 
-abbrev pub Ordered : List Transition → Type 0
+abbrev Ordered : List Transition → Type 0
 Ordered ts = OrderedFrom 0 0 ts
 
 -- the own transitions of a word: "its symbol move, if its rank is above 0 .. and its empty moves, ordered by from and then by to"
@@ -35,12 +35,12 @@ pub data InOrder : List Transition → Type 0 where
 
 -- ---- laws of the order
 
-pub from-earlier : {p q p′ q′ : ℕ} {ts : List Transition} → p < p′ → OrderedFrom p′ q′ ts → OrderedFrom p q ts
+from-earlier : {p q p′ q′ : ℕ} {ts : List Transition} → p < p′ → OrderedFrom p′ q′ ts → OrderedFrom p q ts
 from-earlier l none = none
 from-earlier l (fromLater h o) = fromLater (lt-trans l h) o
 from-earlier l (toLater h o) = fromLater l o
 
-pub from-first : {p q : ℕ} {ts : List Transition} (lo : ℕ) → lo ≤ p → OrderedFrom p q ts → OrderedFrom lo 0 ts
+from-first : {p q : ℕ} {ts : List Transition} (lo : ℕ) → lo ≤ p → OrderedFrom p q ts → OrderedFrom lo 0 ts
 from-first lo l none = none
 from-first lo l (fromLater h o) = fromLater (lt-of-le-of-lt l h) o
 from-first lo l (toLater {p} {q′ = r} {ts} h o) = go (decLe p lo)
@@ -49,12 +49,12 @@ from-first lo l (toLater {p} {q′ = r} {ts} h o) = go (decLe p lo)
     go (yes k) = let e : p ≡ lo = omega arith in subst (λ x. OrderedFrom x 0 (epsilon p r ∷ ts)) e (toLater zero-le o)
     go (no k) = let h : lo < p = omega arith in fromLater h o
 
-pub epsilons-ordered : {p lo hi : ℕ} {qs : List ℕ} {ts : List Transition} → Ascending lo hi qs → OrderedFrom (suc p) 0 ts
+epsilons-ordered : {p lo hi : ℕ} {qs : List ℕ} {ts : List Transition} → Ascending lo hi qs → OrderedFrom (suc p) 0 ts
     → OrderedFrom p lo (epsilons p qs ++ ts)
 epsilons-ordered (end h) o = from-earlier (omega arith) o
 epsilons-ordered (next h a) o = toLater h (epsilons-ordered a o)
 
-pub entryEpsilons-ordered : {lo hi l h : ℕ} (targets : ℕ → List ℕ) (es : List (ℕ × ℕ)) → Ascending lo hi (statesIn es)
+entryEpsilons-ordered : {lo hi l h : ℕ} (targets : ℕ → List ℕ) (es : List (ℕ × ℕ)) → Ascending lo hi (statesIn es)
     → ((c : ℕ) → Ascending l h (targets c)) → OrderedFrom lo 0 (entryEpsilons es targets)
 entryEpsilons-ordered targets [] s t = none
 entryEpsilons-ordered {lo} targets (e ∷ es) (next k s) t =
@@ -89,7 +89,7 @@ own-ordered {w} {E} x (child p (noChild l)) (ofClosure {F} i) =
 -- ---- every word
 
 -- the own transitions of each of the words, from state n on, stand in order
-abbrev pub AllInOrder : List ℕ → ℕ → List ℕ → List Port → Type 0
+abbrev AllInOrder : List ℕ → ℕ → List ℕ → List Port → Type 0
 AllInOrder a n [] stack = Unit {0}
 AllInOrder a n (w ∷ ws) stack =
     InOrder (ownTransitions w (portOf a n w) (childrenOn a w stack))

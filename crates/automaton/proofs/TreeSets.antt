@@ -18,7 +18,7 @@ use Rattle.automaton.proofs.ClosureLaws.{TargetsBelow, stateSet-closed,
 abbrev pub treeSet : Automaton → Tree → StateSet
 treeSet A t = fold (λ f rs. stateSet A f rs) t
 
-abbrev pub treeSets : Automaton → Trees → List StateSet
+abbrev treeSets : Automaton → Trees → List StateSet
 treeSets A us = foldAll (λ f rs. stateSet A f rs) us
 
 -- where the children's sets hold what the children reach, a node's set holds what its tree reaches

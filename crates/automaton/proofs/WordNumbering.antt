@@ -52,17 +52,17 @@ module _ (a : List ℕ) where
 
   -- ---- reading all words of an expression, or of a row of expressions
 
-  pub record Reads (E : Expression) (n : ℕ) : Type 0 where
-    pub transitions : (rest : List ℕ) (stack : List Port)
+  record Reads (E : Expression) (n : ℕ) : Type 0 where
+    transitions : (rest : List ℕ) (stack : List Port)
         → transitionsFrom a n (expressionWords E ++ rest) stack
         ≡ transitionsOf cs E n ++ transitionsFrom a (next cs E n) rest (port cs E n ∷ stack)
-    pub states : (rest : List ℕ) → statesAfter a n (expressionWords E ++ rest) ≡ statesAfter a (next cs E n) rest
+    states : (rest : List ℕ) → statesAfter a n (expressionWords E ++ rest) ≡ statesAfter a (next cs E n) rest
 
-  pub record ReadsAll (es : Expressions) (n : ℕ) : Type 0 where
-    pub transitions : (rest : List ℕ) (stack : List Port)
+  record ReadsAll (es : Expressions) (n : ℕ) : Type 0 where
+    transitions : (rest : List ℕ) (stack : List Port)
         → transitionsFrom a n (postfixAll (syntaxTrees es) ++ rest) stack
         ≡ transitionsOfAll cs es n ++ transitionsFrom a (nextAll cs es n) rest (reverseAux (ports cs es n) stack)
-    pub states : (rest : List ℕ) → statesAfter a n (postfixAll (syntaxTrees es) ++ rest) ≡ statesAfter a (nextAll cs es n) rest
+    states : (rest : List ℕ) → statesAfter a n (postfixAll (syntaxTrees es) ++ rest) ≡ statesAfter a (nextAll cs es n) rest
 
   reads-none : (n : ℕ) → ReadsAll noneᵉ n
   reads-none n = record { transitions = λ rest stack. refl; states = λ rest. refl }
@@ -160,7 +160,7 @@ module _ (a : List ℕ) where
   length-portsFrom [] n = refl
   length-portsFrom (v ∷ k) n = ap suc (length-portsFrom k (n + statesOf a v))
 
-  pub lastPort-snoc : (k : List ℕ) (v : ℕ) → lastPort a (k ++ (v ∷ [])) ≡ portOf a (statesAfter a 0 k) v
+  lastPort-snoc : (k : List ℕ) (v : ℕ) → lastPort a (k ++ (v ∷ [])) ≡ portOf a (statesAfter a 0 k) v
   unfolding portsFrom
   lastPort-snoc k v =
       let P = portOf a (statesAfter a 0 k) v in
@@ -174,7 +174,7 @@ module _ (a : List ℕ) where
   abbrev assemble : ℕ → Port → List Transition → Automaton
   assemble n P ts = record { states = n; final = P .exit; transitions = constantTransitions (P .entries) ++ ts }
 
-  abbrev pub treeAutomaton : Expression → Automaton
+  abbrev treeAutomaton : Expression → Automaton
   treeAutomaton E = record { states = next cs E 0; final = exitState cs E 0; transitions = treeTransitions cs E }
 
   module _ (l : length a ≤ alphabetMost) (E : Expression) (o : ExpressionOver a E) where

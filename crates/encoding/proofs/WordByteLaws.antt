@@ -25,7 +25,7 @@ pub length-wordsIn : (bytes : List ℕ) → length (wordsIn bytes) ≡ length by
 unfolding wordsIn
 length-wordsIn bytes = length-listFrom (wordAt bytes) (length bytes / 4) 0
 
-pub getD-wordsIn : (bytes : List ℕ) (i : ℕ) → i < length bytes / 4 → getD (wordsIn bytes) i 0 ≡ wordAt bytes i
+getD-wordsIn : (bytes : List ℕ) (i : ℕ) → i < length bytes / 4 → getD (wordsIn bytes) i 0 ≡ wordAt bytes i
 unfolding wordsIn
 getD-wordsIn bytes i h = getD-listFrom (wordAt bytes) 0 (length bytes / 4) 0 i h ∙ ap (wordAt bytes) (zero-add i)
 
@@ -36,7 +36,7 @@ sets-past [] l i h = refl
 sets-past (v ∷ vs) l i h = rw (set-out l i v) (sets-past vs l (suc i) (omega arith))
 
 -- so those that do not fit may be left out
-pub sets-take : (vs l : List ℕ) (at n : ℕ) → length l ≤ at + n → sets l at (take n vs) ≡ sets l at vs
+sets-take : (vs l : List ℕ) (at n : ℕ) → length l ≤ at + n → sets l at (take n vs) ≡ sets l at vs
 sets-take vs l at n h = go (decLe n (length vs))
   where
     go : Dec (n ≤ length vs) → sets l at (take n vs) ≡ sets l at vs

@@ -13,7 +13,7 @@ use Rattle.words.proofs.AnswerLaws.{answer-refused, answer-accepted, exit-refus
 
 module _ (c : ExchangeCall) where
   -- the contract of Exchange
-  abbrev pub Exits : Answer → List ℕ → List ℕ → Type 0
+  abbrev Exits : Answer → List ℕ → List ℕ → Type 0
   Exits answer chapter marks =
       (answer ≡ exchangeAnswer c) × ((chapter ≡ exchangeChapter c) × (marks ≡ exchangeMarks c))
 

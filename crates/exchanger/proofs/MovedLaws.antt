@@ -24,7 +24,7 @@ use Rattle.exchanger.proofs.TailLaws.{length-kept}
 use Rattle.exchanger.proofs.CallNumberLaws.{restCount, rootAt, totalCount, movedMarks, CallNumbers}
 use Rattle.exchanger.proofs.CallNumberLaws.{call-numbers, marks-movable, length-used}
 
-pub flatten-append : (l k : List StateSet) → flatten (l ++ k) ≡ flatten l ++ flatten k
+flatten-append : (l k : List StateSet) → flatten (l ++ k) ≡ flatten l ++ flatten k
 unfolding flatten
 flatten-append [] k = refl
 flatten-append (r ∷ l) k = ap (λ (t : List ℕ). r ++ t) (flatten-append l k) ∙ sym (append-assoc r (flatten l) (flatten k))

@@ -46,7 +46,7 @@ module _ (a table ch : List ℕ) where
     propagateSets-onward b c = rw (b, c)
 
   -- the sets from i on with these outcomes, and the count with theirs
-  abbrev pub ended : ℕ → List StateSet → ℕ → List Outcome → List StateSet × ℕ
+  abbrev ended : ℕ → List StateSet → ℕ → List Outcome → List StateSet × ℕ
   ended i sets count os = (take i sets ++ map setIn os, count + recomputedIn os)
 
   -- the sets from i on are those stored from node j of the old tree on

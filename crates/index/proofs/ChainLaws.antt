@@ -103,7 +103,7 @@ module _ (table : List ℕ) (key : ℕ) where
     next-past h = step ∙ rw (ne-eqb (keyOf (getD table j 0)) key h)
 
 -- no word from j up to e has the key
-abbrev pub Without : List ℕ → ℕ → ℕ → ℕ → Type 0
+abbrev Without : List ℕ → ℕ → ℕ → ℕ → Type 0
 Without table key j e = (m : ℕ) → j ≤ m → m < e → keyOf (getD table m 0) ≡ key → ⊥
 
 -- word i is the first one from j on that has the key

@@ -35,7 +35,7 @@ module _ (a : List ℕ) where
 
   module _ (m : length a ≤ alphabetMost) where
     mutual
-      pub ranked-syntax : (E : Expression) → ExpressionOver a E → Ranked (arity a) (syntaxTree E)
+      ranked-syntax : (E : Expression) → ExpressionOver a E → Ranked (arity a) (syntaxTree E)
       ranked-syntax (symbol f es) h =
           let l = h .0 in
           (arity-wordOf a symbolKind f (omega arith) ∙ h .1 ∙ sym (number-syntaxTrees es), ranked-syntaxes es (h .2))
@@ -45,7 +45,7 @@ module _ (a : List ℕ) where
           (arity-wordOf a productKind c (constant-small a m c (h .0)), (ranked-syntax F (h .1), (ranked-syntax G (h .2), tt)))
       ranked-syntax (closure c F) h = (arity-wordOf a closureKind c (constant-small a m c (h .0)), (ranked-syntax F (h .1), tt))
 
-      pub ranked-syntaxes : (es : Expressions) → ExpressionsOver a es → RankedAll (arity a) (syntaxTrees es)
+      ranked-syntaxes : (es : Expressions) → ExpressionsOver a es → RankedAll (arity a) (syntaxTrees es)
       ranked-syntaxes noneᵉ h = tt
       ranked-syntaxes (moreᵉ E es) h = (ranked-syntax E (h .0), ranked-syntaxes es (h .1))
 

@@ -8,16 +8,16 @@ use Rattle.language.specs.Expression.{Expression, symbol, empty, union, 
 use Rattle.language.specs.Membership.{constant, only, atConstant, atSymbol, atNone, atMore, Step, Member}
 use Rattle.language.proofs.SubstitutionLaws.{constant-under}
 
-abbrev pub a : ℕ
+abbrev a : ℕ
 a = 0
 
-abbrev pub b : ℕ
+abbrev b : ℕ
 b = 1
 
-abbrev pub c : ℕ
+abbrev c : ℕ
 c = 2
 
-abbrev pub d : ℕ
+abbrev d : ℕ
 d = 3
 
 -- a constant, and f over two parts, as expressions

@@ -112,7 +112,7 @@ module _ (a : List ℕ) where
         let f = root w es (and-true (isExpressionWord a w) true (all-right (isExpressionWord a) (postfixAll ts) (w ∷ []) h) .0) n (q .0) in
         (f .over, f .tree ∙ ap (node w) (q .1))
 
-    pub trees-expressions : (ts : Trees) → RankedAll (arity a) ts → all (isExpressionWord a) (postfixAll ts) ≡ true
+    trees-expressions : (ts : Trees) → RankedAll (arity a) ts → all (isExpressionWord a) (postfixAll ts) ≡ true
         → ExpressionsOver a (childrenᵉ (treeExpressions ts)) × (syntaxTrees (childrenᵉ (treeExpressions ts)) ≡ ts)
     trees-expressions none r h = (tt, refl)
     trees-expressions (more t ts) r h =
@@ -149,6 +149,6 @@ module _ (a : List ℕ) where
           kind-back closureKind c (treeExpression (syntaxTree F) ∷ []) (constant-small c (h .0))
           ∙ ap (closure c) (expression-back F (h .1))
 
-      pub expressions-back : (es : Expressions) → ExpressionsOver a es → childrenᵉ (treeExpressions (syntaxTrees es)) ≡ es
+      expressions-back : (es : Expressions) → ExpressionsOver a es → childrenᵉ (treeExpressions (syntaxTrees es)) ≡ es
       expressions-back noneᵉ h = refl
       expressions-back (moreᵉ E es) h = ap₂ moreᵉ (expression-back E (h .0)) (expressions-back es (h .1))

@@ -26,7 +26,7 @@ use Rattle.words.proofs.TreeLaws.{TreeOf, exactly-one-tree}
 abbrev pub wordTree : Tree → Tree
 wordTree t = relabel (λ s. wordOf nodeKind s) t
 
-abbrev pub symbolTree : Tree → Tree
+abbrev symbolTree : Tree → Tree
 symbolTree t = relabel symbolOf t
 
 module _ (a : List ℕ) where

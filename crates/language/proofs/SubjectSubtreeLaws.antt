@@ -23,7 +23,7 @@ use Rattle.words.proofs.SubtreeLaws.{value-subtree}
 use Rattle.language.proofs.SubjectLaws.{wordTree, subject-words, exactly-one-subject}
 
 -- the words of a subtree are nodes
-pub subtree-nodes : (a ch : List ℕ) (i : ℕ) → all (isNode a) ch ≡ true → all (isNode a) (subtreeOf a ch i) ≡ true
+subtree-nodes : (a ch : List ℕ) (i : ℕ) → all (isNode a) ch ≡ true → all (isNode a) (subtreeOf a ch i) ≡ true
 subtree-nodes a ch i h =
     let l : all (isNode a) (take (i + 1) ch) ≡ true =
     all-left (isNode a) (take (i + 1) ch) (drop (i + 1) ch) (rw (take-append-drop (i + 1) ch) h) in

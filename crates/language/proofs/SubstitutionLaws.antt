@@ -22,46 +22,46 @@ assigned σ c L a t = ((a ≡ c) × L t) ⊎ ((a ≡ c → ⊥) × σ a t)
 abbrev pub Under : Language → Assignment → Language
 Under L σ t = (u : Tree) × L u × Substitution σ u t
 
-abbrev pub AssignmentWithin : Assignment → Assignment → Type 0
+abbrev AssignmentWithin : Assignment → Assignment → Type 0
 AssignmentWithin σ τ = (a : ℕ) (t : Tree) → σ a t → τ a t
 
 -- ---- larger languages allow more
 
 module _ {σ τ : Assignment} (h : AssignmentWithin σ τ) where
   mutual
-    pub substitution-within : {u t : Tree} → Substitution σ u t → Substitution τ u t
+    substitution-within : {u t : Tree} → Substitution σ u t → Substitution τ u t
     substitution-within (atConstant {a = a} {t = t} s) = atConstant (h a t s)
     substitution-within (atSymbol p q) = atSymbol (substitution-within p) (substitutions-within q)
 
-    pub substitutions-within : {us ts : Trees} → Substitutions σ us ts → Substitutions τ us ts
+    substitutions-within : {us ts : Trees} → Substitutions σ us ts → Substitutions τ us ts
     substitutions-within atNone = atNone
     substitutions-within (atMore p q) = atMore (substitution-within p) (substitutions-within q)
 
 -- ---- one substitution behind another is one substitution
 
 -- σ in the members of τ's languages
-abbrev pub Then : Assignment → Assignment → Assignment
+abbrev Then : Assignment → Assignment → Assignment
 Then τ σ a t = Under (τ a) σ t
 
 module _ {τ σ : Assignment} where
   mutual
-    pub substitution-join : {v u t : Tree} → Substitution τ v u → Substitution σ u t → Substitution (Then τ σ) v t
+    substitution-join : {v u t : Tree} → Substitution τ v u → Substitution σ u t → Substitution (Then τ σ) v t
     substitution-join (atConstant {t = u} s) q = atConstant (u, s, q)
     substitution-join (atSymbol p ps) (atSymbol q qs) = atSymbol (substitution-join p q) (substitutions-join ps qs)
 
-    pub substitutions-join : {vs us ts : Trees} → Substitutions τ vs us → Substitutions σ us ts → Substitutions (Then τ σ) vs ts
+    substitutions-join : {vs us ts : Trees} → Substitutions τ vs us → Substitutions σ us ts → Substitutions (Then τ σ) vs ts
     substitutions-join atNone atNone = atNone
     substitutions-join (atMore p ps) (atMore q qs) = atMore (substitution-join p q) (substitutions-join ps qs)
 
   mutual
-    pub substitution-split : {v t : Tree} → Substitution (Then τ σ) v t → (u : Tree) × Substitution τ v u × Substitution σ u t
+    substitution-split : {v t : Tree} → Substitution (Then τ σ) v t → (u : Tree) × Substitution τ v u × Substitution σ u t
     substitution-split (atConstant s) = (s .0, atConstant (s .1), s .2)
     substitution-split (atSymbol {f = f} p ps) =
         let q = substitution-split p in
         let r = substitutions-split ps in
         (node f (more (q .0) (r .0)), atSymbol (q .1) (r .1), atSymbol (q .2) (r .2))
 
-    pub substitutions-split : {vs ts : Trees} → Substitutions (Then τ σ) vs ts
+    substitutions-split : {vs ts : Trees} → Substitutions (Then τ σ) vs ts
         → (us : Trees) × Substitutions τ vs us × Substitutions σ us ts
     substitutions-split atNone = (none, atNone, atNone)
     substitutions-split (atMore p ps) =
@@ -79,7 +79,7 @@ mutual
       go none i = atConstant refl
       go (more t ts) (atMore p q) = atSymbol p q
 
-  pub substitutions-same : (ts : Trees) → Substitutions itself ts ts
+  substitutions-same : (ts : Trees) → Substitutions itself ts ts
   substitutions-same none = atNone
   substitutions-same (more t ts) = atMore (substitution-same t) (substitutions-same ts)
 
@@ -88,7 +88,7 @@ mutual
   substitution-itself (atConstant p) = sym p
   substitution-itself (atSymbol {f = f} p q) = ap₂ (λ x y. node f (more x y)) (substitution-itself p) (substitutions-itself q)
 
-  pub substitutions-itself : {us ts : Trees} → Substitutions itself us ts → us ≡ ts
+  substitutions-itself : {us ts : Trees} → Substitutions itself us ts → us ≡ ts
   substitutions-itself atNone = refl
   substitutions-itself (atMore p q) = ap₂ more (substitution-itself p) (substitutions-itself q)
 
@@ -108,7 +108,7 @@ constant-under a σ t (u, m, p) = go u m p
 
 module _ {S : ℕ → Assignment} (grows : (n m : ℕ) → n ≤ m → AssignmentWithin (S n) (S m)) where
   mutual
-    pub substitution-step : {u t : Tree} → Substitution (λ a s. (n : ℕ) × S n a s) u t → (n : ℕ) × Substitution (S n) u t
+    substitution-step : {u t : Tree} → Substitution (λ a s. (n : ℕ) × S n a s) u t → (n : ℕ) × Substitution (S n) u t
     substitution-step (atConstant s) = (s .0, atConstant (s .1))
     substitution-step (atSymbol p q) =
         let (n, x) = substitution-step p in
@@ -118,7 +118,7 @@ module _ {S : ℕ → Assignment} (grows : (n m : ℕ) → n ≤ m → Assignmen
               (substitutions-within (grows m (max n m) (le-max-right n m)) y),
         )
 
-    pub substitutions-step : {us ts : Trees} → Substitutions (λ a s. (n : ℕ) × S n a s) us ts → (n : ℕ) × Substitutions (S n) us ts
+    substitutions-step : {us ts : Trees} → Substitutions (λ a s. (n : ℕ) × S n a s) us ts → (n : ℕ) × Substitutions (S n) us ts
     substitutions-step atNone = (0, atNone)
     substitutions-step (atMore p q) =
         let (n, x) = substitution-step p in
@@ -159,7 +159,7 @@ module _ (c : ℕ) (F : Language) where
   only-step a t (inl (e, (n, s))) = (n, inl (e, s))
   only-step a t (inr s) = (0, inr s)
 
-  pub closure-closed : (t : Tree) → Product c F (Closure c F) t → Closure c F t
+  closure-closed : (t : Tree) → Product c F (Closure c F) t → Closure c F t
   closure-closed t (v, f, s) = let r = substitution-step only-grows (substitution-within only-step s) in (suc (r .0), inr (v, f, r .1))
 
   pub closure-base : (σ : Assignment) (t : Tree) → σ c t → Under (Closure c F) σ t

@@ -43,7 +43,7 @@ no-symbol ch i h = rw (List·getD-eq-default ch 0 h)
 
 -- ---- the loop over the hits, after i of them
 
-pub hitLines-more : (a ch is : List ℕ) (j : ℕ) → hitLines a ch (is ++ j ∷ []) ≡ hitLines a ch is ++ hitLine a ch j
+hitLines-more : (a ch is : List ℕ) (j : ℕ) → hitLines a ch (is ++ j ∷ []) ≡ hitLines a ch is ++ hitLine a ch j
 unfolding hitLines
 hitLines-more a ch [] j = append-nil (hitLine a ch j)
 hitLines-more a ch (i ∷ is) j =

@@ -62,10 +62,10 @@ module _ (counts₀ counts alphabet₀ alphabet rule₀ rule chapter₀ chapter 
     (c : Stored 3 counts₀ counts) (s : Stored (getD counts 0 0) alphabet₀ alphabet) (t : Stored (getD counts 1 0) rule₀ rule)
     (u : Stored (getD counts 2 0) chapter₀ chapter) where
   -- the bytes that were read
-  abbrev pub allBytes : List ℕ
+  abbrev allBytes : List ℕ
   allBytes = c .bytes ++ (s .bytes ++ (t .bytes ++ u .bytes))
 
-  pub all-bytes : areBytes allBytes ≡ true
+  all-bytes : areBytes allBytes ≡ true
   all-bytes =
       let join = all-append (λ x. ltb x 256) in
       join (c .bytes) (s .bytes ++ (t .bytes ++ u .bytes)) (c .small)
@@ -82,7 +82,7 @@ module _ (counts₀ counts alphabet₀ alphabet rule₀ rule chapter₀ chapter 
       (wordsIn-append (t .bytes) (u .bytes) (getD counts 1 0) (t .whole)
       ∙ ap (λ (x : List ℕ). wordsIn (t .bytes) ++ x) (sym (append-nil (wordsIn (u .bytes))))))
 
-  pub all-printed : programOutput allBytes
+  all-printed : programOutput allBytes
       ≡ outputOf true (take (min (getD counts 0 0) alphabetKept) alphabet) (take (min (getD counts 1 0) ruleKept) rule)
       (take (min (getD counts 2 0) chapterKept) chapter)
   all-printed =
@@ -101,7 +101,7 @@ module _ (counts₀ counts alphabet₀ alphabet rule₀ rule chapter₀ chapter 
 nothing-printed : programOutput [] ≡ refusedLine 0
 nothing-printed = program-early [] 3 (omega arith) (omega arith)
 
-pub printed : (all : Bool) (a e ch before after : List ℕ) (r : ℕ)
+printed : (all : Bool) (a e ch before after : List ℕ) (r : ℕ)
     → (all ≡ true → (input : List ℕ) × (areBytes input ≡ true) × (programOutput input ≡ outputOf true a e ch))
     → r ≡ length (outputOf all a e ch) → after ≡ outputOf all a e ch ++ drop r before → Printed before after r
 printed true a e ch before after r whole long same =

@@ -17,7 +17,7 @@ use Rattle.operations.proofs.MatchLaws.{matches-few, matchesOf-few}
 use Rattle.words.proofs.AnswerLaws.{answer-refused, answer-accepted, exit-refused, exit-accepted}
 
 module _ (final : ℕ) where
-  pub matches-append : (l k : List StateSet) (i : ℕ) → matchesIn final i (l ++ k) ≡ matchesIn final i l ++ matchesIn final (i + length l) k
+  matches-append : (l k : List StateSet) (i : ℕ) → matchesIn final i (l ++ k) ≡ matchesIn final i l ++ matchesIn final (i + length l) k
   unfolding matchesIn
   matches-append [] k i = rw (add-zero i)
   matches-append (r ∷ l) k i =
@@ -57,7 +57,7 @@ module _ (table marks : List ℕ) where
   abbrev stored : ℕ → StateSet
   stored = storedSet (sizeOf table) marks
 
-  pub matchesOf-more : (i : ℕ)
+  matchesOf-more : (i : ℕ)
       → matchesOf table (i + 1) marks ≡ matchesOf table i marks ++ matchesIn (finalOf table) i (storedSet (sizeOf table) marks i ∷ [])
   unfolding matchesOf
   matchesOf-more i =

@@ -11,7 +11,7 @@ use Rattle.words.proofs.AllLaws.{each-drop}
 use Rattle.memo.specs.Key.{packed, stepKey, Packable, Keyable, digitRange, lastDigitRange}
 
 -- four digits of 13 bits
-pub packed-few : (cs : List ℕ) → length cs ≤ rankMost → AllBelow nodesMost cs → packed cs < digitRange ^ rankMost
+packed-few : (cs : List ℕ) → length cs ≤ rankMost → AllBelow nodesMost cs → packed cs < digitRange ^ rankMost
 packed-few [] l h = omega arith
 packed-few (a ∷ []) l h = let x = h .0 in omega arith
 packed-few (a ∷ b ∷ []) l h =

@@ -69,12 +69,12 @@ module _ (table marks : List ℕ) (i : ℕ) (v : StateSet) (e : length v ≡ siz
       ap (λ (m : List ℕ). storedSet (sizeOf table) m j) w ∙ stored-before (sizeOf table) marks i v e inside j l
 
   -- the state set over earlier nodes stays
-  pub set-kept : (f : ℕ) (cs : List ℕ) → AllBelow i cs → setOver table f marks′ cs ≡ setOver table f marks cs
+  set-kept : (f : ℕ) (cs : List ℕ) → AllBelow i cs → setOver table f marks′ cs ≡ setOver table f marks cs
   unfolding setOver
   set-kept f cs b =
       ap (stateSet (automatonOf table) f) (map-below (storedSet (sizeOf table) marks′) (storedSet (sizeOf table) marks) i cs b stored-kept)
 
-  pub slot-kept : (key node : ℕ) → Slot table marks i key node → Slot table marks′ (i + 1) key node
+  slot-kept : (key node : ℕ) → Slot table marks i key node → Slot table marks′ (i + 1) key node
   slot-kept key node (empty h) = empty h
   slot-kept key node (occupied f cs hf b k l q) =
       occupied f cs hf (below-more i (i + 1) (omega arith) cs b) k (omega arith) (stored-kept node l ∙ q ∙ sym (set-kept f cs b))
@@ -110,7 +110,7 @@ module _ {table index : List ℕ} {f : ℕ} {marks four : List ℕ} {rank i : �
       abbrev node : ℕ
       node = getD known s 0
 
-      pub slot-found : (getD known s 0 < i)
+      slot-found : (getD known s 0 < i)
           × (storedSet (sizeOf table) marks (getD known s 0) ≡ setOver table f marks (drop (rankMost - rank) four))
       slot-found = go (g .remembered .memo .slots s l)
         where

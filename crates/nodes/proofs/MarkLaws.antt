@@ -42,7 +42,7 @@ pub holding-set : (size : ℕ) (marks : List ℕ) (rows : List StateSet) (rest :
 holding-set size marks rows rest k g l =
     ap (λ (m : List ℕ). storedSet size m k) (g .words) ∙ storedSet-flatten size rows rest k (g .sized) l
 
-pub holding-write : (size : ℕ) (marks : List ℕ) (rows : List StateSet) (rest : List ℕ) (i : ℕ) (v : StateSet)
+holding-write : (size : ℕ) (marks : List ℕ) (rows : List StateSet) (rest : List ℕ) (i : ℕ) (v : StateSet)
     → MarksHolding size marks rows rest
     → length v ≡ size → i < length rows → MarksHolding size (paste marks (i * size) v size) (set rows i v) rest
 holding-write size marks rows rest i v g e l = record {

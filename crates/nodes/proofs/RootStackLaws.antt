@@ -20,7 +20,7 @@ use Rattle.nodes.specs.Marking.{Represented}
 use Rattle.nodes.proofs.WorkableLaws.{node-arity}
 
 -- r nodes are taken and one is put in their place: one store
-pub held-push : (array : List ℕ) (height : ℕ) (nodes : List ℕ) (r x : ℕ) → Held array height nodes → r ≤ length nodes
+held-push : (array : List ℕ) (height : ℕ) (nodes : List ℕ) (r x : ℕ) → Held array height nodes → r ≤ length nodes
     → height < length array
     → Held (set array (height - r) x) (height - r + 1) (take (length nodes - r) nodes ++ x ∷ [])
 held-push array height nodes r x g fits inside =
@@ -42,11 +42,11 @@ module _ (a ch : List ℕ) (tree : BoundedTree a ch) (i : ℕ) (inside : i < len
   arity-is = e ∙ sym (node-arity tree i inside)
 
   -- no node lacks children
-  pub rank-fits : r ≤ length (rootsOf a ch i)
+  rank-fits : r ≤ length (rootsOf a ch i)
   rank-fits = omega (arith, arity-is, arity-fits (arity a) ch i (tree .tree) inside)
 
   -- node i in the place of its children
-  pub roots-next : rootsOf a ch (i + 1) ≡ i ∷ drop r (rootsOf a ch i)
+  roots-next : rootsOf a ch (i + 1) ≡ i ∷ drop r (rootsOf a ch i)
   roots-next =
       ap (rootsOf a ch) (add-one i) ∙ roots-more (arity a) ch i inside ∙ ap (λ (k : ℕ). i ∷ drop k (rootsOf a ch i)) (sym arity-is)
 

@@ -40,7 +40,7 @@ module _ (l r : List ℕ) where
       sym (subst (λ (t : List ℕ). sameWords l t ≡ true) e (words-same l))
 
   -- lists that differ somewhere are told apart
-  pub differ : (l ≡ r → ⊥) → false ≡ sameWords l r
+  differ : (l ≡ r → ⊥) → false ≡ sameWords l r
   differ other = go (tested (sameWords l r))
     where
       go : Tested (sameWords l r) → false ≡ sameWords l r

@@ -48,7 +48,7 @@ module _ (size : ℕ) (marks : List ℕ) (i : ℕ) (v : StateSet) (e : length v 
       (ap (take (i * size)) (append-assoc (take (i * size) marks) (take size v) rest)
       ∙ take-at (take (i * size) marks) (take size v ++ rest) (i * size) front)
 
-  pub stored-after : (j : ℕ) → i < j → storedSet size (paste marks (i * size) v size) j ≡ storedSet size marks j
+  stored-after : (j : ℕ) → i < j → storedSet size (paste marks (i * size) v size) j ≡ storedSet size marks j
   unfolding storedSet
   stored-after j h =
       let up = row-inside i j size (j * size) h (omega arith) in

@@ -10,7 +10,7 @@ use Rattle.words.proofs.ScanLaws.{drop-part}
 use borrow.Rule.Slice.PartMut.{midOf, postOf, putMid}
 
 module _ (m : List ℕ) (a : ℕ) where
-  pub tail-mid : midOf a (length m - a) m ≡ drop a m
+  tail-mid : midOf a (length m - a) m ≡ drop a m
   tail-mid = drop-part m a
 
   tail-post : postOf a (length m - a) m ≡ []

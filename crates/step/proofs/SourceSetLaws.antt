@@ -18,7 +18,7 @@ use Rattle.step.specs.Node.{SourcesReadable}
 -- ---- the first of some part states
 
 module _ (table : List ℕ) (j : ℕ) (some : 0 < length (sourcesAt (drop j table))) where
-  pub sources-inside : j < length table
+  sources-inside : j < length table
   sources-inside = go (decLt j (length table))
     where
       go : Dec (j < length table) → j < length table
@@ -27,7 +27,7 @@ module _ (table : List ℕ) (j : ℕ) (some : 0 < length (sourcesAt (drop j tabl
           let e = ap (λ (x : List ℕ). length (sourcesAt x)) (drop-of-length-le table {i = j} (omega arith)) in
           absurd (omega arith)
 
-  pub sources-step : sourcesAt (drop j table) ≡ stateBelow (getD table j 0) ∷ sourcesAt (drop (j + 1) table)
+  sources-step : sourcesAt (drop j table) ≡ stateBelow (getD table j 0) ∷ sourcesAt (drop (j + 1) table)
   sources-step = ap sourcesAt (drop-step table j sources-inside) ∙ go (tested (hasKind sourceKind (getD table j 0)))
     where
       go : Tested (hasKind sourceKind (getD table j 0))

@@ -30,7 +30,7 @@ ascending-one l h = next l (end h)
 -- ---- a test that only x passes counts at most one number
 
 module _ (f : ℕ → Bool) (x : ℕ) (only : (y : ℕ) → f y ≡ true → y ≡ x) where
-  pub count-behind : {lo hi : ℕ} {xs : List ℕ} → x < lo → Ascending lo hi xs → count f xs ≡ 0
+  count-behind : {lo hi : ℕ} {xs : List ℕ} → x < lo → Ascending lo hi xs → count f xs ≡ 0
   count-behind l (end h) = refl
   count-behind l (next {x = y} {xs} h a) = go (f y) refl (count-behind (omega arith) a)
     where

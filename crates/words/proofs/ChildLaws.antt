@@ -47,7 +47,7 @@ given-height arity f (w ∷ ws) j s n h =
     given-height arity f ws (suc j) (f j ∷ drop r s) n (subst (λ (x : ℕ). treesBy arity x ws n ≡ true) q (p .1))
 
 -- the stack names earlier nodes only
-pub stack-below : (arity : ℕ → ℕ) (ws : List ℕ) (j : ℕ) (ns : List ℕ) → AllBelow j ns
+stack-below : (arity : ℕ → ℕ) (ws : List ℕ) (j : ℕ) (ns : List ℕ) → AllBelow j ns
     → AllBelow (j + length ws) (stackGivenBy arity (λ k. k) j ws ns)
 unfolding stackGivenBy
 stack-below arity [] j ns h = rw add-zero h

@@ -39,7 +39,7 @@ among-cases (k ∷ ks) n = go (tested (eqb n (kindNumber k))) (among-cases ks n)
     go (fails e) r = rw e r
 
 -- a number is that of its kind, or it has none
-pub number-cases : (n : ℕ) → (kindNumber (kindAt n) ≡ n) ⊎ (kindAt n ≡ noKind)
+number-cases : (n : ℕ) → (kindNumber (kindAt n) ≡ n) ⊎ (kindAt n ≡ noKind)
 unfolding kindAt
 number-cases n = among-cases kinds n
 
@@ -47,7 +47,7 @@ pub number-kindAt : (n : ℕ) → (kindAt n ≡ noKind → ⊥) → kindNumber (
 number-kindAt n h = ⊎-elim (λ e. e) (λ e. absurd (h e)) (number-cases n)
 
 -- A holds, and n is the number of none of these kinds, as the last case of a `match` over them knows it
-abbrev pub NoneOf : List Kind → ℕ → Type 0 → Type 0
+abbrev NoneOf : List Kind → ℕ → Type 0 → Type 0
 NoneOf [] n A = A
 NoneOf (k ∷ ks) n A = NoneOf ks n (A × (n ≡ kindNumber k → ⊥))
 
@@ -127,7 +127,7 @@ isOf-facts k w h =
       word = word-wordOf k w (p .0);
     }
 
-pub isOf-from : (k : Kind) (w : ℕ) → numberOf w ≡ kindNumber k → bodyOf w < fieldRange k → isOf k w ≡ true
+isOf-from : (k : Kind) (w : ℕ) → numberOf w ≡ kindNumber k → bodyOf w < fieldRange k → isOf k w ≡ true
 unfolding isOf spareBitsClear
 isOf-from k w e h =
     true-and (hasKind k w) (spareBitsClear w) (eq-eqb (numberOf w) (kindNumber k) e)

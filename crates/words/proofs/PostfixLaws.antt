@@ -24,7 +24,7 @@ module _ (arity : ℕ → ℕ) where
       let p = picked (leb (arity w) d) (treesBy arity (d - arity w + 1) l m) h in
       picks (leb (arity w) d) (treesBy arity (d - arity w + 1) (l ++ k) t) (p .0) (trees-append l k (d - arity w + 1) m t (p .1) g)
 
-  abbrev pub Split : List ℕ → List ℕ → ℕ → ℕ → Type 0
+  abbrev Split : List ℕ → List ℕ → ℕ → ℕ → Type 0
   Split l k d t = (m : ℕ) × (treesBy arity d l m ≡ true) × (treesBy arity m k t ≡ true)
 
   pub trees-split : (l k : List ℕ) (d t : ℕ) → treesBy arity d (l ++ k) t ≡ true → Split l k d t
@@ -36,7 +36,7 @@ module _ (arity : ℕ → ℕ) where
       (b .0, picks (leb (arity w) d) (treesBy arity (d - arity w + 1) l (b .0)) (p .0) (b .1), b .2)
 
   -- n trees more below make no difference
-  pub trees-more : (l : List ℕ) (d t n : ℕ) → treesBy arity d l t ≡ true → treesBy arity (d + n) l (t + n) ≡ true
+  trees-more : (l : List ℕ) (d t n : ℕ) → treesBy arity d l t ≡ true → treesBy arity (d + n) l (t + n) ≡ true
   unfolding treesBy
   trees-more [] d t n h = eq-eqb (d + n) (t + n) (ap (λ (x : ℕ). x + n) (eqb-true d t h))
   trees-more (w ∷ l) d t n h =
@@ -47,7 +47,7 @@ module _ (arity : ℕ → ℕ) where
       picks (leb r (d + n)) (treesBy arity (d + n - r + 1) l (t + n)) (le-leb r (d + n) (omega arith))
       (rw q (trees-more l (d - r + 1) t n (p .1)))
 
-  pub trees-same : (l : List ℕ) (d t t′ : ℕ) → treesBy arity d l t ≡ true → treesBy arity d l t′ ≡ true → t ≡ t′
+  trees-same : (l : List ℕ) (d t t′ : ℕ) → treesBy arity d l t ≡ true → treesBy arity d l t′ ≡ true → t ≡ t′
   unfolding treesBy
   trees-same [] d t t′ h g = sym (eqb-true d t h) ∙ eqb-true d t′ g
   trees-same (w ∷ l) d t t′ h g =
@@ -56,7 +56,7 @@ module _ (arity : ℕ → ℕ) where
       trees-same l (d - arity w + 1) t t′ (p .1) (q .1)
 
   -- one tree in the place of another
-  pub trees-replace : (f s x b : List ℕ) → oneTreeBy arity s ≡ true → oneTreeBy arity x ≡ true → oneTreeBy arity (f ++ (s ++ b)) ≡ true
+  trees-replace : (f s x b : List ℕ) → oneTreeBy arity s ≡ true → oneTreeBy arity x ≡ true → oneTreeBy arity (f ++ (s ++ b)) ≡ true
       → oneTreeBy arity (f ++ (x ++ b)) ≡ true
   trees-replace f s x b hs hx h =
       let p = trees-split f (s ++ b) 0 1 h in
@@ -87,7 +87,7 @@ module _ (arity : ℕ → ℕ) where
 -- ---- where subtrees begin
 
 -- the run from s to j, and one word more
-pub run-snoc : (ch : List ℕ) (s j : ℕ) → s ≤ j → j < length ch → slice s (suc j) ch ≡ slice s j ch ++ getD ch j 0 ∷ []
+run-snoc : (ch : List ℕ) (s j : ℕ) → s ≤ j → j < length ch → slice s (suc j) ch ≡ slice s j ch ++ getD ch j 0 ∷ []
 run-snoc ch s j hs hj =
     ap (drop s) (take-suc ch j 0 hj)
     ∙ drop-append-le s (take j ch) (getD ch j 0 ∷ []) (rw (length-take-le j ch (omega arith)) hs)
@@ -128,7 +128,7 @@ module _ (arity : ℕ → ℕ) (ch : List ℕ) where
   start-le i = rw start-parts (startFrom-le i (arity (getD ch i 0)))
 
   -- where no word lacks parts, the run that startFrom finds does make n trees
-  pub run-is : (j n d : ℕ) → j ≤ length ch → treesBy arity 0 (take j ch) d ≡ true → n ≤ d
+  run-is : (j n d : ℕ) → j ≤ length ch → treesBy arity 0 (take j ch) d ≡ true → n ≤ d
       → treesBy arity 0 (slice (startFromBy arity ch j n) j ch) n ≡ true
   unfolding startFromBy treesBy
   run-is zero n d hj h hn =
@@ -162,7 +162,7 @@ module _ (arity : ℕ → ℕ) (ch : List ℕ) (i : ℕ) (h : oneTreeBy arity ch
       ap (λ (l : List ℕ). l ++ sub) (sym (take-take (startOfBy arity ch i) (i + 1) ch (omega arith)))
       ∙ take-append-drop (startOfBy arity ch i) (take (i + 1) ch)
 
-  pub parts-tree : front ++ (sub ++ behind) ≡ ch
+  parts-tree : front ++ (sub ++ behind) ≡ ch
   parts-tree = simp (← append-assoc, front-sub, take-append-drop)
 
   pub sub-tree : oneTreeBy arity sub ≡ true

@@ -16,7 +16,7 @@ use Rattle.words.proofs.PostfixLaws.{trees-append, trees-snoc}
 use Rattle.words.proofs.StackLaws.{stack-append}
 
 module _ {A : Type 0} (value : ℕ → List A → A) where
-  pub length-foldAll : (ts : Trees) → length (foldAll value ts) ≡ number ts
+  length-foldAll : (ts : Trees) → length (foldAll value ts) ≡ number ts
   length-foldAll none = refl
   length-foldAll (more t ts) = ap suc (length-foldAll ts)
 
@@ -52,7 +52,7 @@ module _ {A : Type 0} (arity : ℕ → ℕ) (value : ℕ → List A → A) where
         ∙ ap (stk (w ∷ [])) (stack-trees ts s (r .1))
         ∙ ap₂ (λ (x : A) (y : List A). x ∷ y) (on-trees w ts s (r .0)) (left-trees w ts s (r .0))
 
-    pub stack-trees : (ts : Trees) (s : List A) → RankedAll arity ts → stk (postfixAll ts) s ≡ reverseAux (foldAll value ts) s
+    stack-trees : (ts : Trees) (s : List A) → RankedAll arity ts → stk (postfixAll ts) s ≡ reverseAux (foldAll value ts) s
     stack-trees none s r = refl
     stack-trees (more t ts) s r =
         stack-append arity value (postfix t) (postfixAll ts) s
@@ -64,13 +64,13 @@ module _ (arity : ℕ → ℕ) where
   mutual
     unfolding treesBy
 
-    pub trees-tree : (t : Tree) (d : ℕ) → Ranked arity t → treesBy arity d (postfix t) (d + 1) ≡ true
+    trees-tree : (t : Tree) (d : ℕ) → Ranked arity t → treesBy arity d (postfix t) (d + 1) ≡ true
     trees-tree (node w ts) d r =
         let n = r .0 in
         let e : d + number ts - arity w + 1 ≡ d + 1 = omega arith in
         rw (← e) (trees-snoc arity (postfixAll ts) d w (d + number ts) (trees-trees ts d (r .1)) (omega arith))
 
-    pub trees-trees : (ts : Trees) (d : ℕ) → RankedAll arity ts → treesBy arity d (postfixAll ts) (d + number ts) ≡ true
+    trees-trees : (ts : Trees) (d : ℕ) → RankedAll arity ts → treesBy arity d (postfixAll ts) (d + number ts) ≡ true
     trees-trees none d r = eq-eqb d (d + 0) (omega arith)
     trees-trees (more t ts) d r =
         let e : d + 1 + number ts ≡ d + suc (number ts) = omega arith in

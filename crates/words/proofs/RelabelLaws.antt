@@ -22,7 +22,7 @@ module _ (f : ℕ → ℕ) where
     pub postfix-relabel : (t : Tree) → postfix (relabel t) ≡ map f (postfix t)
     postfix-relabel (node n ts) = ap (λ (l : List ℕ). l ++ f n ∷ []) (postfix-relabelAll ts) ∙ sym (map-append f (postfixAll ts) (n ∷ []))
 
-    pub postfix-relabelAll : (ts : Trees) → postfixAll (relabelAll ts) ≡ map f (postfixAll ts)
+    postfix-relabelAll : (ts : Trees) → postfixAll (relabelAll ts) ≡ map f (postfixAll ts)
     postfix-relabelAll none = refl
     postfix-relabelAll (more t ts) =
         ap₂ (λ (l k : List ℕ). l ++ k) (postfix-relabel t) (postfix-relabelAll ts) ∙ sym (map-append f (postfix t) (postfixAll ts))

@@ -47,10 +47,10 @@ module _ {A : Type 0} (arity : ℕ → ℕ) (value : ℕ → List A → A) where
   unfolding valueOnBy
   on-top w t s h = rw (take-append-le (arity w) t s h)
 
-  pub record Framed (l : List ℕ) (t s : List A) (n : ℕ) : Type 0 where
-    pub values-same : vals l (t ++ s) ≡ vals l t
-    pub stack-same : stk l (t ++ s) ≡ stk l t ++ s
-    pub height : length (stk l t) ≡ n
+  record Framed (l : List ℕ) (t s : List A) (n : ℕ) : Type 0 where
+    values-same : vals l (t ++ s) ≡ vals l t
+    stack-same : stk l (t ++ s) ≡ stk l t ++ s
+    height : length (stk l t) ≡ n
 
   framed-more : (w : ℕ) (l : List ℕ) (t s : List A) (n : ℕ) → arity w ≤ length t
       → Framed l (on w t ∷ drop (arity w) t) s n → Framed (w ∷ l) t s n
@@ -64,7 +64,7 @@ module _ {A : Type 0} (arity : ℕ → ℕ) (value : ℕ → List A → A) where
         height = f .height;
       }
 
-  pub framed : (l : List ℕ) (t s : List A) (n : ℕ) → treesBy arity (length t) l n ≡ true → Framed l t s n
+  framed : (l : List ℕ) (t s : List A) (n : ℕ) → treesBy arity (length t) l n ≡ true → Framed l t s n
   unfolding treesBy valuesBy stackAfterBy
   framed [] t s n h = record { values-same = refl; stack-same = refl; height = eqb-true (length t) n h }
   framed (w ∷ l) t s n h =

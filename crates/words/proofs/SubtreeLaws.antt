@@ -14,7 +14,7 @@ use Rattle.words.proofs.TreeLaws.{TreeOf}
 
 module _ {A : Type 0} (arity : ℕ → ℕ) (value : ℕ → List A → A) where
   -- behind the words up to word i the stack has its value on top
-  pub stack-top : (ws : List ℕ) (i : ℕ) (s : List A) (d : A) → i < length ws
+  stack-top : (ws : List ℕ) (i : ℕ) (s : List A) (d : A) → i < length ws
       → stackAfterBy arity value (take (suc i) ws) s
       ≡ getD (valuesBy arity value ws s) i d ∷ drop (arity (getD ws i 0)) (stackAfterBy arity value (take i ws) s)
   unfolding stackAfterBy valuesBy

@@ -34,7 +34,7 @@ abbrev pub built : ℕ → List Tree → Tree
 built w ts = node w (row ts)
 
 mutual
-  pub fold-built : (t : Tree) → fold built t ≡ t
+  fold-built : (t : Tree) → fold built t ≡ t
   fold-built (node w ts) = ap (node w) (row-built ts)
 
   row-built : (ts : Trees) → row (foldAll built ts) ≡ ts
