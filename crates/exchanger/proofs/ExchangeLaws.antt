@@ -27,15 +27,16 @@ use Rattle.operations.proofs.RuleLaws.{follows-length, follows-outcomes}
 use Rattle.nodes.proofs.LoopLaws.{setAt}
 use Rattle.nodes.proofs.LoopLaws as loops
 use Rattle.exchanger.proofs.PropagateSets.{propagateSets}
-use Rattle.exchanger.proofs.ExchangeLoops.{movedSets, replacedSets, exchangedSets, exchangedSets-outcomes}
-use Rattle.exchanger.proofs.ExchangeLoops.{length-movedSets, length-replacedSets, words-behind}
+use Rattle.exchanger.proofs.ExchangeLoops.{movedSets, replacedSets, updatedSets, updatedSets-outcomes}
+use Rattle.exchanger.proofs.ExchangeLoops.{length-movedSets, words-behind}
 use Rattle.nodes.specs.Nodes.{setFrom, markedFrom}
-use Rattle.nodes.proofs.MarkLaws.{MarksHolding, holding-set, setFrom-rows, markedAt-rows}
+use Rattle.nodes.proofs.MarkLaws.{MarksHolding, holding-set, setFrom-rows, markedFrom-rows}
+use Rattle.nodes.proofs.MarkedSets.{markedSets, length-markedSets}
 use Rattle.propagation.specs.declared.Progress.{Progress}
 use Rattle.propagation.specs.Propagation.{propagateStep, propagateFrom, initial}
 use Rattle.updates.specs.Updating.{updatedFrom}
 use Rattle.propagation.proofs.PropagationLaws.{recomputed-is, step-ancestor, propagate-continues, propagate-stops}
-use Rattle.exchanger.proofs.PropagateSetsLaws.{Propagating, Same, propagate-propagateSets}
+use Rattle.exchanger.proofs.PropagateSetsLaws.{PropagatingSets, Same, propagate-propagateSets}
 use Rattle.exchanger.proofs.TailLaws.{tail-filled}
 use Rattle.exchanger.proofs.CallNumberLaws.{totalCount, movedChapter, CallNumbers, call-numbers, length-used, chapter-movable}
 use Rattle.exchanger.proofs.MovedLaws.{gapSets, behindUse}
@@ -106,25 +107,23 @@ module _ (c : ExchangeCall) (ok : fault c ≡ 0) where
   length-gap =
       length-append (listFrom stored s m) (stored element ∷ []) ∙ ap (λ (i : ℕ). i + 1) (length-listFrom stored m s) ∙ add-one m ∙ sym some
 
-  length-replaced : (k : ℕ) → length (replaced k) ≡ length tree
-  length-replaced k =
+  length-moved : length (movedSets a table stored ch element xs gap) ≡ length tree
+  length-moved =
       let g = call-accepted c ok in
       let shape = g .change .replacement .tree .shape in
       let some = g .change .replacement .counted .some in
-      length-replacedSets a table stored ch element xs gap he shape some length-gap k
-      ∙ length-movedSets a table stored ch element xs gap he shape some length-gap
-      ∙ sym (length-splice (arity a) ch element xs he)
+      length-movedSets a table stored ch element xs gap he shape some length-gap ∙ sym (length-splice (arity a) ch element xs he)
+
+  length-replaced : (k : ℕ) → length (replaced k) ≡ length tree
+  length-replaced k = length-markedSets a table tree s k (movedSets a table stored ch element xs gap) ∙ length-moved
 
   -- the replacement's nodes, worked out in the marks
   module _ (moved : List ℕ) (held : MarksHolding (sizeOf table) moved (movedSets a table stored ch element xs gap) rest) where
     replaced-holds : (k : ℕ) → k ≤ length xs → MarksHolding size (markedFrom a table tree s k moved) (replaced k) rest
-    unfolding markedFrom replacedSets
-    replaced-holds zero h = held
-    replaced-holds (suc k) h =
-        let t = length-replaced k in
+    replaced-holds k h =
+        let t = length-moved in
         let l = length-splice (arity a) ch element xs he in
-        markedAt-rows a table tree (markedFrom a table tree s k moved) (replaced k) rest (s + k) (replaced-holds k (omega arith))
-        (omega arith) (omega arith)
+        markedFrom-rows a table tree moved (movedSets a table stored ch element xs gap) rest s k held (omega arith) (omega arith)
 
     -- before the root is worked out, and behind it
     abbrev before : List ℕ
@@ -144,7 +143,7 @@ module _ (c : ExchangeCall) (ok : fault c ≡ 0) where
 
     -- the old element's set stands at the root's place as long as the root is not worked out
     root-kept : (k : ℕ) → k ≤ m → setAt (replaced k) (s + m) ≡ stored element
-    unfolding replacedSets
+    unfolding markedSets
     root-kept zero h =
         let front = listFrom stored 0 s in
         let behind = listFrom stored (element + 1) (length (drop (element + 1) ch)) in
@@ -184,7 +183,7 @@ module _ (c : ExchangeCall) (ok : fault c ≡ 0) where
         ∙ root-kept m (omega arith)
 
     root-is : setAt rows (s + length xs - 1) ≡ v
-    unfolding replacedSets
+    unfolding markedSets
     root-is =
         let at : s + length xs - 1 ≡ s + m = omega (arith, some) in
         ap (setAt rows) at ∙ getD-set-same (replaced m) (s + m) v [] (omega (arith, some, length-replaced m, length-tree))
@@ -197,7 +196,7 @@ module _ (c : ExchangeCall) (ok : fault c ≡ 0) where
         (propagateFrom a table tree (suc (s + m)) left work t) (propagateSets a table tree above (s + length xs) left rows (length xs))
     behind t r e =
         let g = call-accepted c ok in
-        let at : Propagating a table tree ch element rest above (s + length xs) (element + 1) 0 left work rows = record {
+        let at : PropagatingSets a table tree ch element rest above (s + length xs) (element + 1) 0 left work rows = record {
           words =
               λ t. sym (getD-drop (s + length xs) tree t 0)
               ∙ ap (λ (l : List ℕ). getD l t 0)
@@ -222,9 +221,9 @@ module _ (c : ExchangeCall) (ok : fault c ≡ 0) where
     abbrev propagated : List ℕ × ℕ
     propagated = propagateFrom a table tree (s + m) (suc left) before (initial m)
 
-    propagateed-is : updatedFrom a table tree s (s + length xs - 1) moved ≡ propagated
+    updated-is : updatedFrom a table tree s (s + length xs - 1) moved ≡ propagated
     unfolding updatedFrom
-    propagateed-is =
+    updated-is =
         let at : s + length xs - 1 ≡ s + m = omega (arith, some) in
         let count : s + length xs - 1 - s ≡ m = omega (arith, some) in
         let more : length tree - (s + m) ≡ suc left = omega (arith, some, length-tree) in
@@ -239,27 +238,27 @@ module _ (c : ExchangeCall) (ok : fault c ≡ 0) where
         step-ancestor a table tree (s + m) before (initial m) _ refl (omega arith) (work, not b)
         (recomputed-is a table tree (s + m) before b h)
 
-    abbrev up : List StateSet × ℕ
-    up = propagateSets a table tree above (s + length xs) left rows (length xs)
+    abbrev onward : List StateSet × ℕ
+    onward = propagateSets a table tree above (s + length xs) left rows (length xs)
 
-    sets-is : exchangedSets a table stored ch element xs gap ≡ cond (sameWords new old) (rows, length xs) up
-    unfolding exchangedSets
+    sets-is : updatedSets a table stored ch element xs gap ≡ cond (sameWords new old) (rows, length xs) onward
+    unfolding updatedSets
     sets-is =
         ap
         (λ (i : ℕ). cond (sameWords (setAt (replaced i) (s + length xs - 1)) (stored element)) (replaced i, length xs)
         (propagateSets a table tree above (s + length xs) left (replaced i) (length xs)))
         some
-        ∙ ap (λ (b : Bool). cond b (rows, length xs) up) tests
+        ∙ ap (λ (b : Bool). cond b (rows, length xs) onward) tests
 
     exchanged : Same a table tree ch element rest above (updatedFrom a table tree s (s + length xs - 1) moved)
-        (exchangedSets a table stored ch element xs gap)
-    exchanged = rw (propagateed-is, sets-is) (go (tested (sameWords new old)))
+        (updatedSets a table stored ch element xs gap)
+    exchanged = rw (updated-is, sets-is) (go (tested (sameWords new old)))
       where
         count : m + 1 ≡ length xs
         count = omega (arith, some)
 
         go : Tested (sameWords new old)
-            → Same a table tree ch element rest above propagated (cond (sameWords new old) (rows, length xs) up)
+            → Same a table tree ch element rest above propagated (cond (sameWords new old) (rows, length xs) onward)
         go (holds b) =
             rw (propagate-stops a table tree (s + m) before (initial m) left work _ (step-root true b) refl, b)
             (record { sets = work-holds; count = count })
@@ -278,7 +277,7 @@ module _ (c : ExchangeCall) (ok : fault c ≡ 0) where
         let same : Same a table tree ch element rest above (marks′, count) (map setIn os, recomputedIn os) =
         rw (
           q,
-          ← exchangedSets-outcomes a table stored ch element xs gap he (g .change .replacement .tree .shape)
+          ← updatedSets-outcomes a table stored ch element xs gap he (g .change .replacement .tree .shape)
               (g .change .replacement .counted .some) length-gap,
         ) exchanged in
         let many : length os ≡ length tree =

@@ -4,10 +4,10 @@
 use mathlib.Core.Path.{_≡_, refl, ap, ap₂, _∙_, sym}
 use mathlib.Core.Bool.{true, cond}
 use mathlib.Core.List.{List, [], _∷_, _++_, map, append-assoc, head-eq-of-cons-eq}
-use Prim.Native.Nat.{ℕ, zero, suc, _+_, _-_, _<_, _≤_}
+use Prim.Native.Nat.{ℕ, suc, _+_, _-_, _<_, _≤_}
 use native.Mathlib.Omega.{arith}
 use native.Mathlib.Nat.{zero-add, add-zero}
-use lib.ListN.{length, take, drop, set, length-append, length-set, List·getD-append}
+use lib.ListN.{length, take, drop, length-append, List·getD-append}
 use lib.Seq.{slice, length-take-le, take-at, drop-at, drop-append-add, take-append-add}
 use Rattle.words.specs.Lists.{listFrom}
 use Rattle.words.specs.Shape.{spliceBy}
@@ -24,7 +24,8 @@ use Rattle.operations.specs.Exchange.{Outcome, recomputed, setIn, recomputedIn,
 use Rattle.operations.proofs.PropagateLaws.{sets-kept, count-kept}
 use Rattle.operations.proofs.OutcomeLaws.{sets-recomputed, root-read}
 use Rattle.operations.proofs.OutcomeParts.{recomputed-parts}
-use Rattle.nodes.proofs.LoopLaws.{setAt, setFromSets, Recomputing, recomputing-none, recomputing-more}
+use Rattle.nodes.proofs.LoopLaws.{setAt, Recomputing}
+use Rattle.nodes.proofs.MarkedSets.{markedSets, length-markedSets, markedSets-recomputing}
 use Rattle.exchanger.proofs.PropagateSets.{propagateSets, propagateSets-is}
 
 module _ (a table : List ℕ) (stored : ℕ → StateSet) (ch : List ℕ) (element : ℕ) (x : List ℕ) (gap : List StateSet) where
@@ -42,13 +43,12 @@ module _ (a table : List ℕ) (stored : ℕ → StateSet) (ch : List ℕ) (eleme
   movedSets = listFrom stored 0 s ++ (gap ++ listFrom stored (element + 1) (length behind))
 
   -- the replacement's nodes, one after the other
-  unfoldable pub replacedSets : ℕ → List StateSet
-  replacedSets zero = movedSets
-  replacedSets (suc k) = set (replacedSets k) (s + k) (setFromSets a table tree (s + k) (replacedSets k))
+  abbrev pub replacedSets : ℕ → List StateSet
+  replacedSets k = markedSets a table tree s k movedSets
 
   -- all sets, and how many are recomputed; the old element's set is the one stored before the moves
-  unfoldable pub exchangedSets : List StateSet × ℕ
-  exchangedSets =
+  unfoldable pub updatedSets : List StateSet × ℕ
+  updatedSets =
       cond (sameWords (setAt (replacedSets (length x)) (s + length x - 1)) (stored element))
       (replacedSets (length x), length x)
       (propagateSets a table tree (λ i. isAncestor a ch element (i - (s + length x) + (element + 1))) (s + length x) (length behind)
@@ -76,11 +76,6 @@ module _ (a table : List ℕ) (stored : ℕ → StateSet) (ch : List ℕ) (eleme
         ∙ ap₂ (λ (i j : ℕ). i + j) (length-listFrom stored s 0)
         (length-append gap (listFrom stored (element + 1) (length behind))
         ∙ ap₂ (λ (i j : ℕ). i + j) hg (length-listFrom stored (length behind) (element + 1)))
-
-    pub length-replacedSets : (k : ℕ) → length (replacedSets k) ≡ length movedSets
-    unfolding replacedSets
-    length-replacedSets zero = refl
-    length-replacedSets (suc k) = length-set (replacedSets k) (s + k) _ ∙ length-replacedSets k
 
     take-front : take s tree ≡ take s ch
     unfolding spliceBy
@@ -110,15 +105,9 @@ module _ (a table : List ℕ) (stored : ℕ → StateSet) (ch : List ℕ) (eleme
         ∙ ap stored (zero-add k))
         ∙ sym (stack-numbers (arity a) stored (take s ch) 0 [])
 
-    replaced-recomputing : (k : ℕ) → k ≤ length x → Recomputing a table tree movedSets s σ k (replacedSets k)
-    unfolding replacedSets
-    replaced-recomputing zero h = recomputing-none a table tree movedSets s σ stack-front
-    replaced-recomputing (suc k) h =
-        recomputing-more a table tree movedSets s σ k (replacedSets k) (omega (arith, length-tree)) (omega (arith, length-movedSets))
-        (length-replacedSets k) (replaced-recomputing k (omega arith))
-
     allRecomputed : Recomputing a table tree movedSets s σ (length x) (replacedSets (length x))
-    allRecomputed = replaced-recomputing (length x) (omega arith)
+    allRecomputed =
+        markedSets-recomputing a table tree movedSets s σ (length x) (omega (arith, length-tree)) (omega (arith, length-movedSets)) stack-front
 
     new : Read (arity a) step x
     new = read (arity a) step x hx
@@ -173,14 +162,14 @@ module _ (a table : List ℕ) (stored : ℕ → StateSet) (ch : List ℕ) (eleme
         ∙ ap (λ (l : List StateSet). l ++ map setIn (outcomesBehind a table stored ch element x)) (sets-recomputed (values a step x [])))
         ∙ sym (append-assoc (listFrom stored 0 s) (values a step x []) (map setIn (outcomesBehind a table stored ch element x))))
 
-    pub exchangedSets-outcomes : exchangedSets
+    pub updatedSets-outcomes : updatedSets
         ≡ (map setIn (outcomesAfter a table stored ch element x), recomputedIn (outcomesAfter a table stored ch element x))
-    unfolding exchangedSets outcomesBehind head σ
-    exchangedSets-outcomes =
+    unfolding updatedSets outcomesBehind head σ
+    updatedSets-outcomes =
         go (tested (sameWords (rootSet a table x) (stored element)))
         ∙ ap₂ (λ (l : List StateSet) (i : ℕ). (l, i)) outcomes-parts (sym (recomputed-parts a table stored ch element x))
       where
-        go : Tested (sameWords (rootSet a table x) (stored element)) → exchangedSets
+        go : Tested (sameWords (rootSet a table x) (stored element)) → updatedSets
             ≡ (
               head ++ map setIn (outcomesBehind a table stored ch element x),
               length x + recomputedIn (outcomesBehind a table stored ch element x),
@@ -196,13 +185,13 @@ module _ (a table : List ℕ) (stored : ℕ → StateSet) (ch : List ℕ) (eleme
             (isAncestor a ch element) behind (s + length x) (element + 1)
             (replacedSets (length x)) (length x) (rootSet a table x ∷ σ) words-behind
             (λ t. ap (isAncestor a ch element) (omega arith))
-            (omega (arith, length-replacedSets (length x), length-movedSets))
+            (omega (arith, length-markedSets a table tree s (length x) movedSets, length-movedSets))
             (ap (drop (s + length x)) replacedSets-are
             ∙ drop-at head (listFrom stored (element + 1) (length behind)) (s + length x) length-head)
             stack-replaced
-            ∙ ap (λ (l : List StateSet). (l ++ map setIn up, length x + recomputedIn up))
+            ∙ ap (λ (l : List StateSet). (l ++ map setIn onward, length x + recomputedIn onward))
             (ap (take (s + length x)) replacedSets-are
             ∙ take-at head (listFrom stored (element + 1) (length behind)) (s + length x) length-head))
           where
-            up : List Outcome
-            up = propagate a table stored (isAncestor a ch element) (element + 1) behind (rootSet a table x ∷ σ)
+            onward : List Outcome
+            onward = propagate a table stored (isAncestor a ch element) (element + 1) behind (rootSet a table x ∷ σ)

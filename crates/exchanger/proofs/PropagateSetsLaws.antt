@@ -36,7 +36,7 @@ module _ (a table ch used : List ℕ) (element : ℕ) (rest : List ℕ) (above :
   size = sizeOf table
 
   -- the loop is at node i of the new tree, which was node j of the old one; n nodes are left
-  pub record Propagating (i j d n : ℕ) (marks : List ℕ) (rows : List StateSet) : Type 0 where
+  pub record PropagatingSets (i j d n : ℕ) (marks : List ℕ) (rows : List StateSet) : Type 0 where
     pub words : (t : ℕ) → getD ch (i + t) 0 ≡ getD used (j + t) 0
     pub ancestors : (t : ℕ) → above (i + t) ≡ isAncestor a used element (j + t)
     pub holding : HoldingTree (arity a) used element j d
@@ -52,16 +52,16 @@ module _ (a table ch used : List ℕ) (element : ℕ) (rest : List ℕ) (above :
   abbrev propagates : ℕ → ℕ → List ℕ → Progress → List ℕ × ℕ
   propagates = propagateFrom a table ch
 
-  abbrev ups : ℕ → ℕ → List StateSet → ℕ → List StateSet × ℕ
-  ups = propagateSets a table ch above
+  abbrev propagatesSets : ℕ → ℕ → List StateSet → ℕ → List StateSet × ℕ
+  propagatesSets = propagateSets a table ch above
 
   abbrev Goal : ℕ → Type 0
   Goal n =
-      (i j d : ℕ) (marks : List ℕ) (rows : List StateSet) (t : Progress) → t .reach ≡ suc d → Propagating i j d n marks rows
-      → Same (propagates i n marks t) (ups i n rows (t .recomputed))
+      (i j d : ℕ) (marks : List ℕ) (rows : List StateSet) (t : Progress) → t .reach ≡ suc d → PropagatingSets i j d n marks rows
+      → Same (propagates i n marks t) (propagatesSets i n rows (t .recomputed))
 
   module _ (n : ℕ) (ih : Goal n) (i j d : ℕ) (marks : List ℕ) (rows : List StateSet) (t : Progress) (reached : t .reach ≡ suc d)
-      (g : Propagating i j d (suc n) marks rows) where
+      (g : PropagatingSets i j d (suc n) marks rows) where
     abbrev r : ℕ
     r = arity a (getD ch i 0)
 
@@ -73,7 +73,7 @@ module _ (a table ch used : List ℕ) (element : ℕ) (rest : List ℕ) (above :
 
     -- the loop at the next node
     next : (d′ : ℕ) (marks′ : List ℕ) (rows′ : List StateSet) → HoldingTree (arity a) used element (suc j) d′ → length rows′ ≡ length rows
-        → MarksHolding size marks′ rows′ rest → Propagating (suc i) (suc j) d′ n marks′ rows′
+        → MarksHolding size marks′ rows′ rest → PropagatingSets (suc i) (suc j) d′ n marks′ rows′
     next d′ marks′ rows′ y l s =
         let inside = g .inside in
         let rows-inside = g .rows-inside in
@@ -86,7 +86,7 @@ module _ (a table ch used : List ℕ) (element : ℕ) (rest : List ℕ) (above :
           sets = s;
         }
 
-    beside : r ≤ d → Same (propagates i (suc n) marks t) (ups i (suc n) rows (t .recomputed))
+    beside : r ≤ d → Same (propagates i (suc n) marks t) (propagatesSets i (suc n) rows (t .recomputed))
     beside l =
         let l′ : arity a (getD used j 0) ≤ d = rw word l in
         let y : HoldingTree (arity a) used element (suc j) (d - r + 1) =
@@ -95,12 +95,12 @@ module _ (a table ch used : List ℕ) (element : ℕ) (rest : List ℕ) (above :
         let t′ : Progress = record { reach = t .reach - r + 1; recomputed = t .recomputed; active = true } in
         let p : propagates i (suc n) marks t ≡ propagates (suc i) n marks t′ =
         propagate-continues a table ch i marks t n marks t′ (step-beside a table ch i marks t r refl (omega arith)) refl in
-        let q : ups i (suc n) rows (t .recomputed) ≡ ups (suc i) n rows (t .recomputed) =
+        let q : propagatesSets i (suc n) rows (t .recomputed) ≡ propagatesSets (suc i) n rows (t .recomputed) =
         propagateSets-beside a table ch above i n rows (t .recomputed)
         (above-here ∙ takes-others (arity a) used element j d (g .holding) l′) in
         rw (p, q) (ih (suc i) (suc j) (d - r + 1) marks rows t′ (omega arith) (next (d - r + 1) marks rows y refl (g .sets)))
 
-    ancestor : d < r → Same (propagates i (suc n) marks t) (ups i (suc n) rows (t .recomputed))
+    ancestor : d < r → Same (propagates i (suc n) marks t) (propagatesSets i (suc n) rows (t .recomputed))
     ancestor l = go (tested (sameWords new old))
       where
         new : StateSet
@@ -112,8 +112,8 @@ module _ (a table ch used : List ℕ) (element : ℕ) (rest : List ℕ) (above :
         l′ : d < arity a (getD used j 0)
         l′ = rw word l
 
-        up : above i ≡ true
-        up = above-here ∙ takes-holding (arity a) used element j d (g .holding) l′
+        is-above : above i ≡ true
+        is-above = above-here ∙ takes-holding (arity a) used element j d (g .holding) l′
 
         inside : i ≤ length ch
         inside = let h = g .inside in omega arith
@@ -127,14 +127,14 @@ module _ (a table ch used : List ℕ) (element : ℕ) (rest : List ℕ) (above :
             (sym (setFrom-rows a table ch marks rows rest i (g .sets) (omega (arith, inside-rows)) inside))
             (sym (holding-set size marks rows rest i (g .sets) inside-rows))
 
-        go : Tested (sameWords new old) → Same (propagates i (suc n) marks t) (ups i (suc n) rows (t .recomputed))
+        go : Tested (sameWords new old) → Same (propagates i (suc n) marks t) (propagatesSets i (suc n) rows (t .recomputed))
         go (holds b) =
             let t′ : Progress = record { reach = 1; recomputed = t .recomputed + 1; active = false } in
             let p : propagates i (suc n) marks t ≡ (marks, t .recomputed + 1) =
             propagate-stops a table ch i marks t n marks t′
             (step-ancestor a table ch i marks t r refl (omega arith) (marks, false) (recomputed-same a table ch i marks b)) refl in
-            let q : ups i (suc n) rows (t .recomputed) ≡ (rows, t .recomputed + 1) =
-            propagateSets-last a table ch above i n rows (t .recomputed) up (tests ∙ b) in
+            let q : propagatesSets i (suc n) rows (t .recomputed) ≡ (rows, t .recomputed + 1) =
+            propagateSets-last a table ch above i n rows (t .recomputed) is-above (tests ∙ b) in
             rw (p, q) (record { sets = g .sets; count = refl })
         go (fails b) =
             let t′ : Progress = record { reach = 1; recomputed = t .recomputed + 1; active = true } in
@@ -143,8 +143,8 @@ module _ (a table ch used : List ℕ) (element : ℕ) (rest : List ℕ) (above :
             let p : propagates i (suc n) marks t ≡ propagates (suc i) n marks′ t′ =
             propagate-continues a table ch i marks t n marks′ t′
             (step-ancestor a table ch i marks t r refl (omega arith) (marks′, true) (recomputed-is a table ch i marks false b)) refl in
-            let q : ups i (suc n) rows (t .recomputed) ≡ ups (suc i) n rows′ (t .recomputed + 1) =
-            propagateSets-onward a table ch above i n rows (t .recomputed) up (tests ∙ b) in
+            let q : propagatesSets i (suc n) rows (t .recomputed) ≡ propagatesSets (suc i) n rows′ (t .recomputed + 1) =
+            propagateSets-onward a table ch above i n rows (t .recomputed) is-above (tests ∙ b) in
             rw (p, q)
             (ih (suc i) (suc j) 0 marks′ rows′ t′ refl
             (next 0 marks′ rows′ (holding-ancestor (arity a) used element j d (g .holding) l′) (length-set rows i _)
@@ -155,6 +155,6 @@ module _ (a table ch used : List ℕ) (element : ℕ) (rest : List ℕ) (above :
   propagate-propagateSets zero i j d marks rows t reached g = record { sets = g .sets; count = refl }
   propagate-propagateSets (suc n) i j d marks rows t reached g = choose (decLe (arity a (getD ch i 0)) d) (propagate-propagateSets n)
     where
-      choose : Dec (arity a (getD ch i 0) ≤ d) → Goal n → Same (propagates i (suc n) marks t) (ups i (suc n) rows (t .recomputed))
+      choose : Dec (arity a (getD ch i 0) ≤ d) → Goal n → Same (propagates i (suc n) marks t) (propagatesSets i (suc n) rows (t .recomputed))
       choose (yes l) ih = beside n ih i j d marks rows t reached g l
       choose (no l) ih = ancestor n ih i j d marks rows t reached g (omega arith)

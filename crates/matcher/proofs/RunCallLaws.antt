@@ -20,7 +20,7 @@ use Rattle.operations.proofs.RunLaws.{run-writes, run-length}
 use Rattle.sets.specs.Size.{marksMost}
 use Rattle.sets.proofs.SizeLaws.{words-few}
 use Rattle.nodes.specs.Nodes.{markedFrom, Workable}
-use Rattle.nodes.proofs.WorkedLaws.{workedFrom, worked-is}
+use Rattle.nodes.proofs.MarkedSets.{markedSets, markedSets-recomputing}
 use Rattle.nodes.proofs.MarkLaws.{holding-stored, markedFrom-rows}
 use Rattle.nodes.proofs.WorkableLaws.{workable-size, run-workable}
 use Rattle.propagation.specs.Propagation.{propagateFrom}
@@ -52,8 +52,8 @@ marked-run a table ch marks h =
     let rest = drop (n * size) marks in
     let m : length old ≡ n = length-listFrom (storedSet size marks) n 0 in
     let z : 0 + n ≡ n = zero-add n in
-    let w : Recomputing a table ch old 0 [] n (workedFrom a table ch 0 n old) =
-    worked-is a table ch old 0 [] n (omega arith) (omega arith) refl in
+    let w : Recomputing a table ch old 0 [] n (markedSets a table ch 0 n old) =
+    markedSets-recomputing a table ch old 0 [] n (omega arith) (omega arith) refl in
     markedFrom-rows a table ch marks old rest 0 n (holding-stored size marks n h) (omega arith) (omega arith) .words
     ∙ ap (λ (rows : List StateSet). flatten rows ++ rest)
     (w .sets-are

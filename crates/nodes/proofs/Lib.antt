@@ -1,5 +1,5 @@
 pub mod LoopLaws
-pub mod WorkedLaws
+pub mod MarkedSets
 pub mod MarkLaws
 pub mod WorkableLaws
 pub mod RootStackLaws

@@ -21,7 +21,7 @@ use Rattle.nodes.proofs.LoopLaws.{setAt}
 use Rattle.nodes.proofs.LoopLaws as loops
 use Rattle.sets.proofs.RowLaws.{paste-row, sized-set, sized-stored, stored-split}
 use Rattle.nodes.specs.Nodes.{setFrom, markedAt, markedFrom}
-use Rattle.nodes.proofs.WorkedLaws.{workedFrom, length-worked}
+use Rattle.nodes.proofs.MarkedSets.{markedSets, length-markedSets}
 
 -- the marks begin with these state sets
 pub record MarksHolding (size : ℕ) (marks : List ℕ) (rows : List StateSet) (rest : List ℕ) : Type 0 where
@@ -81,10 +81,10 @@ module _ (a table ch : List ℕ) where
 
   pub markedFrom-rows : (marks : List ℕ) (rows : List StateSet) (rest : List ℕ) (i n : ℕ) → MarksHolding (sizeOf table) marks rows rest
       → i + n ≤ length rows → i + n ≤ length ch
-      → MarksHolding (sizeOf table) (markedFrom a table ch i n marks) (workedFrom a table ch i n rows) rest
-  unfolding markedFrom workedFrom
+      → MarksHolding (sizeOf table) (markedFrom a table ch i n marks) (markedSets a table ch i n rows) rest
+  unfolding markedFrom markedSets
   markedFrom-rows marks rows rest i zero g l h = g
   markedFrom-rows marks rows rest i (suc n) g l h =
-      markedAt-rows (markedFrom a table ch i n marks) (workedFrom a table ch i n rows) rest (i + n)
-      (markedFrom-rows marks rows rest i n g (omega arith) (omega arith)) (rw (length-worked a table ch i n rows) (omega arith))
+      markedAt-rows (markedFrom a table ch i n marks) (markedSets a table ch i n rows) rest (i + n)
+      (markedFrom-rows marks rows rest i n g (omega arith) (omega arith)) (rw (length-markedSets a table ch i n rows) (omega arith))
       (omega arith)
