@@ -7,7 +7,6 @@ use native.Mathlib.Omega.{arith}
 use native.Mathlib.Nat.{add-mul, one-mul}
 use lib.ListN.{length, take}
 use lib.Seq.{slice, length-take-le}
-use Rattle.words.specs.Limits.{nodesMost}
 use Rattle.words.specs.Postfix.{arity, startOf}
 use Rattle.words.proofs.PostfixLaws.{start-le}
 use Rattle.operations.specs.Marks.{sizeOf, refit}
@@ -15,8 +14,6 @@ use Rattle.operations.specs.ExchangeCall.{ExchangeCall}
 use Rattle.operations.specs.Exchange.{used, fault, newTree}
 use Rattle.operations.proofs.AcceptedLaws.{CallAccepted, call-accepted}
 use Rattle.operations.proofs.ResultLaws.{result-accepted}
-use Rattle.sets.specs.Size.{setMost, marksMost}
-use Rattle.sets.proofs.SizeLaws.{words-few, set-small}
 use Rattle.refusals.proofs.ReplacementRefusalLaws.{result-length}
 use Rattle.nodes.specs.Nodes.{Workable}
 use Rattle.nodes.proofs.WorkableLaws.{workable-long, run-workable}
@@ -50,22 +47,16 @@ module _ (c : ExchangeCall) (s : ℕ) where
 pub record CallNumbers (c : ExchangeCall) (s size : ℕ) : Type 0 where
   pub low : s ≤ c .element
   pub inside : c .element < c .count
-  pub few : c .count ≤ nodesMost
   pub within : c .count ≤ length (c .chapter)
   pub some : 0 < length (c .replacement)
-  pub few-new : length (c .replacement) ≤ nodesMost
-  pub small : size ≤ setMost
   -- the result's length
   pub total : totalCount c s ≡ length (newTree c)
-  pub total-few : totalCount c s ≤ nodesMost
   pub total-within : totalCount c s ≤ length (c .chapter)
   -- the words of the marks: those up to the element's, the element's or its replacement's root's, and those behind
   pub old-words : c .count * size ≡ c .element * size + size + restCount c * size
   pub new-words : totalCount c s * size ≡ rootAt c s * size + size + restCount c * size
   pub old-fits : c .count * size ≤ length (c .marks)
   pub new-fits : totalCount c s * size ≤ length (c .marks)
-  pub old-few : c .count * size ≤ marksMost
-  pub new-few : totalCount c s * size ≤ marksMost
 
 module _ (c : ExchangeCall) (ok : fault c ≡ 0) where
   abbrev g : CallAccepted c
@@ -80,33 +71,25 @@ module _ (c : ExchangeCall) (ok : fault c ≡ 0) where
     call-numbers =
         let inside = g .change .element in
         let low : s ≤ c .element = rw qs (start-le (arity (c .alphabet)) (used c) (c .element)) in
-        let small : size ≤ setMost = rw qz (set-small (c .alphabet) (c .table) (g .checked .automaton)) in
         let m = length (c .replacement) in
         let k = restCount c in
         let total : s + m + k ≡ length (newTree c) =
         ap (λ (i : ℕ). s + m + (i - c .element - 1)) (sym length-used)
         ∙ result-length (c .alphabet) (used c) (c .element) s (c .replacement) (rw length-used inside) qs in
-        let few : s + m + k ≤ nodesMost = rw total (g .change .fits .few) in
         let some = g .change .replacement .counted .some in
         let split : c .count ≡ c .element + 1 + k = omega arith in
         let split-new : s + m + k ≡ s + m - 1 + 1 + k = omega arith in
         record {
           low = low;
           inside = inside;
-          few = g .count .counted .few;
           within = g .count .within;
           some = some;
-          few-new = g .change .replacement .counted .few;
-          small = small;
           total = total;
-          total-few = few;
           total-within = rw total (g .change .fits .elements);
           old-words = ap (λ (i : ℕ). i * size) split ∙ split-words (c .element) k size;
           new-words = ap (λ (i : ℕ). i * size) split-new ∙ split-words (s + m - 1) k size;
           old-fits = rw qz (g .marked .marks);
           new-fits = rw (total, qz) (g .change .fits .marks);
-          old-few = words-few (c .count) size (g .count .counted .few) small;
-          new-few = words-few (s + m + k) size few small;
         }
 
     -- the tails of both slices may move
