@@ -53,7 +53,8 @@ module _ (A : Automaton) (f : ℕ) (rs : List StateSet) where
   unfolding stateSet
   words-stateSet =
       epsilonClosure-keeps (AllBelow wordRange) words-insert _ (A .transitions) (symbolPass f rs (A .transitions) (emptySet (A .states)))
-      (symbolPass-keeps (AllBelow wordRange) words-insert f rs (A .transitions) (emptySet (A .states)) (words-replicate (sizeFor (A .states))))
+      (symbolPass-keeps (AllBelow wordRange) words-insert f rs (A .transitions) (emptySet (A .states))
+      (words-replicate (sizeFor (A .states))))
 
   -- it holds only what is reached, whatever the targets
   stateSet-within : StatesWithin (Reached (A .transitions) f rs) (stateSet A f rs)

@@ -17,10 +17,10 @@ use Rattle.words.specs.Postfix.{arity, trees}
 use Rattle.words.specs.ExpressionWords.{expressionFault}
 use Rattle.words.proofs.TestLaws.{picked}
 use Rattle.words.proofs.AcceptedAlphabet.{AcceptedAlphabet, alphabet-accepted, arity-most}
+use Rattle.words.proofs.AcceptedExpression.{expression-passed}
 use Rattle.automaton.specs.Transition.{tableWords}
 use Rattle.automaton.specs.Numbering.{hasEntries, compiled}
 use Rattle.automaton.specs.Table.{isTable}
-use Rattle.words.proofs.AcceptedExpression.{expression-passed}
 use Rattle.automaton.proofs.StateCount.{innerWords, leafWords, inner-leaf, states-counted}
 use Rattle.automaton.proofs.TableLength.{branchingWords, table-length}
 use Rattle.automaton.proofs.CompiledOver.{compiled-over}

@@ -7,9 +7,9 @@ use native.Mathlib.Nat.{le-refl, le-trans}
 use lib.ListN.{length}
 use Rattle.words.specs.ExpressionWords.{expressionFault}
 use Rattle.words.proofs.Ascending.{Ascending}
+use Rattle.words.proofs.AcceptedExpression.{expression-passed}
 use Rattle.automaton.specs.Numbering.{Port, statesOf, portOf, childPort, portsFrom, statesAfter, lastPort}
 use Rattle.automaton.proofs.PortStates.{constantsIn, PortIn, portIn-from}
-use Rattle.words.proofs.AcceptedExpression.{expression-passed}
 use Rattle.automaton.proofs.PortReading.{AllRead, word, expression-reading}
 
 -- the states of the last of the words w and ws, from state n on

@@ -10,8 +10,8 @@ use Rattle.words.specs.Word.{stateBelow}
 use Rattle.automaton.specs.Transition.{automatonOf}
 use Rattle.automaton.specs.StateSet.{StateSet, contains}
 use Rattle.index.specs.Index.{IndexedTable, keyCount, stateKey}
-use Rattle.closures.specs.Closure.{Closed, PendingStack, Search, Puttable, Put, FollowableAt, Followed, work}
 use Rattle.index.proofs.ChainLaws.{FirstWith, EpsilonWord, nextWith, next-some, next-none, keyed-epsilon}
+use Rattle.closures.specs.Closure.{Closed, PendingStack, Search, Puttable, Put, FollowableAt, Followed, work}
 use Rattle.closures.proofs.KeyedWordLaws.{closed-epsilon, epsilon-below, epsilon-reached}
 use Rattle.closures.proofs.PendingStackLaws.{stack-puttable, stack-put, put-less, put-length, put-present, put-keeps}
 use Rattle.closures.proofs.SearchLaws.{search-put, search-word, search-end, search-pop}

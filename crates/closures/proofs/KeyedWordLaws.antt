@@ -18,10 +18,9 @@ use Rattle.automaton.specs.Reached.{Reached, bySymbol}
 use Rattle.automaton.specs.Table.{AutomatonOver, TransitionOver}
 use Rattle.automaton.proofs.ClosureLaws.{targets-below}
 use Rattle.automaton.proofs.TableLaws.{isTable-automaton}
-use Rattle.index.specs.Index.{keyOf, stateKey}
-use Rattle.index.specs.Index.{IndexedTable}
-use Rattle.closures.specs.Closure.{ReachedFrom, onward, Closed, ClosedAt, startsAt}
+use Rattle.index.specs.Index.{keyOf, stateKey, IndexedTable}
 use Rattle.index.proofs.ChainLaws.{SymbolWord, EpsilonWord, key-symbol, key-epsilon}
+use Rattle.closures.specs.Closure.{ReachedFrom, onward, Closed, ClosedAt, startsAt}
 use Rattle.closures.proofs.TransitionStartLaws.{starts-member, table-transitions}
 
 -- ---- its kind and its key

@@ -14,9 +14,9 @@ use Rattle.automaton.specs.Transition.{automatonOf}
 use Rattle.automaton.specs.StateSet.{StateSet, contains, insert}
 use Rattle.automaton.proofs.BitLaws.{words-insert, insert-same, insert-other, insert-keeps}
 use Rattle.index.specs.Index.{keyOf, stateKey}
+use Rattle.index.proofs.ChainLaws.{FirstWith}
 use Rattle.closures.specs.Closure.{ReachedFrom, itself, ClosedAt, SettledAt, satisfied}
 use Rattle.closures.specs.Closure.{waiting, PendingStack, Search, Settled, Put, ClosedSet}
-use Rattle.index.proofs.ChainLaws.{FirstWith}
 use Rattle.closures.proofs.KeyedWordLaws.{starts-epsilon}
 use Rattle.closures.proofs.PendingStackLaws.{put-cases, stack-puttable}
 

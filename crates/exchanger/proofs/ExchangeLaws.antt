@@ -26,16 +26,16 @@ use Rattle.operations.proofs.MarksLaws.{length-flatten, take-refit}
 use Rattle.operations.proofs.RuleLaws.{follows-length, follows-outcomes}
 use Rattle.nodes.proofs.LoopLaws.{setAt}
 use Rattle.nodes.proofs.LoopLaws as loops
-use Rattle.exchanger.proofs.PropagateSets.{propagateSets}
-use Rattle.exchanger.proofs.ExchangeLoops.{movedSets, replacedSets, updatedSets, updatedSets-outcomes}
-use Rattle.exchanger.proofs.ExchangeLoops.{length-movedSets, words-behind}
 use Rattle.nodes.specs.Nodes.{setFrom, markedFrom}
 use Rattle.nodes.proofs.MarkLaws.{MarksHolding, holding-set, setFrom-rows, markedFrom-rows}
 use Rattle.nodes.proofs.MarkedSets.{markedSets, length-markedSets}
 use Rattle.propagation.specs.declared.Progress.{Progress}
 use Rattle.propagation.specs.Propagation.{propagateStep, propagateFrom, initial}
-use Rattle.updates.specs.Updating.{updatedFrom}
 use Rattle.propagation.proofs.PropagationLaws.{recomputed-is, step-ancestor, propagate-continues, propagate-stops}
+use Rattle.updates.specs.Updating.{updatedFrom}
+use Rattle.exchanger.proofs.PropagateSets.{propagateSets}
+use Rattle.exchanger.proofs.ExchangeLoops.{movedSets, replacedSets, updatedSets, updatedSets-outcomes}
+use Rattle.exchanger.proofs.ExchangeLoops.{length-movedSets, words-behind}
 use Rattle.exchanger.proofs.PropagateSetsLaws.{PropagatingSets, Same, propagate-propagateSets}
 use Rattle.exchanger.proofs.TailLaws.{tail-filled}
 use Rattle.exchanger.proofs.CallNumberLaws.{totalCount, movedChapter, CallNumbers, call-numbers, length-used, chapter-movable}

@@ -16,10 +16,10 @@ use Rattle.operations.specs.ExchangeCall.{ExchangeCall}
 use Rattle.operations.specs.Exchange.{used, fault, storedIn}
 use Rattle.operations.specs.Recomputation.{startIn}
 use Rattle.operations.proofs.MarksLaws.{Sized, sized-append}
-use Rattle.exchanger.proofs.ExchangeLoops.{movedSets}
 use Rattle.slices.proofs.RefitLaws.{take-drop}
 use Rattle.sets.proofs.RowLaws.{sized-stored, flatten-stored}
 use Rattle.nodes.proofs.MarkLaws.{MarksHolding}
+use Rattle.exchanger.proofs.ExchangeLoops.{movedSets}
 use Rattle.exchanger.proofs.TailLaws.{length-kept}
 use Rattle.exchanger.proofs.CallNumberLaws.{restCount, rootAt, totalCount, movedMarks, CallNumbers}
 use Rattle.exchanger.proofs.CallNumberLaws.{call-numbers, marks-movable, length-used}

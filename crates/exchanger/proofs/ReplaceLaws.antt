@@ -11,8 +11,7 @@ use Rattle.operations.specs.ExchangeCall.{ExchangeCall}
 use Rattle.operations.specs.Exchange.{fault, newTree}
 use Rattle.operations.specs.Recomputation.{startIn}
 use Rattle.updates.specs.Updating.{updatedFrom, Updatable}
-use Rattle.exchanger.proofs.CallNumberLaws.{rootAt, totalCount, movedChapter, movedMarks}
-use Rattle.exchanger.proofs.CallNumberLaws.{CallNumbers, call-numbers, result-workable}
+use Rattle.exchanger.proofs.CallNumberLaws.{rootAt, totalCount, movedChapter, movedMarks, CallNumbers, call-numbers, result-workable}
 use Rattle.exchanger.proofs.MovedLaws.{moved-holds}
 use Rattle.exchanger.proofs.ExchangeLaws.{ExchangeLeft, left-outcomes, chapter-left, nodes-left}
 

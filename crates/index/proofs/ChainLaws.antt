@@ -8,8 +8,7 @@ use native.Mathlib.Decide.{ℕ-discrete}
 use lib.ListN.{length, getD}
 use lib.Dec.{eqb}
 use borrow.Author.Tests.{eq-eqb, ne-eqb, eqb-true, eqb-false}
-use Rattle.words.specs.Word.{transitionKind, epsilonKind, numberOf, hasKind, stateRange, symbolRange}
-use Rattle.words.specs.Word.{symbolAbove, stateAbove, kindNumber}
+use Rattle.words.specs.Word.{transitionKind, epsilonKind, numberOf, hasKind, stateRange, symbolRange, symbolAbove, stateAbove, kindNumber}
 use Rattle.words.specs.Limits.{tableMost}
 use Rattle.words.proofs.TestLaws.{Tested, holds, fails, tested}
 use Rattle.automaton.specs.Table.{isTable}

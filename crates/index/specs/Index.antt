@@ -6,9 +6,9 @@ use mathlib.Core.List.{List}
 use mathlib.Core.Bool.{true, cond}
 use lib.ListN.{length, getD, set, replicate}
 use lib.Dec.{ltb}
-use Rattle.automaton.specs.Table.{isTable}
 use Rattle.words.specs.Limits.{alphabetMost, tableMost}
 use Rattle.words.specs.Word.{transitionKind, epsilonKind, hasKind, symbolRange, stateRange, symbolAbove, stateAbove}
+use Rattle.automaton.specs.Table.{isTable}
 
 -- the key of a state, behind the numbers that a symbol may have
 abbrev pub stateKey : ℕ → ℕ

@@ -13,9 +13,6 @@ use Rattle.words.specs.Alphabet.{isConstant}
 use Rattle.words.specs.Tree.{Tree, none, more, postfix, postfixAll}
 use Rattle.words.specs.Postfix.{arity, oneTree, stackAfter}
 use Rattle.words.specs.ExpressionWords.{namesAt, isExpressionWord}
-use Rattle.language.specs.Expression.{Expression, Expressions, symbol, empty, union, product, closure, noneᵉ, moreᵉ}
-use Rattle.language.specs.Expression.{syntaxTree, syntaxTrees, expressionWords, ExpressionOver, ExpressionsOver, ExpressionOf}
-use Rattle.language.specs.Reading.{expressionOn, expressionOf}
 use Rattle.words.proofs.RankedTree.{Ranked, RankedAll}
 use Rattle.words.proofs.TestLaws.{true-and, all-append}
 use Rattle.words.specs.ExactlyOne.{ExactlyOne}
@@ -24,6 +21,9 @@ use Rattle.words.proofs.ExactlyOneLaws.{one-along}
 use Rattle.words.proofs.WordLaws.{arity-wordOf, isExpressionWord-wordOf}
 use Rattle.words.proofs.ReadingLaws.{stack-tree, oneTree-tree}
 use Rattle.words.proofs.TreeLaws.{TreeOf, exactly-one-tree}
+use Rattle.language.specs.Expression.{Expression, Expressions, symbol, empty, union, product, closure, noneᵉ, moreᵉ}
+use Rattle.language.specs.Expression.{syntaxTree, syntaxTrees, expressionWords, ExpressionOver, ExpressionsOver, ExpressionOf}
+use Rattle.language.specs.Reading.{expressionOn, expressionOf}
 use Rattle.language.proofs.ParseLaws.{treeExpression, number-syntaxTrees, tree-expression, constant-small, expression-back}
 
 module _ (a : List ℕ) where

@@ -13,9 +13,6 @@ use Rattle.words.specs.Tree.{Tree, Trees, node, none, more, number, postfix, po
 use Rattle.words.specs.Postfix.{arity}
 use Rattle.words.specs.ExpressionWords.{isExpressionWord}
 use Rattle.words.specs.Limits.{alphabetMost}
-use Rattle.language.specs.Expression.{Expression, Expressions, symbol, empty, union, product, closure, noneᵉ}
-use Rattle.language.specs.Expression.{moreᵉ, numberᵉ, syntaxTree, syntaxTrees, ExpressionOver, ExpressionsOver}
-use Rattle.language.specs.Reading.{childrenᵉ, ofKind, expressionOn}
 use Rattle.words.proofs.RankedTree.{Ranked, RankedAll}
 use Rattle.words.proofs.TreeFold.{fold, foldAll}
 use Rattle.words.proofs.TestLaws.{and-true, all-left, all-right}
@@ -23,6 +20,9 @@ use Rattle.words.proofs.KindLaws.{kindOf-wordOf}
 use Rattle.words.proofs.AlphabetLaws.{isConstant-zero}
 use Rattle.words.proofs.WordLaws.{IsExpressionWord, isExpressionWord-facts}
 use Rattle.words.proofs.ExpressionWordLaws.{ExpressionWord, symbolWord, emptyWord, unionWord, productWord, closureWord, expressionWord}
+use Rattle.language.specs.Expression.{Expression, Expressions, symbol, empty, union, product, closure, noneᵉ}
+use Rattle.language.specs.Expression.{moreᵉ, numberᵉ, syntaxTree, syntaxTrees, ExpressionOver, ExpressionsOver}
+use Rattle.language.specs.Reading.{childrenᵉ, ofKind, expressionOn}
 
 -- the expression that a tree of words is read as
 abbrev pub treeExpression : Tree → Expression

@@ -11,7 +11,6 @@ use Rattle.words.specs.Word.{nodeKind, wordOf}
 use Rattle.words.specs.Tree.{Tree, Trees, node, none, more, postfix, postfixAll}
 use Rattle.words.specs.Postfix.{arity, oneTree}
 use Rattle.words.specs.Chapter.{symbolOf, isNode}
-use Rattle.language.specs.Expression.{treeWords, TreeOver, TreesOver, SubjectOf}
 use Rattle.words.proofs.RankedTree.{Ranked, RankedAll}
 use Rattle.words.proofs.TestLaws.{and-true, true-and, all-left, all-right, all-append}
 use Rattle.words.specs.ExactlyOne.{ExactlyOne}
@@ -21,6 +20,7 @@ use Rattle.words.proofs.WordLaws.{arity-wordOf, isNode-facts, isNode-wordOf, sy
 use Rattle.words.proofs.RelabelLaws.{relabel, relabelAll, number-relabel, postfix-relabel}
 use Rattle.words.proofs.ReadingLaws.{oneTree-tree}
 use Rattle.words.proofs.TreeLaws.{TreeOf, exactly-one-tree}
+use Rattle.language.specs.Expression.{treeWords, TreeOver, TreesOver, SubjectOf}
 
 -- the tree of words of a tree of symbols, and back
 abbrev pub wordTree : Tree → Tree

@@ -11,7 +11,6 @@ use Rattle.words.specs.Word.{nodeKind, wordOf}
 use Rattle.words.specs.Tree.{Tree, Trees, node, none, more}
 use Rattle.words.specs.Postfix.{arity, oneTree, startOf, subtreeOf, values}
 use Rattle.words.specs.Chapter.{symbolOf, isNode}
-use Rattle.language.specs.Expression.{TreeOver, TreesOver, SubjectOf}
 use Rattle.words.proofs.TreeFold.{fold, foldAll}
 use Rattle.words.proofs.TestLaws.{all-left, all-right}
 use Rattle.words.specs.ExactlyOne.{ExactlyOne}
@@ -20,6 +19,7 @@ use Rattle.words.proofs.WordLaws.{symbolOf-wordOf}
 use Rattle.words.proofs.RelabelLaws.{relabelAll}
 use Rattle.words.proofs.PostfixLaws.{sub-tree}
 use Rattle.words.proofs.SubtreeLaws.{value-subtree}
+use Rattle.language.specs.Expression.{TreeOver, TreesOver, SubjectOf}
 use Rattle.language.proofs.SubjectLaws.{wordTree, subject-words, exactly-one-subject}
 
 -- the words of a subtree are nodes

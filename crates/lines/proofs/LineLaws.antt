@@ -8,10 +8,10 @@ use lib.ListN.{length, getD, take, List·getD-eq-default}
 use lib.Seq.{take-suc, take-all}
 use Rattle.words.specs.Chapter.{symbolOf}
 use Rattle.words.specs.Postfix.{startOf}
-use Rattle.lines.specs.Line.{space, newline, refusedText, nodesText, statesText, hitsText, refusedLine, headLine, hitLine, hitLines}
 use Rattle.encoding.specs.Decimal.{field}
 use Rattle.encoding.specs.ByteWriting.{BytesWritten}
 use Rattle.encoding.proofs.ByteWritingLaws.{bytes-written-none, bytes-written-more, bytes-written-same}
+use Rattle.lines.specs.Line.{space, newline, refusedText, nodesText, statesText, hitsText, refusedLine, headLine, hitLine, hitLines}
 
 -- ---- lines
 

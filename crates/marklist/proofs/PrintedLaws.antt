@@ -6,14 +6,14 @@ use Prim.Native.Nat.{ℕ, _≤_, min}
 use native.Mathlib.Omega.{arith}
 use lib.ListN.{length, getD, take, drop}
 use lib.Seq.{length-sets, take-all, length-take-le}
-use Rattle.report.specs.Stages.{alphabetKept, ruleKept, chapterKept, bufferLength}
 use Rattle.lines.specs.Line.{refusedLine}
+use Rattle.report.specs.Stages.{alphabetKept, ruleKept, chapterKept, bufferLength}
 use Rattle.report.specs.Output.{outputOf}
 use lib.Dec.{ltb}
 use Rattle.words.proofs.TestLaws.{all-append}
 use Rattle.encoding.specs.Words.{areBytes, wordsIn}
-use Rattle.report.specs.Input.{complete, alphabetIn, ruleIn, chapterIn, programOutput}
 use Rattle.encoding.proofs.WordByteLaws.{length-wordsIn, wordsIn-append, kept-words}
+use Rattle.report.specs.Input.{complete, alphabetIn, ruleIn, chapterIn, programOutput}
 use Rattle.report.proofs.OutputLength.{output-short}
 use Rattle.report.proofs.KeptLaws.{early-output}
 use Rattle.report.proofs.ReportLaws.{zeros, many}

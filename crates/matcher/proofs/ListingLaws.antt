@@ -9,8 +9,8 @@ use lib.ListN.{length, take, drop, length-append}
 use lib.Seq.{sets, sets-eq, take-at, drop-append-add, drop-drop}
 use Rattle.words.specs.Lists.{listFrom, writtenOver}
 use Rattle.words.proofs.ListLaws.{listFrom-add, length-listFrom}
-use Rattle.automaton.specs.StateSet.{StateSet, contains}
 use Rattle.words.specs.Answer.{refused, accepted}
+use Rattle.automaton.specs.StateSet.{StateSet, contains}
 use Rattle.operations.specs.Marks.{sizeOf, finalOf, storedSet}
 use Rattle.operations.specs.Listing.{matchesIn, matchesOf, listFault, listAnswer, listExit}
 use Rattle.operations.proofs.MatchLaws.{matches-few, matchesOf-few}

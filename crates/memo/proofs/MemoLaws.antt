@@ -12,10 +12,10 @@ use Rattle.words.proofs.AllLaws.{map-below, below-more}
 use Rattle.automaton.specs.Transition.{automatonOf}
 use Rattle.automaton.specs.StateSet.{StateSet, stateSet}
 use Rattle.operations.specs.Marks.{sizeOf, storedSet}
-use Rattle.closures.specs.Closure.{Closures, rowsMost}
 use Rattle.sets.specs.Copyable.{Copyable}
 use Rattle.sets.specs.Size.{setMost}
 use Rattle.sets.proofs.StoredLaws.{row-inside, stored-before}
+use Rattle.closures.specs.Closure.{Closures, rowsMost}
 use Rattle.memo.specs.Key.{stepKey}
 use Rattle.memo.specs.Memo.{setOver, Slot, empty, occupied, Remembered, NewMarkable, NextMarkable, MarkedNew, MarkedNext, placesMost}
 use Rattle.memo.specs.Memo.{slotsMost}

@@ -11,11 +11,11 @@ use Rattle.automaton.specs.Transition.{automatonOf}
 use Rattle.automaton.specs.StateSet.{StateSet, stateSet}
 use Rattle.automaton.proofs.SetLength.{length-stateSet}
 use Rattle.operations.specs.Marks.{sizeOf, storedSet}
-use Rattle.step.specs.NodeSteppable.{childSets}
 use Rattle.sets.specs.Copyable.{Copyable}
 use Rattle.sets.specs.Size.{marksMost, setMost}
 use Rattle.sets.proofs.StoredLaws.{stored-written, stored-before}
 use Rattle.sets.proofs.SizeLaws.{words-few, set-small}
+use Rattle.step.specs.NodeSteppable.{childSets}
 use Rattle.memo.specs.Memo.{setOver, Placeable, Represents, itself, earlier, NewMarkable, MarkedNew}
 
 pub length-setOver : (table : List ℕ) (f : ℕ) (marks cs : List ℕ) → length (setOver table f marks cs) ≡ sizeOf table

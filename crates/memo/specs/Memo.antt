@@ -11,8 +11,8 @@ use Rattle.automaton.specs.Transition.{automatonOf}
 use Rattle.automaton.specs.StateSet.{StateSet, stateSet}
 use Rattle.operations.specs.Marks.{sizeOf, storedSet}
 use Rattle.sets.specs.Size.{setMost}
-use Rattle.step.specs.NodeSteppable.{childSets}
 use Rattle.closures.specs.Closure.{Closures}
+use Rattle.step.specs.NodeSteppable.{childSets}
 use Rattle.step.specs.Node.{Steppable}
 use Rattle.memo.specs.Key.{stepKey, Keyable}
 

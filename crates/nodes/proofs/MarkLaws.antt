@@ -6,8 +6,6 @@ use native.Mathlib.Omega.{arith}
 use native.Mathlib.Nat.{zero-add}
 use lib.ListN.{length, getD, drop, set}
 use lib.Seq.{paste}
-use Rattle.memo.specs.Memo.{setOver}
-use Rattle.memo.proofs.NodeWritingLaws.{length-setOver}
 use Rattle.words.specs.Lists.{listFrom}
 use Rattle.words.specs.Postfix.{arity, childrenOf}
 use Rattle.words.specs.Chapter.{symbolOf}
@@ -17,9 +15,11 @@ use Rattle.automaton.specs.StateSet.{StateSet, stateSet}
 use Rattle.automaton.specs.Transition.{automatonOf}
 use Rattle.operations.specs.Marks.{sizeOf, nodeSet, storedSet}
 use Rattle.operations.proofs.MarksLaws.{Sized, storedSet-flatten}
+use Rattle.sets.proofs.RowLaws.{paste-row, sized-set, sized-stored, stored-split}
+use Rattle.memo.specs.Memo.{setOver}
+use Rattle.memo.proofs.NodeWritingLaws.{length-setOver}
 use Rattle.nodes.proofs.LoopLaws.{setAt}
 use Rattle.nodes.proofs.LoopLaws as loops
-use Rattle.sets.proofs.RowLaws.{paste-row, sized-set, sized-stored, stored-split}
 use Rattle.nodes.specs.Nodes.{setFrom, markedAt, markedFrom}
 use Rattle.nodes.proofs.MarkedSets.{markedSets, length-markedSets}
 

@@ -17,10 +17,10 @@ use Rattle.words.proofs.AllLaws.{each-drop, each-getD, below-more, each-append}
 use Rattle.automaton.specs.Transition.{automatonOf}
 use Rattle.automaton.specs.StateSet.{StateSet, stateSet}
 use Rattle.operations.specs.Marks.{sizeOf, storedSet}
-use Rattle.step.specs.NodeSteppable.{RowsInside, NodeSteppable}
-use Rattle.closures.proofs.FollowLaws.{states-most}
 use Rattle.slices.proofs.RefitLaws.{take-drop}
 use Rattle.sets.proofs.StoredLaws.{row-inside, stored-written}
+use Rattle.closures.proofs.FollowLaws.{states-most}
+use Rattle.step.specs.NodeSteppable.{RowsInside, NodeSteppable}
 use Rattle.memo.specs.Memo.{setOver, NextMarkable, MarkedNext}
 use Rattle.memo.proofs.NodeWritingLaws.{length-setOver}
 use Rattle.memo.proofs.MemoLaws.{stored-kept}

@@ -6,8 +6,6 @@ use mathlib.Core.List.{List, [], _∷_, _++_, List·Memᴰ}
 use Prim.Native.Nat.{ℕ, zero, suc, _-_, _<_, _/_}
 use native.Mathlib.Omega.{arith}
 use lib.ListN.{length, getD, replicate, length-append, length-replicate}
-use Rattle.sets.specs.Size.{setMost}
-use Rattle.sets.proofs.SizeLaws.{set-small}
 use Rattle.words.specs.Word.{wordRange}
 use Rattle.words.proofs.TestLaws.{same-truth}
 use Rattle.words.proofs.AllLaws.{each-append}
@@ -20,12 +18,14 @@ use Rattle.automaton.proofs.ClosureLaws.{targets-below, seeded-closed-all, word
 use Rattle.automaton.proofs.SetLength.{length-stateSet}
 use Rattle.automaton.proofs.TableLaws.{isTable-automaton}
 use Rattle.operations.specs.Marks.{sizeOf}
+use Rattle.sets.specs.Size.{setMost}
+use Rattle.sets.proofs.SizeLaws.{set-small}
 use Rattle.index.specs.Index.{IndexedTable}
-use Rattle.step.specs.NodeSteppable.{NodeSteppable, childSets}
-use Rattle.step.specs.Node.{Steppable, SymbolFollowable, SymbolFollowed}
 use Rattle.closures.proofs.TransitionStartLaws.{member-starts, table-transitions}
 use Rattle.closures.proofs.KeyedWordLaws.{starts-symbol, starts-target}
 use Rattle.closures.proofs.KeptClosureLaws.{empty-closed}
+use Rattle.step.specs.NodeSteppable.{NodeSteppable, childSets}
+use Rattle.step.specs.Node.{Steppable, SymbolFollowable, SymbolFollowed}
 
 -- ---- before the first transition
 

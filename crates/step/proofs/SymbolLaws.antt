@@ -15,15 +15,14 @@ use Rattle.automaton.specs.StateSet.{StateSet, allContained}
 use Rattle.automaton.specs.Reached.{Reached, byEpsilon}
 use Rattle.automaton.proofs.ClosureLaws.{targets-below, reached-below}
 use Rattle.automaton.proofs.TableLaws.{isTable-automaton}
-use Rattle.index.specs.Index.{keyOf, keyCount}
-use Rattle.index.specs.Index.{IndexedTable}
-use Rattle.step.specs.NodeSteppable.{RowsInside, childSets}
-use Rattle.closures.specs.Closure.{ReachedFrom, itself, onward, Joinable, JoinedClosure}
-use Rattle.step.specs.Node.{SourcesReadable, Growing, Satisfied}
-use Rattle.step.specs.Node.{SymbolFollowable, SymbolFollowed, TransitionFollowable, TransitionFollowed}
+use Rattle.index.specs.Index.{keyOf, keyCount, IndexedTable}
 use Rattle.index.proofs.ChainLaws.{FirstWith, SymbolWord, nextWith, next-some, next-none, keyed-symbol}
+use Rattle.closures.specs.Closure.{ReachedFrom, itself, onward, Joinable, JoinedClosure}
 use Rattle.closures.proofs.KeyedWordLaws.{symbol-below, symbol-reached, symbol-sources}
 use Rattle.closures.proofs.FollowLaws.{InChain, left, keyed, chain-first, in-chain, chain-next, left-less}
+use Rattle.step.specs.NodeSteppable.{RowsInside, childSets}
+use Rattle.step.specs.Node.{SourcesReadable, Growing, Satisfied}
+use Rattle.step.specs.Node.{SymbolFollowable, SymbolFollowed, TransitionFollowable, TransitionFollowed}
 
 -- what is reached from a reached state is reached
 reached-on : {ts : List Transition} {f : ℕ} {rs : List StateSet} {s q : ℕ} → ReachedFrom ts s q → Reached ts f rs s → Reached ts f rs q

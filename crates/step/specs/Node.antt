@@ -11,8 +11,8 @@ use Rattle.automaton.specs.StateSet.{StateSet, contains, allContained}
 use Rattle.automaton.specs.Reached.{Reached}
 use Rattle.operations.specs.Marks.{sizeOf}
 use Rattle.index.specs.Index.{keyOf}
-use Rattle.step.specs.NodeSteppable.{RowsInside, NodeSteppable, childSets}
 use Rattle.closures.specs.Closure.{ClosedSet, Closures}
+use Rattle.step.specs.NodeSteppable.{RowsInside, NodeSteppable, childSets}
 
 -- the part states at an index are as many as the children
 pub record SourcesReadable (table : List ℕ) (at size : ℕ) (marks children : List ℕ) : Type 0 where
