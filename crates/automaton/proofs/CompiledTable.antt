@@ -65,8 +65,8 @@ module _ (a : List ℕ) (h : AcceptedAlphabet a) where
       go false false e f g i = omega (arith, l, eqb-false r 0 e, leb-false 2 r f)
 
 -- T table words, B branching words, S states, n words, of which i have entries and l do not, and k constants
-few-words : (T B S n i l k : ℕ) → T + B ≤ S + (n + i) → S ≡ i * suc k + l → i + l ≡ n → n ≤ expressionMost → 1 ≤ l → l ≤ 1 + 3 * B → k ≤ constantsMost
-    → S ≤ statesMost → T ≤ compiledMost
+few-words : (T B S n i l k : ℕ) → T + B ≤ S + (n + i) → S ≡ i * suc k + l → i + l ≡ n → n ≤ expressionMost → 1 ≤ l → l ≤ 1 + 3 * B
+    → k ≤ constantsMost → S ≤ statesMost → T ≤ compiledMost
 few-words T B S n i l k t s c n≤ l≥ l≤ k≤ S≤ = go (decLe k 15)
   where
     go : Dec (k ≤ 15) → T ≤ compiledMost

@@ -1,7 +1,7 @@
 -- The states of a word by whether it has entries, and its own transitions by its kind.
 use Prim.Native.Nat.{ℕ, suc}
 use mathlib.Core.Path.{_≡_, ap, _∙_}
-use mathlib.Core.Bool.{Bool, true, false, not, cond}
+use mathlib.Core.Bool.{true, false, not}
 use mathlib.Core.List.{List, _∷_}
 use lib.ListN.{length}
 use lib.Dec.{eqb, eqb·suc-zero}

@@ -8,7 +8,7 @@ use native.Mathlib.Nat.{add-suc, suc-add}
 use native.Mathlib.Numerals.{add-one}
 use lib.ListN.{length}
 use Rattle.words.specs.Limits.{alphabetMost}
-use Rattle.words.specs.Word.{Kind, symbolKind, emptyKind, unionKind, productKind, closureKind, kindNumber, symbolRange, wordOf, lowByte}
+use Rattle.words.specs.Word.{Kind, noKind, symbolKind, emptyKind, unionKind, productKind, closureKind, kindNumber, symbolRange, wordOf, lowByte}
 use Rattle.words.specs.Alphabet.{constantsOf}
 use Rattle.words.specs.Postfix.{arity}
 use Rattle.words.proofs.KindLaws.{kindOf-wordOf, kindOf-hasKind}
@@ -76,7 +76,10 @@ module _ (a : List ℕ) where
       let e : arity a (wordOf symbolKind c) ≡ 0 = arity-wordOf a symbolKind c h ∙ o .1 in
       record {
         arity-is = e;
-        port-is = port-none (wordOf symbolKind c) n e ∙ rw (kindOf-hasKind symbolKind (wordOf symbolKind c) (λ z. absurd (let q = ap kindNumber z in omega arith)) (kindOf-wordOf symbolKind c (omega arith)), lowByte-word symbolKind c h);
+        port-is =
+            let decoded : symbolKind ≡ noKind → ⊥ = λ z. absurd (let q = ap kindNumber z in omega arith) in
+            let kind = kindOf-hasKind symbolKind (wordOf symbolKind c) decoded (kindOf-wordOf symbolKind c (omega arith)) in
+            port-none (wordOf symbolKind c) n e ∙ rw (kind, lowByte-word symbolKind c h);
         states-are = states-none (wordOf symbolKind c) n e;
         own-are = refl;
       }

@@ -11,9 +11,9 @@ use lib.Dec.{leb}
 use borrow.Author.Tests.{leb-true}
 use Rattle.words.specs.Lists.{all}
 use Rattle.words.specs.Shape.{treesBy}
-use Rattle.words.specs.Postfix.{arity, trees, oneTree, notOneTree}
+use Rattle.words.specs.Postfix.{arity, trees}
 use Rattle.words.specs.ExpressionWords.{isExpressionWord, expressionFault}
-use Rattle.words.proofs.TestLaws.{and-true, or-false, picked}
+use Rattle.words.proofs.TestLaws.{and-true, picked}
 use Rattle.words.proofs.AcceptedExpression.{expression-passed}
 use Rattle.automaton.specs.Numbering.{Port, statesOf, portOf, ownTransitions}
 use Rattle.automaton.proofs.PortStates.{PortIn, portOf-in, portIn-from, PortStack, bottom, push, Children, children-le, taken}

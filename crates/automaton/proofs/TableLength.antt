@@ -12,13 +12,13 @@ use Rattle.words.specs.Word.{sourceKind, wordOf, lowByte}
 use Rattle.words.specs.Lists.{count}
 use Rattle.words.specs.Postfix.{arity}
 use Rattle.words.specs.ExpressionWords.{expressionFault}
+use Rattle.words.proofs.AcceptedExpression.{expression-passed}
 use Rattle.automaton.specs.Transition.{Transition, onSymbol, transitionWords, transitionsWords, tableWords}
 use Rattle.automaton.specs.Numbering.{Port, hasEntries, statesOf, portOf, entryFor, epsilons, entryEpsilons}
 use Rattle.automaton.specs.Numbering.{statesAfter, ownTransitions, transitionsFrom, constantTransitions, lastPort}
 use Rattle.automaton.specs.Numbering.{compiled, symbolTargets, unionTargets, productTargets, closureTargets}
 use Rattle.automaton.proofs.PortStates.{constantsIn, PortIn, Children, child}
 use Rattle.automaton.proofs.OwnTransitions.{Own, leaf, ofSymbol, ofUnion, ofProduct, ofClosure}
-use Rattle.words.proofs.AcceptedExpression.{expression-passed}
 use Rattle.automaton.proofs.PortReading.{WordRead, AllRead, word, childrenOn, expression-reading}
 use Rattle.automaton.proofs.TargetCount.{total, weight, lookup-once, total-symbol, total-union, total-product, total-closure}
 use Rattle.automaton.proofs.StateCount.{innerWords}

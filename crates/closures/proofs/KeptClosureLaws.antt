@@ -8,14 +8,14 @@ use native.Mathlib.Omega.{arith}
 use native.Mathlib.Decide.{ℕ-discrete}
 use lib.ListN.{length, getD, set, take, drop, replicate, length-set, length-replicate}
 use lib.Seq.{paste, length-paste, getD-set-same, getD-set-other}
-use Rattle.automaton.proofs.PassLaws.{closed-test, test-closed}
 use Rattle.automaton.specs.Transition.{epsilon, automatonOf}
 use Rattle.automaton.specs.StateSet.{StateSet}
+use Rattle.automaton.proofs.PassLaws.{closed-test, test-closed}
 use Rattle.automaton.proofs.BitLaws.{contains-replicate, words-replicate}
 use Rattle.operations.specs.Marks.{storedSet}
-use Rattle.sets.proofs.StoredLaws.{stored-written, stored-other}
 use Rattle.sets.specs.Joined.{joined}
 use Rattle.sets.specs.Size.{setMost}
+use Rattle.sets.proofs.StoredLaws.{stored-written, stored-other}
 use Rattle.sets.proofs.JoinLaws.{joined-length, words-joined, joined-cases, joined-left, joined-right}
 use Rattle.closures.specs.Closure.{PendingStack, Settled, Puttable, Put, Followed, Closable, ClosureOf, rowsMost}
 use Rattle.closures.specs.Closure.{ClosedSet, Addable, Added, Keepable, Kept, Joinable, JoinedClosure}

@@ -11,11 +11,11 @@ use Rattle.words.specs.Word.{transitionKind, epsilonKind, kindNumber, hasKind, 
 use Rattle.words.specs.Alphabet.{rankOf}
 use Rattle.words.proofs.TestLaws.{Tested, holds, fails, tested}
 use Rattle.words.proofs.AllLaws.{each-at}
-use Rattle.automaton.proofs.PassLaws.{closed-test}
 use Rattle.automaton.specs.Transition.{Transition, onSymbol, epsilon, sourcesAt, automatonOf}
 use Rattle.automaton.specs.StateSet.{StateSet, contains, allContained}
 use Rattle.automaton.specs.Reached.{Reached, bySymbol}
 use Rattle.automaton.specs.Table.{AutomatonOver, TransitionOver}
+use Rattle.automaton.proofs.PassLaws.{closed-test}
 use Rattle.automaton.proofs.ClosureLaws.{targets-below}
 use Rattle.automaton.proofs.TableLaws.{isTable-automaton}
 use Rattle.index.specs.Index.{keyOf, stateKey, IndexedTable}

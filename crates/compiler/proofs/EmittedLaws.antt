@@ -24,12 +24,12 @@ use Rattle.words.proofs.AcceptedAlphabet.{AcceptedAlphabet, arity-most}
 use Rattle.automaton.specs.Transition.{Transition, transitionsWords}
 use Rattle.automaton.specs.Numbering.{Port, statesOf, portOf, ownTransitions, transitionsFrom, fullPort}
 use Rattle.automaton.proofs.TransitionLaws.{transitionsWords-append}
+use Rattle.automaton.proofs.EntryStates.{entries-some, port-full}
 use Rattle.ports.specs.Ports.{portIn, portsIn}
 use Rattle.emitter.specs.Writing.{WordsWritten, lastIndex}
 use Rattle.emitter.specs.Emission.{ownWordsMost, Emittable, OwnEmittable}
 use Rattle.emitter.proofs.WritingLaws.{words-written-none, words-written-more, words-written-same, words-written-next}
 use Rattle.compiler.specs.Compiling.{wordStatesMost, allOwnWordsMost}
-use Rattle.automaton.proofs.EntryStates.{entries-some, port-full}
 use Rattle.compiler.proofs.KnownConstants.{constants-once, word-emittable}
 
 -- ---- a stack of ports in an array

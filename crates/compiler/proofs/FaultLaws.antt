@@ -10,11 +10,11 @@ use lib.Seq.{sets}
 use borrow.Author.Tests.{lt-ltb, le-ltb}
 use Rattle.words.specs.Limits.{statesMost}
 use Rattle.words.specs.Refusal.{refusal}
+use Rattle.words.specs.Answer.{refused, accepted}
 use Rattle.words.proofs.ListLaws.{sets-whole}
 use Rattle.words.proofs.RefusalLaws.{parts-pass}
 use Rattle.words.proofs.AnswerLaws.{answer-refused, answer-accepted, exit-refused, exit-accepted}
 use Rattle.automaton.specs.Numbering.{statesAfter, compiled}
-use Rattle.words.specs.Answer.{refused, accepted}
 use Rattle.operations.specs.Compile.{compiledTable, tooManyStates, tableTooLong, ruleRefusals, compileFault}
 use Rattle.operations.specs.Compile.{compileAnswer, compileExit}
 use Rattle.operations.proofs.AcceptedLaws.{compile-accepted}

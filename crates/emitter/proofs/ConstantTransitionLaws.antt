@@ -11,10 +11,10 @@ use Rattle.words.proofs.ListLaws.{map-append}
 use Rattle.automaton.specs.Transition.{onSymbol, transitionWords, transitionsWords}
 use Rattle.automaton.specs.Numbering.{numbered, constantTransitions}
 use Rattle.automaton.proofs.TransitionLaws.{transitionsWords-append, numbered-append}
-use Rattle.emitter.specs.Writing.{WordsWritten}
 use Rattle.ports.specs.Ports.{everyEntry, noEntry, exitIn, codeIn, portIn}
-use Rattle.emitter.proofs.WritingLaws.{words-written-none, words-written-more, words-written-same}
 use Rattle.ports.proofs.PortLaws.{entries-every, entries-none, entries-own}
+use Rattle.emitter.specs.Writing.{WordsWritten}
+use Rattle.emitter.proofs.WritingLaws.{words-written-none, words-written-more, words-written-same}
 
 -- the words of the moves into the entries for the constants, where x is the word's exit
 abbrev everyWords : ℕ → List ℕ → List ℕ

@@ -15,8 +15,8 @@ use Rattle.automaton.specs.Transition.{Transition, transitionsWords}
 use Rattle.automaton.specs.Numbering.{Port, symbolTransitions, unionTransitions, productTransitions, closureTransitions}
 use Rattle.automaton.specs.Numbering.{ownAt, ownTransitions}
 use Rattle.automaton.proofs.EntryStates.{own-kind}
-use Rattle.emitter.specs.Writing.{WordsWritten}
 use Rattle.ports.specs.Ports.{portIn, portsIn, childIn}
+use Rattle.emitter.specs.Writing.{WordsWritten}
 use Rattle.emitter.proofs.WritingLaws.{words-written-none, words-written-same}
 use Rattle.emitter.proofs.TargetLaws.{both, single}
 

@@ -10,8 +10,8 @@ use Rattle.words.specs.Limits.{rankMost}
 use Rattle.words.specs.Word.{sourceKind, wordOf}
 use Rattle.words.proofs.ListLaws.{map-append}
 use Rattle.automaton.specs.Transition.{sourceWords}
-use Rattle.emitter.specs.Writing.{WordsWritten}
 use Rattle.ports.specs.Ports.{exitIn, exitsIn, portsIn}
+use Rattle.emitter.specs.Writing.{WordsWritten}
 use Rattle.emitter.proofs.WritingLaws.{words-written-none, words-written-more, words-written-same}
 
 pub sources-exits : (cs ps : List ℕ) → sourceWords (exitsIn ps) ≡ sourceWords (map (λ P. P .exit) (portsIn cs ps))

@@ -6,10 +6,10 @@ use lib.ListN.{length, getD}
 use Rattle.words.specs.Limits.{constantsMost, rankMost}
 use Rattle.words.specs.Word.{lowByte, closureKind, productKind, unionKind, symbolRange, kindOf}
 use Rattle.automaton.specs.Numbering.{symbolTargets, productTargets, closureTargets}
+use Rattle.ports.specs.Ports.{exitRange, EachOnce, portsIn, childIn}
 use Rattle.emitter.specs.Writing.{lastIndex}
 use Rattle.emitter.specs.declared.entries.Targets.{Targets}
 use Rattle.emitter.specs.declared.entries.Targets.the-variants.{Children, Product, Closure}
-use Rattle.ports.specs.Ports.{exitRange, EachOnce, portsIn, childIn}
 
 -- the most words of the transitions from one entry: to the entry of each child, and to the word's own exit
 abbrev pub entryWordsMost : ℕ

@@ -7,8 +7,8 @@ use native.Mathlib.Omega.{arith}
 use lib.Dec.{ltb}
 use borrow.Author.Tests.{lt-ltb, le-ltb, ltb-false}
 use Rattle.encoding.specs.ByteWriting.{BytesWritten}
-use Rattle.encoding.proofs.ByteWritingLaws.{bytes-written-more, bytes-written-same}
 use Rattle.encoding.specs.Decimal.{digit, digitsWithin, decimal}
+use Rattle.encoding.proofs.ByteWritingLaws.{bytes-written-more, bytes-written-same}
 
 -- more room changes nothing where there is enough
 enough : (k j n : ℕ) → n < k → n < j → digitsWithin k n ≡ digitsWithin j n

@@ -24,9 +24,9 @@ use Rattle.operations.specs.Recomputation.{startIn}
 use Rattle.operations.proofs.AcceptedLaws.{call-accepted}
 use Rattle.operations.proofs.MarksLaws.{length-flatten, take-refit}
 use Rattle.operations.proofs.RuleLaws.{follows-length, follows-outcomes}
+use Rattle.nodes.specs.Nodes.{setFrom, markedFrom}
 use Rattle.nodes.proofs.LoopLaws.{setAt}
 use Rattle.nodes.proofs.LoopLaws as loops
-use Rattle.nodes.specs.Nodes.{setFrom, markedFrom}
 use Rattle.nodes.proofs.MarkLaws.{MarksHolding, holding-set, setFrom-rows, markedFrom-rows}
 use Rattle.nodes.proofs.MarkedSets.{markedSets, length-markedSets}
 use Rattle.propagation.specs.declared.Progress.{Progress}

@@ -107,7 +107,8 @@ module _ (a table : List ℕ) (stored : ℕ → StateSet) (ch : List ℕ) (eleme
 
     allRecomputed : Recomputing a table tree movedSets s σ (length x) (replacedSets (length x))
     allRecomputed =
-        markedSets-recomputing a table tree movedSets s σ (length x) (omega (arith, length-tree)) (omega (arith, length-movedSets)) stack-front
+        markedSets-recomputing a table tree movedSets s σ (length x) (omega (arith, length-tree)) (omega (arith, length-movedSets))
+        stack-front
 
     new : Read (arity a) step x
     new = read (arity a) step x hx

@@ -13,15 +13,15 @@ use Rattle.words.proofs.TestLaws.{Tested, holds, fails, tested}
 use Rattle.words.proofs.HoldingLaws.{HoldingTree, takes-others, holding-others, takes-holding, holding-ancestor}
 use Rattle.automaton.specs.StateSet.{StateSet}
 use Rattle.operations.specs.Marks.{sizeOf, storedSet, sameWords}
+use Rattle.nodes.specs.Nodes.{setFrom, markedAt}
 use Rattle.nodes.proofs.LoopLaws.{setAt}
 use Rattle.nodes.proofs.LoopLaws as loops
-use Rattle.exchanger.proofs.PropagateSets.{propagateSets, propagateSets-beside, propagateSets-last, propagateSets-onward}
-use Rattle.nodes.specs.Nodes.{setFrom, markedAt}
 use Rattle.nodes.proofs.MarkLaws.{MarksHolding, holding-set, setFrom-rows, markedAt-rows}
 use Rattle.propagation.specs.declared.Progress.{Progress}
 use Rattle.propagation.specs.Propagation.{propagateFrom}
 use Rattle.propagation.proofs.PropagationLaws.{recomputed-is, recomputed-same, step-beside}
 use Rattle.propagation.proofs.PropagationLaws.{step-ancestor, propagate-continues, propagate-stops}
+use Rattle.exchanger.proofs.PropagateSets.{propagateSets, propagateSets-beside, propagateSets-last, propagateSets-onward}
 
 -- two functions that agree from i and from j on
 module _ {A : Type 0} (f g : ℕ → A) (i j : ℕ) (h : (t : ℕ) → f (i + t) ≡ g (j + t)) where
@@ -155,6 +155,7 @@ module _ (a table ch used : List ℕ) (element : ℕ) (rest : List ℕ) (above :
   propagate-propagateSets zero i j d marks rows t reached g = record { sets = g .sets; count = refl }
   propagate-propagateSets (suc n) i j d marks rows t reached g = choose (decLe (arity a (getD ch i 0)) d) (propagate-propagateSets n)
     where
-      choose : Dec (arity a (getD ch i 0) ≤ d) → Goal n → Same (propagates i (suc n) marks t) (propagatesSets i (suc n) rows (t .recomputed))
+      choose : Dec (arity a (getD ch i 0) ≤ d) → Goal n
+          → Same (propagates i (suc n) marks t) (propagatesSets i (suc n) rows (t .recomputed))
       choose (yes l) ih = beside n ih i j d marks rows t reached g l
       choose (no l) ih = ancestor n ih i j d marks rows t reached g (omega arith)

@@ -1,13 +1,8 @@
 // An accepted Exchange: an element's subtree gives way to a replacement. The words and the marks behind it move, the
 // replacement's nodes are worked out, and then ancestors, nearest first; no other node is.
 ghost use mathlib.Core.Path.{_≡_};
-ghost use mathlib.Core.List.{[], _∷_, flatten, map};
-ghost use Prim.Native.Nat.{_*_};
-ghost use lib.ListN.{length};
-ghost use Rattle.words.specs.Answer.{accepted};
-ghost use Rattle.operations.specs.Marks.{sizeOf, refit};
 ghost use Rattle.operations.specs.ExchangeCall.{exchangeCall};
-ghost use Rattle.operations.specs.Exchange.{setIn, recomputedIn, fault as Exchange·fault, newTree, outcomes};
+ghost use Rattle.operations.specs.Exchange.{fault as Exchange·fault, exchangeAnswer, exchangeChapter, exchangeMarks};
 ghost use Rattle.exchanger.specs.ExchangeAnswer.{answerInExchanged};
 use super::Exchanged;
 use super::replace::move_tail;
@@ -29,28 +24,21 @@ pub(crate) fn replace_subtree(
     requires { ⌜ Exchange·fault (exchangeCall (now alphabet) (now table) (now chapter) (now marks) count element (now replacement)) ≡ 0 ⌝ }
     ensures answer { λ r. ⌜
         answerInExchanged r
-        ≡ accepted
-        (length (newTree (exchangeCall (now (alphabet .entry)) (now (table .entry)) (now (chapter .entry)) (now (marks .entry)) count element
-        (now (replacement .entry))))
-        ∷ recomputedIn
-        (outcomes (exchangeCall (now (alphabet .entry)) (now (table .entry)) (now (chapter .entry)) (now (marks .entry)) count element
-        (now (replacement .entry))))
-        ∷ [])
+        ≡ exchangeAnswer
+        (exchangeCall (now (alphabet .entry)) (now (table .entry)) (now (chapter .entry)) (now (marks .entry)) count element
+        (now (replacement .entry)))
         ⌝ }
     ensures chapter { λ _. ⌜
         now (chapter .exit)
-        ≡ refit count
-        (newTree (exchangeCall (now (alphabet .entry)) (now (table .entry)) (now (chapter .entry)) (now (marks .entry)) count element
-        (now (replacement .entry))))
-        (now (chapter .entry))
+        ≡ exchangeChapter
+        (exchangeCall (now (alphabet .entry)) (now (table .entry)) (now (chapter .entry)) (now (marks .entry)) count element
+        (now (replacement .entry)))
         ⌝ }
     ensures marks { λ _. ⌜
         now (marks .exit)
-        ≡ refit (count * sizeOf (now (table .entry)))
-        (flatten (map setIn
-        (outcomes (exchangeCall (now (alphabet .entry)) (now (table .entry)) (now (chapter .entry)) (now (marks .entry)) count element
-        (now (replacement .entry))))))
-        (now (marks .entry))
+        ≡ exchangeMarks
+        (exchangeCall (now (alphabet .entry)) (now (table .entry)) (now (chapter .entry)) (now (marks .entry)) count element
+        (now (replacement .entry)))
         ⌝ }
 {
     let size = set_size(table);

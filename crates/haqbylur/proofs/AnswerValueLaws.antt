@@ -8,9 +8,6 @@ use Rattle.operations.specs.Listing.{listAnswer}
 use Rattle.operations.specs.ExchangeCall.{ExchangeCall}
 use Rattle.operations.specs.Exchange.{exchangeAnswer}
 use Rattle.operations.proofs.ValueLaws.{compile-value, run-values, list-value, exchange-values}
-use Rattle.compiler.specs.declared.Compiled.{Compiled}
-use Rattle.compiler.specs.declared.Compiled.the-variants.{Table}
-use Rattle.compiler.specs.CompileAnswer.{answerInCompiled}
 use Rattle.matcher.specs.declared.Ran.{Ran}
 use Rattle.matcher.specs.declared.Ran.the-variants.{Marked}
 use Rattle.matcher.specs.declared.Listed.{Listed}
@@ -19,6 +16,9 @@ use Rattle.matcher.specs.MatcherAnswers.{answerInRan, answerInListed}
 use Rattle.exchanger.specs.declared.Exchanged.{Exchanged}
 use Rattle.exchanger.specs.declared.Exchanged.the-variants.{Replaced}
 use Rattle.exchanger.specs.ExchangeAnswer.{answerInExchanged}
+use Rattle.compiler.specs.declared.Compiled.{Compiled}
+use Rattle.compiler.specs.declared.Compiled.the-variants.{Table}
+use Rattle.compiler.specs.CompileAnswer.{answerInCompiled}
 
 pub compile-small : (a e slice : List ℕ) {k : ℕ} (r : Compiled) → r ≡ Table k → answerInCompiled r ≡ compileAnswer a e slice → k < 2 ^ 32
 compile-small a e slice r told answer = compile-value a e slice (rw told at answer)

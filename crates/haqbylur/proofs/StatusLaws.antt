@@ -4,9 +4,6 @@ use mathlib.Core.Path.{_≡_}
 use mathlib.Core.List.{List, [], _∷_}
 use Prim.Native.Nat.{ℕ}
 use Rattle.words.specs.Answer.{Answer, refused, accepted, valueOr}
-use Rattle.compiler.specs.declared.Compiled.{Compiled}
-use Rattle.compiler.specs.declared.Compiled.the-variants.{Table, Refused as Compiled·Refused}
-use Rattle.compiler.specs.CompileAnswer.{answerInCompiled}
 use Rattle.matcher.specs.declared.Ran.{Ran}
 use Rattle.matcher.specs.declared.Ran.the-variants.{Marked, Refused as Ran·Refused}
 use Rattle.matcher.specs.declared.Listed.{Listed}
@@ -15,6 +12,9 @@ use Rattle.matcher.specs.MatcherAnswers.{answerInRan, answerInListed}
 use Rattle.exchanger.specs.declared.Exchanged.{Exchanged}
 use Rattle.exchanger.specs.declared.Exchanged.the-variants.{Replaced, Refused as Exchanged·Refused}
 use Rattle.exchanger.specs.ExchangeAnswer.{answerInExchanged}
+use Rattle.compiler.specs.declared.Compiled.{Compiled}
+use Rattle.compiler.specs.declared.Compiled.the-variants.{Table, Refused as Compiled·Refused}
+use Rattle.compiler.specs.CompileAnswer.{answerInCompiled}
 use Rattle.haqbylur.specs.Status.{statusOf}
 
 module _ {X : Answer} {s s′ : List ℕ} where

@@ -11,8 +11,8 @@ use lib.Seq.{getD-set-same, getD-set-other}
 use lib.Dec.{ltb}
 use borrow.Author.Tests.{lt-ltb, le-ltb}
 use Rattle.words.specs.Limits.{tableMost}
-use Rattle.index.proofs.ChainLaws.{nextWith, next-over, next-here, next-past, Keyed}
 use Rattle.index.specs.Index.{keyOf, indexedAt, indexBack, indexOf, Insertable, indexLength, keyCount}
+use Rattle.index.proofs.ChainLaws.{nextWith, next-over, next-here, next-past, Keyed}
 
 -- ---- one word is put
 

@@ -12,8 +12,8 @@ use Rattle.words.specs.Limits.{alphabetMost}
 use Rattle.words.specs.Postfix.{oneTree, notOneTree}
 use Rattle.words.specs.Chapter.{treeFault}
 use Rattle.words.specs.ExpressionWords.{isExpressionWord, notExpressionWords}
-use Rattle.words.proofs.AcceptedTree.{tree-accepted, accepted-tree}
 use Rattle.words.specs.ExactlyOne.{ExactlyOne}
+use Rattle.words.proofs.AcceptedTree.{tree-accepted, accepted-tree}
 use Rattle.language.specs.Expression.{ExpressionOf, SubjectOf}
 use Rattle.language.proofs.SubjectLaws.{subject-nodes, subject-oneTree, exactly-one-subject}
 use Rattle.language.proofs.ExpressionLaws.{expression-words, expression-oneTree, exactly-one-expression}

@@ -13,10 +13,10 @@ use Rattle.words.specs.Alphabet.{isConstant}
 use Rattle.words.specs.Tree.{Tree, none, more, postfix, postfixAll}
 use Rattle.words.specs.Postfix.{arity, oneTree, stackAfter}
 use Rattle.words.specs.ExpressionWords.{namesAt, isExpressionWord}
-use Rattle.words.proofs.RankedTree.{Ranked, RankedAll}
-use Rattle.words.proofs.TestLaws.{true-and, all-append}
 use Rattle.words.specs.ExactlyOne.{ExactlyOne}
 use Rattle.words.specs.Limits.{alphabetMost}
+use Rattle.words.proofs.RankedTree.{Ranked, RankedAll}
+use Rattle.words.proofs.TestLaws.{true-and, all-append}
 use Rattle.words.proofs.ExactlyOneLaws.{one-along}
 use Rattle.words.proofs.WordLaws.{arity-wordOf, isExpressionWord-wordOf}
 use Rattle.words.proofs.ReadingLaws.{stack-tree, oneTree-tree}

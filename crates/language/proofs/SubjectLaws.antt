@@ -11,10 +11,10 @@ use Rattle.words.specs.Word.{nodeKind, wordOf}
 use Rattle.words.specs.Tree.{Tree, Trees, node, none, more, postfix, postfixAll}
 use Rattle.words.specs.Postfix.{arity, oneTree}
 use Rattle.words.specs.Chapter.{symbolOf, isNode}
-use Rattle.words.proofs.RankedTree.{Ranked, RankedAll}
-use Rattle.words.proofs.TestLaws.{and-true, true-and, all-left, all-right, all-append}
 use Rattle.words.specs.ExactlyOne.{ExactlyOne}
 use Rattle.words.specs.Limits.{alphabetMost}
+use Rattle.words.proofs.RankedTree.{Ranked, RankedAll}
+use Rattle.words.proofs.TestLaws.{and-true, true-and, all-left, all-right, all-append}
 use Rattle.words.proofs.ExactlyOneLaws.{one-along}
 use Rattle.words.proofs.WordLaws.{arity-wordOf, isNode-facts, isNode-wordOf, symbolOf-wordOf}
 use Rattle.words.proofs.RelabelLaws.{relabel, relabelAll, number-relabel, postfix-relabel}

@@ -11,10 +11,10 @@ use Rattle.words.specs.Word.{nodeKind, wordOf}
 use Rattle.words.specs.Tree.{Tree, Trees, node, none, more}
 use Rattle.words.specs.Postfix.{arity, oneTree, startOf, subtreeOf, values}
 use Rattle.words.specs.Chapter.{symbolOf, isNode}
-use Rattle.words.proofs.TreeFold.{fold, foldAll}
-use Rattle.words.proofs.TestLaws.{all-left, all-right}
 use Rattle.words.specs.ExactlyOne.{ExactlyOne}
 use Rattle.words.specs.Limits.{alphabetMost}
+use Rattle.words.proofs.TreeFold.{fold, foldAll}
+use Rattle.words.proofs.TestLaws.{all-left, all-right}
 use Rattle.words.proofs.WordLaws.{symbolOf-wordOf}
 use Rattle.words.proofs.RelabelLaws.{relabelAll}
 use Rattle.words.proofs.PostfixLaws.{sub-tree}

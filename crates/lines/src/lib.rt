@@ -1,10 +1,10 @@
 // Writers of the lines that `marklist` prints.
-ghost use Rattle.lines.specs.Line.{refusedLine, headLine, hitLine, hitLines};
-ghost use Rattle.encoding.specs.ByteWriting.{BytesWritten};
 ghost use mathlib.Core.Path.{_≡_};
 ghost use mathlib.Core.List.{_++_};
 ghost use lib.ListN.{length, getD};
 ghost use Rattle.words.specs.Chapter.{symbolOf};
+ghost use Rattle.encoding.specs.ByteWriting.{BytesWritten};
+ghost use Rattle.lines.specs.Line.{refusedLine, headLine, hitLine, hitLines};
 use encoding::byte_writer::write_field;
 use encoding::byte_writer::write_text;
 use syntax::postfix::subtree_start;

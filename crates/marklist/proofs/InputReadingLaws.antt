@@ -7,10 +7,10 @@ use lib.ListN.{length, take, drop, length-append}
 use lib.Seq.{sets, length-sets, length-front, length-take-le}
 use lib.Dec.{ltb}
 use mathlib.Core.Bool.{true}
-use Rattle.report.specs.Stages.{bufferWords}
 use Rattle.words.proofs.TestLaws.{all-append}
 use Rattle.encoding.specs.Words.{areBytes, wordsIn}
 use Rattle.encoding.proofs.WordByteLaws.{kept-parts}
+use Rattle.report.specs.Stages.{bufferWords}
 use Rattle.marklist.specs.InputReading.{Stored}
 
 -- a part of the buffer that was lent and came back is as long as before

@@ -6,13 +6,13 @@ use Prim.Native.Nat.{ℕ, _≤_, min}
 use native.Mathlib.Omega.{arith}
 use lib.ListN.{length, getD, take, drop}
 use lib.Seq.{length-sets, take-all, length-take-le}
-use Rattle.lines.specs.Line.{refusedLine}
-use Rattle.report.specs.Stages.{alphabetKept, ruleKept, chapterKept, bufferLength}
-use Rattle.report.specs.Output.{outputOf}
 use lib.Dec.{ltb}
 use Rattle.words.proofs.TestLaws.{all-append}
 use Rattle.encoding.specs.Words.{areBytes, wordsIn}
 use Rattle.encoding.proofs.WordByteLaws.{length-wordsIn, wordsIn-append, kept-words}
+use Rattle.lines.specs.Line.{refusedLine}
+use Rattle.report.specs.Stages.{alphabetKept, ruleKept, chapterKept, bufferLength}
+use Rattle.report.specs.Output.{outputOf}
 use Rattle.report.specs.Input.{complete, alphabetIn, ruleIn, chapterIn, programOutput}
 use Rattle.report.proofs.OutputLength.{output-short}
 use Rattle.report.proofs.KeptLaws.{early-output}
@@ -58,7 +58,8 @@ counts-are {before} {after} s e =
 -- ---- all parts
 
 module _ (counts₀ counts alphabet₀ alphabet rule₀ rule chapter₀ chapter : List ℕ)
-    (few : length counts₀ ≡ 3) (symbols : length alphabet₀ ≡ alphabetKept) (words : length rule₀ ≡ ruleKept) (nodes : length chapter₀ ≡ chapterKept)
+    (few : length counts₀ ≡ 3) (symbols : length alphabet₀ ≡ alphabetKept) (words : length rule₀ ≡ ruleKept)
+    (nodes : length chapter₀ ≡ chapterKept)
     (c : Stored 3 counts₀ counts) (s : Stored (getD counts 0 0) alphabet₀ alphabet) (t : Stored (getD counts 1 0) rule₀ rule)
     (u : Stored (getD counts 2 0) chapter₀ chapter) where
   -- the bytes that were read
@@ -115,7 +116,8 @@ printed false a e ch before after r whole long same =
 
 module _ {counts alphabet rule chapter : List ℕ} {b₁ b₂ b₃ b₄ : Bool}
     (first : ReadAll true 3 (zeros 3) counts b₁) (second : ReadAll b₁ (getD counts 0 0) (zeros alphabetKept) alphabet b₂)
-    (third : ReadAll b₂ (getD counts 1 0) (zeros ruleKept) rule b₃) (fourth : ReadAll b₃ (getD counts 2 0) (zeros chapterKept) chapter b₄) where
+    (third : ReadAll b₂ (getD counts 1 0) (zeros ruleKept) rule b₃)
+    (fourth : ReadAll b₃ (getD counts 2 0) (zeros chapterKept) chapter b₄) where
   read-input : b₄ ≡ true → (input : List ℕ)
       × (areBytes input ≡ true)
       × (programOutput input

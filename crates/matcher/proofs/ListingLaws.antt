@@ -8,13 +8,13 @@ use native.Mathlib.Nat.{zero-add, add-zero, add-suc, suc-add}
 use lib.ListN.{length, take, drop, length-append}
 use lib.Seq.{sets, sets-eq, take-at, drop-append-add, drop-drop}
 use Rattle.words.specs.Lists.{listFrom, writtenOver}
-use Rattle.words.proofs.ListLaws.{listFrom-add, length-listFrom}
 use Rattle.words.specs.Answer.{refused, accepted}
+use Rattle.words.proofs.ListLaws.{listFrom-add, length-listFrom}
+use Rattle.words.proofs.AnswerLaws.{answer-refused, answer-accepted, exit-refused, exit-accepted}
 use Rattle.automaton.specs.StateSet.{StateSet, contains}
 use Rattle.operations.specs.Marks.{sizeOf, finalOf, storedSet}
 use Rattle.operations.specs.Listing.{matchesIn, matchesOf, listFault, listAnswer, listExit}
 use Rattle.operations.proofs.MatchLaws.{matches-few, matchesOf-few}
-use Rattle.words.proofs.AnswerLaws.{answer-refused, answer-accepted, exit-refused, exit-accepted}
 
 module _ (final : ℕ) where
   matches-append : (l k : List StateSet) (i : ℕ) → matchesIn final i (l ++ k) ≡ matchesIn final i l ++ matchesIn final (i + length l) k

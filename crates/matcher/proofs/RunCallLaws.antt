@@ -9,8 +9,9 @@ use lib.Seq.{length-take-le, take-length}
 use Rattle.words.specs.Lists.{listFrom}
 use Rattle.words.specs.Shape.{stackGivenBy}
 use Rattle.words.specs.Postfix.{values}
-use Rattle.words.proofs.ListLaws.{length-listFrom}
 use Rattle.words.specs.Answer.{refused, accepted}
+use Rattle.words.proofs.ListLaws.{length-listFrom}
+use Rattle.words.proofs.AnswerLaws.{answer-refused, answer-accepted, exit-refused, exit-accepted}
 use Rattle.automaton.specs.StateSet.{StateSet}
 use Rattle.operations.specs.Marks.{sizeOf, nodeSet, nodeSets, storedSet}
 use Rattle.operations.specs.Run.{runFault, runMarks, cellsIn, runAnswer, runExit}
@@ -18,9 +19,8 @@ use Rattle.operations.proofs.AcceptedLaws.{run-accepted}
 use Rattle.operations.proofs.RunLaws.{run-writes, run-length}
 use Rattle.sets.specs.Size.{marksMost}
 use Rattle.sets.proofs.SizeLaws.{words-few}
-use Rattle.words.proofs.AnswerLaws.{answer-refused, answer-accepted, exit-refused, exit-accepted}
-use Rattle.nodes.proofs.LoopLaws.{Recomputing}
 use Rattle.nodes.specs.Nodes.{markedFrom, Workable}
+use Rattle.nodes.proofs.LoopLaws.{Recomputing}
 use Rattle.nodes.proofs.MarkedSets.{markedSets, markedSets-recomputing}
 use Rattle.nodes.proofs.MarkLaws.{holding-stored, markedFrom-rows}
 use Rattle.nodes.proofs.WorkableLaws.{workable-size, run-workable}

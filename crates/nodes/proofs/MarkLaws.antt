@@ -18,9 +18,9 @@ use Rattle.operations.proofs.MarksLaws.{Sized, storedSet-flatten}
 use Rattle.sets.proofs.RowLaws.{paste-row, sized-set, sized-stored, stored-split}
 use Rattle.memo.specs.Memo.{setOver}
 use Rattle.memo.proofs.NodeWritingLaws.{length-setOver}
+use Rattle.nodes.specs.Nodes.{setFrom, markedAt, markedFrom}
 use Rattle.nodes.proofs.LoopLaws.{setAt}
 use Rattle.nodes.proofs.LoopLaws as loops
-use Rattle.nodes.specs.Nodes.{setFrom, markedAt, markedFrom}
 use Rattle.nodes.proofs.MarkedSets.{markedSets, length-markedSets}
 
 -- the marks begin with these state sets

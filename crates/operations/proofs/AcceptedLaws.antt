@@ -25,7 +25,8 @@ use Rattle.operations.specs.Marks.{sizeOf}
 use Rattle.operations.specs.Run.{wrongCount, marksTooShort, tableRefusals, markedRefusals, runFault}
 use Rattle.operations.specs.Listing.{listTooShort, listFault}
 use Rattle.operations.specs.ExchangeCall.{ExchangeCall}
-use Rattle.operations.specs.Exchange.{wrongUsedCount, noElement, noReplacement, resultTooLong, changeRefusals, exchangeFault, used, fault}
+use Rattle.operations.specs.Exchange.{wrongUsedCount, noElement, noReplacement, resultTooLong, changeRefusals}
+use Rattle.operations.specs.Exchange.{exchangeFault, used, fault}
 
 -- ---- an alphabet and a rule
 

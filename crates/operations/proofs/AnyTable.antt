@@ -11,11 +11,13 @@ use Rattle.words.specs.Tree.{Tree}
 use Rattle.words.specs.Limits.{alphabetMost, compiledMost}
 use Rattle.words.specs.Chapter.{symbolOf}
 use Rattle.words.specs.Postfix.{arity, subtreeOf, childrenOf}
+use Rattle.words.specs.ExactlyOne.{ExactlyOne}
+use Rattle.words.specs.Answer.{accepted}
 use Rattle.words.proofs.AcceptedAlphabet.{alphabet-accepted}
 use Rattle.words.proofs.AcceptedTree.{AcceptedTree, tree-accepted}
-use Rattle.words.specs.ExactlyOne.{ExactlyOne}
 use Rattle.words.proofs.ChildLaws.{values-children}
 use Rattle.words.proofs.StackLaws.{Right}
+use Rattle.words.proofs.AnswerLaws.{accepted-values}
 use Rattle.language.specs.Expression.{SubjectOf}
 use Rattle.language.proofs.SubjectSubtreeLaws.{exactly-one-subtree}
 use Rattle.automaton.specs.Transition.{automatonOf}
@@ -25,8 +27,6 @@ use Rattle.automaton.specs.Table.{isTable, noTable}
 use Rattle.automaton.proofs.ClosureLaws.{TargetsBelow, targets-below, stateSet-reached, stateSet-beyond}
 use Rattle.automaton.proofs.TreeSets.{treeSet, treeSet-reaches}
 use Rattle.automaton.proofs.TableLaws.{isTable-automaton}
-use Rattle.words.proofs.AnswerLaws.{accepted-values}
-use Rattle.words.specs.Answer.{accepted}
 use Rattle.operations.specs.Compile.{compileAnswer, compileExit}
 use Rattle.operations.specs.Marks.{sizeOf, nodeSet, ReachedSet, nodeSets, storedSet}
 use Rattle.operations.specs.Run.{runFault, runMarks, runAnswer, runExit}

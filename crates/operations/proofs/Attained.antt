@@ -10,11 +10,11 @@ use Rattle.words.specs.Shape.{treesBy, startFromBy, spliceBy}
 use Rattle.words.specs.Postfix.{arity, notOneTree}
 use Rattle.words.specs.ExpressionWords.{isExpressionWord, wrongLength, notExpressionWords}
 use Rattle.words.specs.Chapter.{isNode, notNodes}
+use Rattle.words.specs.Answer.{Answer, refused}
 use Rattle.automaton.specs.Transition.{automatonOf}
 use Rattle.automaton.specs.Numbering.{hasEntries, statesOf, portOf, ownTransitions, portsFrom, statesAfter, transitionsFrom, compiled}
 use Rattle.automaton.specs.Table.{isHead, isTableWord, sourcesLeft, areTransitions, isTable, noTable}
 use Rattle.automaton.specs.StateSet.{sizeFor}
-use Rattle.words.specs.Answer.{Answer, refused}
 use Rattle.operations.specs.Compile.{tooManyStates, tableTooLong, compileAnswer}
 use Rattle.operations.specs.Marks.{sizeOf}
 use Rattle.operations.specs.Run.{wrongCount, marksTooShort, runAnswer}

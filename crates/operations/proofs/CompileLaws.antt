@@ -7,10 +7,12 @@ use mathlib.Core.List.{List, [], _∷_}
 use native.Mathlib.Omega.{arith}
 use lib.ListN.{length, take}
 use Rattle.words.specs.Limits.{alphabetMost, compiledMost}
+use Rattle.words.specs.ExactlyOne.{ExactlyOne}
+use Rattle.words.specs.Answer.{accepted}
 use Rattle.words.proofs.ListLaws.{take-over}
 use Rattle.words.proofs.AcceptedAlphabet.{alphabet-accepted}
 use Rattle.words.proofs.AcceptedExpression.{expression-passed}
-use Rattle.words.specs.ExactlyOne.{ExactlyOne}
+use Rattle.words.proofs.AnswerLaws.{accepted-values}
 use Rattle.language.specs.Expression.{ExpressionOf}
 use Rattle.language.proofs.ExpressionLaws.{exactly-one-expression}
 use Rattle.automaton.specs.Transition.{automatonOf}
@@ -19,8 +21,6 @@ use Rattle.automaton.specs.Table.{isTable, AutomatonOver}
 use Rattle.automaton.proofs.DecodeLaws.{automatonOf-words}
 use Rattle.automaton.proofs.CompiledOver.{compiled-over}
 use Rattle.automaton.proofs.CompiledTable.{compiled-isTable, table-most}
-use Rattle.words.proofs.AnswerLaws.{accepted-values}
-use Rattle.words.specs.Answer.{accepted}
 use Rattle.operations.specs.Compile.{compiledTable, compileFault, compileAnswer, compileExit}
 use Rattle.operations.proofs.AcceptedLaws.{compile-accepted}
 

@@ -8,8 +8,8 @@ use native.Mathlib.Omega.{arith}
 use lib.ListN.{length}
 use Rattle.words.specs.Lists.{writtenOver}
 use Rattle.words.specs.Refusal.{Refusals, refusal}
-use Rattle.words.proofs.RefusalLaws.{positive, none-refusal, refusal-none, refusal-is-first, first-is-refusal, first-positive}
 use Rattle.words.specs.Answer.{refused, answerOf}
+use Rattle.words.proofs.RefusalLaws.{positive, none-refusal, refusal-none, refusal-is-first, first-is-refusal, first-positive}
 use Rattle.words.proofs.AnswerLaws.{answer-refused, answer-accepted, refused-number, accepted-values, refused-exit}
 use Rattle.operations.specs.Compile.{compiledTable, compileRefusals, compileAnswer, compileExit}
 use Rattle.operations.specs.Marks.{sizeOf, nodeSets, refit}

@@ -12,7 +12,10 @@ use Rattle.words.specs.Limits.{alphabetMost}
 use Rattle.words.specs.Tree.{Tree}
 use Rattle.words.specs.Postfix.{subtreeOf}
 use Rattle.words.specs.ExactlyOne.{ExactlyOne}
+use Rattle.words.specs.Answer.{accepted}
 use Rattle.words.proofs.AcceptedTree.{tree-accepted}
+use Rattle.words.proofs.ListLaws.{take-over}
+use Rattle.words.proofs.AnswerLaws.{accepted-values}
 use Rattle.language.specs.Expression.{Expression, ExpressionOf, SubjectOf}
 use Rattle.language.specs.Membership.{Member}
 use Rattle.language.proofs.ExpressionLaws.{expression-of}
@@ -24,9 +27,6 @@ use Rattle.automaton.specs.Reached.{Reaches}
 use Rattle.automaton.proofs.ClosureLaws.{TargetsBelow, targets-below}
 use Rattle.automaton.proofs.TreeSets.{treeSet, treeSet-reaches}
 use Rattle.automaton.proofs.Thompson.{thompson}
-use Rattle.words.proofs.ListLaws.{take-over}
-use Rattle.words.proofs.AnswerLaws.{accepted-values}
-use Rattle.words.specs.Answer.{accepted}
 use Rattle.operations.specs.Compile.{compiledTable}
 use Rattle.operations.specs.Marks.{finalOf, nodeSets}
 use Rattle.operations.specs.Run.{runFault, runMarks, runAnswer, runExit, cellsIn}

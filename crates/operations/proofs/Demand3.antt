@@ -2,19 +2,19 @@
 -- chapter. The memory and the plain chapter are related (`Related`) at the start and behind each call; by recursion over the
 -- list they are behind all of them, and all that is claimed follows.
 use mathlib.Core.Path.{_≡_, refl, ap, ap₂, _∙_, sym}
-use mathlib.Core.List.{List, [], _∷_, _++_, map, flatten, head-eq-of-cons-eq}
-use Prim.Native.Nat.{ℕ, _+_, _*_, _<_}
+use mathlib.Core.List.{List, [], _∷_, map, flatten, head-eq-of-cons-eq}
+use Prim.Native.Nat.{ℕ, _*_}
 use native.Mathlib.Omega.{arith}
-use lib.ListN.{length, take, length-append, take-append-drop}
+use lib.ListN.{length, take}
 use lib.Dec.{eqb}
 use borrow.Author.Tests.{eqb-true}
 use Rattle.words.specs.Postfix.{splice}
+use Rattle.words.specs.Lists.{writtenOver}
+use Rattle.words.specs.Answer.{answerOf, exitOf}
 use Rattle.words.proofs.TestLaws.{Tested, holds, fails, tested}
 use Rattle.words.proofs.AcceptedTree.{tree-accepted}
-use Rattle.automaton.specs.StateSet.{StateSet}
-use Rattle.words.specs.Lists.{writtenOver}
 use Rattle.words.proofs.AnswerLaws.{accepted-values}
-use Rattle.words.specs.Answer.{answerOf, exitOf}
+use Rattle.automaton.specs.StateSet.{StateSet}
 use Rattle.operations.specs.Marks.{sizeOf, nodeSets, storedSet, refit}
 use Rattle.operations.specs.Run.{runFault, runMarks, runAnswer, runExit, cellsIn}
 use Rattle.operations.specs.Listing.{matchesOf, listFault, listAnswer, listExit}

@@ -14,26 +14,26 @@ use Rattle.words.specs.Postfix.{arity, notOneTree, startOf}
 use Rattle.words.specs.ExpressionWords.{isExpressionWord, wrongLength, notExpressionWords}
 use Rattle.words.specs.Chapter.{symbolOf, isNode, notNodes}
 use Rattle.words.specs.Tree.{Tree}
+use Rattle.words.specs.Answer.{Answer, refused, accepted, valueOr}
 use Rattle.language.specs.Expression.{Expression, empty, union, product, closure}
 use Rattle.language.specs.Membership.{constant, Member}
 use Rattle.language.proofs.MembershipExamples.{con, fᵉ, f as fᵗ, closure-empty, by-empty, by-empty-none}
 use Rattle.language.proofs.MembershipExamples.{separately, put-once, not-twice, closure-joined}
-use Rattle.automaton.proofs.CompiledExample.{alphabet, rule}
 use Rattle.automaton.specs.Transition.{transitionsAt, automatonOf, headWord}
 use Rattle.automaton.specs.Numbering.{hasEntries, statesOf, portOf, ownTransitions, portsFrom, statesAfter, transitionsFrom, compiled}
 use Rattle.automaton.specs.Table.{isHead, isTableWord, sourcesLeft, areTransitions, isTable, noTable}
 use Rattle.automaton.specs.StateSet.{sizeFor, contains, insert, allContained, symbolPass, epsilonPass, epsilonClosure, stateSet}
-use Rattle.words.specs.Answer.{Answer, refused, accepted, valueOr}
+use Rattle.automaton.proofs.CompiledExample.{alphabet, rule}
 use Rattle.operations.specs.Compile.{compiledTable, compileFault, tooManyStates, tableTooLong}
 use Rattle.operations.specs.Marks.{sizeOf, finalOf, nodeSet, nodeSets, storedSet, sameWords, refit}
 use Rattle.operations.specs.Run.{wrongCount, marksTooShort, runFault, runMarks, cellsIn, runAnswer, runExit}
 use Rattle.operations.specs.Listing.{matchesIn, matchesOf}
 use Rattle.operations.specs.Demands.{Calls, AllAccepted, namesOf}
-use Rattle.operations.proofs.Demand2.{demand2, demand2-of}
 use Rattle.operations.specs.ExchangeCall.{exchangeCall}
 use Rattle.operations.specs.Exchange.{wrongUsedCount, noElement, noReplacement, resultTooLong, recomputedIn}
 use Rattle.operations.specs.Exchange.{propagate, rootSet, outcomesBehind, outcomesAfter, fault, newTree}
 use Rattle.operations.specs.Exchange.{outcomes, exchangeAnswer, exchangeChapter, exchangeMarks}
+use Rattle.operations.proofs.Demand2.{demand2, demand2-of}
 
 -- nodes
 abbrev a : ℕ

@@ -9,10 +9,10 @@ use lib.ListN.{length, getD, length-map, List·getD-map}
 use lib.Seq.{length-take-le}
 use Rattle.words.specs.Chapter.{symbolOf}
 use Rattle.words.specs.Postfix.{childrenOf, oneTree}
-use Rattle.words.proofs.AcceptedAlphabet.{alphabet-accepted}
-use Rattle.automaton.specs.StateSet.{StateSet}
-use Rattle.words.proofs.AnswerLaws.{accepted-values}
 use Rattle.words.specs.Answer.{accepted}
+use Rattle.words.proofs.AcceptedAlphabet.{alphabet-accepted}
+use Rattle.words.proofs.AnswerLaws.{accepted-values}
+use Rattle.automaton.specs.StateSet.{StateSet}
 use Rattle.operations.specs.Marks.{sizeOf, nodeSet, ReachedSet, nodeSets, storedSet, refit}
 use Rattle.operations.specs.ExchangeCall.{ExchangeCall}
 use Rattle.operations.specs.Exchange.{kept, recomputed, setIn, recomputedIn, used, fault, newTree, storedIn, outcomes}

@@ -17,9 +17,9 @@ use Rattle.words.proofs.ChildLaws.{roots-more, children-value}
 use Rattle.automaton.specs.StateSet.{StateSet}
 use Rattle.operations.specs.Marks.{nodeSet, nodeSets, sameWords}
 use Rattle.operations.specs.Exchange.{Outcome, kept, recomputed, setIn, keptFrom, propagate, rootSet, outcomesBehind, outcomesAfter}
+use Rattle.operations.specs.Recomputation.{outcomeAt}
 use Rattle.operations.proofs.PropagateLaws.{propagate-beside, propagate-last, propagate-onward}
 use Rattle.operations.proofs.OutcomeLaws.{root-read}
-use Rattle.operations.specs.Recomputation.{outcomeAt}
 
 module _ (a table : List ℕ) where
   abbrev on : ℕ → List StateSet → StateSet

@@ -1,15 +1,15 @@
 -- Every value of an accepted call fits 32 bits.
-use mathlib.Core.Path.{_≡_, refl, sym}
+use mathlib.Core.Path.{_≡_, sym}
 use mathlib.Core.List.{List, [], _∷_, flatten, head-eq-of-cons-eq}
 use Prim.Native.Nat.{ℕ, _*_, _^_, _<_, _≤_}
 use native.Mathlib.Omega.{arith}
 use native.Mathlib.Nat.{le-trans, mul-le-mul-left, mul-le-mul-right}
 use lib.ListN.{length}
 use Rattle.words.specs.Limits.{nodesMost}
+use Rattle.words.specs.Answer.{accepted}
+use Rattle.words.proofs.AnswerLaws.{accepted-values}
 use Rattle.automaton.specs.Transition.{automatonOf}
 use Rattle.automaton.specs.StateSet.{sizeFor}
-use Rattle.words.proofs.AnswerLaws.{accepted-values}
-use Rattle.words.specs.Answer.{accepted}
 use Rattle.operations.specs.Compile.{compileAnswer}
 use Rattle.operations.specs.Marks.{sizeOf, nodeSets}
 use Rattle.operations.specs.Run.{runFault, cellsIn, runAnswer}

@@ -9,9 +9,9 @@ use Rattle.words.specs.Limits.{statesMost}
 use Rattle.words.specs.Refusal.{Refusals, refusal}
 use Rattle.words.specs.Alphabet.{alphabetRefusals}
 use Rattle.words.specs.ExpressionWords.{expressionRefusals}
+use Rattle.words.specs.Answer.{Answer, answerOf, exitOf}
 use Rattle.automaton.specs.Transition.{tableWords}
 use Rattle.automaton.specs.Numbering.{compiled}
-use Rattle.words.specs.Answer.{Answer, answerOf, exitOf}
 
 -- the table of a rule
 abbrev pub compiledTable : List ℕ → List ℕ → List ℕ

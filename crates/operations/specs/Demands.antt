@@ -11,11 +11,11 @@ use Rattle.words.specs.Refusal.{Refusals, First, NoneHolds}
 use Rattle.words.specs.ExactlyOne.{ExactlyOne}
 use Rattle.words.specs.Postfix.{subtreeOf, childrenOf, depthOf}
 use Rattle.words.specs.Chapter.{symbolOf}
+use Rattle.words.specs.Answer.{Answer, refused, accepted}
 use Rattle.language.specs.Expression.{ExpressionOf, SubjectOf}
 use Rattle.language.specs.Reading.{expressionOf}
 use Rattle.language.specs.Membership.{Member}
 use Rattle.automaton.specs.StateSet.{StateSet}
-use Rattle.words.specs.Answer.{Answer, refused, accepted}
 use Rattle.operations.specs.Compile.{compiledTable, compileRefusals, compileAnswer, compileExit}
 use Rattle.operations.specs.Marks.{sizeOf, nodeSet, ReachedSet, nodeSets, storedSet}
 use Rattle.operations.specs.Run.{runRefusals, runAnswer, runExit, cellsIn}
@@ -185,4 +185,5 @@ pub record RecomputesOnly (c : ExchangeCall) (elements workedOut : ℕ) : Type 0
 
 abbrev pub Demand3Recomputation : Type 0
 Demand3Recomputation =
-    (c : ExchangeCall) (elements workedOut : ℕ) → exchangeAnswer c ≡ accepted (elements ∷ workedOut ∷ []) → RecomputesOnly c elements workedOut
+    (c : ExchangeCall) (elements workedOut : ℕ) → exchangeAnswer c ≡ accepted (elements ∷ workedOut ∷ [])
+    → RecomputesOnly c elements workedOut

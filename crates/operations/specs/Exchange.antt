@@ -10,8 +10,8 @@ use Rattle.words.specs.Limits.{nodesMost}
 use Rattle.words.specs.Refusal.{Refusals, refusal}
 use Rattle.words.specs.Chapter.{notNodes}
 use Rattle.words.specs.Postfix.{arity, notOneTree, startOf, isAncestor, splice, valueOn, stackAfter, stackGiven}
-use Rattle.automaton.specs.StateSet.{StateSet}
 use Rattle.words.specs.Answer.{Answer, answerOf, exitOf}
+use Rattle.automaton.specs.StateSet.{StateSet}
 use Rattle.operations.specs.Marks.{sizeOf, nodeSet, nodeSets, storedSet, sameWords, refit}
 use Rattle.operations.specs.ExchangeCall.{ExchangeCall}
 use Rattle.operations.specs.Run.{wrongCount, marksTooShort, tableRefusals, markedRefusals}

@@ -6,8 +6,8 @@ use lib.ListN.{length}
 use lib.Dec.{ltb}
 use Rattle.words.specs.Lists.{listFrom, writtenOver}
 use Rattle.words.specs.Refusal.{Refusals, refusal}
-use Rattle.automaton.specs.StateSet.{StateSet, contains}
 use Rattle.words.specs.Answer.{Answer, answerOf, exitOf}
+use Rattle.automaton.specs.StateSet.{StateSet, contains}
 use Rattle.operations.specs.Marks.{sizeOf, finalOf, storedSet}
 use Rattle.operations.specs.Run.{wrongCount, marksTooShort, tableRefusals}
 

@@ -9,8 +9,8 @@ use Rattle.words.specs.Limits.{outside, nodesMost}
 use Rattle.words.specs.Refusal.{Refusals, refusal}
 use Rattle.words.specs.Alphabet.{alphabetRefusals}
 use Rattle.words.specs.Chapter.{treeRefusals}
-use Rattle.automaton.specs.Table.{noTable}
 use Rattle.words.specs.Answer.{Answer, answerOf, exitOf}
+use Rattle.automaton.specs.Table.{noTable}
 use Rattle.operations.specs.Marks.{sizeOf, nodeSets}
 
 -- 9: "chapter of 0 or over 4,096 elements"

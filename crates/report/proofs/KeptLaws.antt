@@ -70,7 +70,8 @@ keep-alphabet a e ch = go (decLe (length a) alphabetMost)
     go : Dec (length a ≤ alphabetMost) → marklistOutput (take alphabetKept a) e ch ≡ marklistOutput a e ch
     go (yes h) = ap (λ (l : List ℕ). marklistOutput l e ch) (take-all alphabetKept a (omega arith))
     go (no h) =
-        refused-output (take alphabetKept a) e ch 1 (alphabet-long (take alphabetKept a) e ch (kept-one-more a alphabetMost (omega arith))) (omega arith)
+        refused-output (take alphabetKept a) e ch 1
+        (alphabet-long (take alphabetKept a) e ch (kept-one-more a alphabetMost (omega arith))) (omega arith)
         ∙ sym (refused-output a e ch 1 (alphabet-long a e ch (omega arith)) (omega arith))
 
 keep-rule : (a e ch : List ℕ) → marklistOutput a (take ruleKept e) ch ≡ marklistOutput a e ch
@@ -79,7 +80,8 @@ keep-rule a e ch = go (decLe (length e) expressionMost)
     go : Dec (length e ≤ expressionMost) → marklistOutput a (take ruleKept e) ch ≡ marklistOutput a e ch
     go (yes h) = ap (λ (l : List ℕ). marklistOutput a l ch) (take-all ruleKept e (omega arith))
     go (no h) =
-        refused-output a (take ruleKept e) ch _ (rule-long a (take ruleKept e) ch (kept-one-more e expressionMost (omega arith))) (rule-number a)
+        refused-output a (take ruleKept e) ch _
+        (rule-long a (take ruleKept e) ch (kept-one-more e expressionMost (omega arith))) (rule-number a)
         ∙ sym (refused-output a e ch _ (rule-long a e ch (omega arith)) (rule-number a))
 
 keep-chapter : (a e ch : List ℕ) → marklistOutput a e (take chapterKept ch) ≡ marklistOutput a e ch
@@ -88,7 +90,8 @@ keep-chapter a e ch = go (decLe (length ch) chapterMost)
     go : Dec (length ch ≤ chapterMost) → marklistOutput a e (take chapterKept ch) ≡ marklistOutput a e ch
     go (yes h) = ap (marklistOutput a e) (take-all chapterKept ch (omega arith))
     go (no h) =
-        refused-output a e (take chapterKept ch) _ (chapter-long a e (take chapterKept ch) (kept-one-more ch chapterMost (omega arith))) (chapter-number a e)
+        refused-output a e (take chapterKept ch) _
+        (chapter-long a e (take chapterKept ch) (kept-one-more ch chapterMost (omega arith))) (chapter-number a e)
         ∙ sym (refused-output a e ch _ (chapter-long a e ch (omega arith)) (chapter-number a e))
 
 pub kept-output : (a e ch : List ℕ) → marklistOutput (take alphabetKept a) (take ruleKept e) (take chapterKept ch) ≡ marklistOutput a e ch

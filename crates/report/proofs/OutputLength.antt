@@ -23,10 +23,10 @@ use Rattle.operations.specs.Listing.{matchesIn}
 use Rattle.operations.proofs.MatchLaws.{matches-few}
 use Rattle.operations.proofs.MarksLaws.{length-nodeSets}
 use Rattle.encoding.specs.Decimal.{decimal}
+use Rattle.encoding.proofs.DecimalLaws.{decimal-one, decimal-several}
 use Rattle.lines.specs.Line.{refusedLine, headLine, hitLine, hitLines}
 use Rattle.report.specs.Stages.{bufferLength}
 use Rattle.report.specs.Output.{chapterMost, wrongChapter, marklistRefusals, marklistFault, hitsOf, marklistOutput, outputOf}
-use Rattle.encoding.proofs.DecimalLaws.{decimal-one, decimal-several}
 
 -- ---- how many digits a number has
 
@@ -47,7 +47,8 @@ pub refused-short : (n : ℕ) → n < 100 → length (refusedLine n) ≤ 11
 unfolding refusedLine
 refused-short n h = let d = decimal-most 1 n h in simp length-append (omega arith)
 
-head-short : (nodes states hits : ℕ) → nodes ≤ chapterMost → states ≤ statesMost → hits ≤ chapterMost → length (headLine nodes states hits) ≤ 31
+head-short : (nodes states hits : ℕ) → nodes ≤ chapterMost → states ≤ statesMost → hits ≤ chapterMost
+    → length (headLine nodes states hits) ≤ 31
 unfolding headLine
 head-short nodes states hits n s h =
     let x = decimal-most 2 nodes (omega arith) in

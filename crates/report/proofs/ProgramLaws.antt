@@ -8,11 +8,11 @@ use native.Mathlib.Omega.{arith}
 use lib.ListN.{length, take, drop, length-append}
 use lib.Seq.{drop-drop, take-at, drop-at}
 use borrow.Author.Tests.{le-leb, lt-leb}
+use Rattle.encoding.specs.Words.{wordsIn}
+use Rattle.encoding.proofs.WordByteLaws.{length-wordsIn}
 use Rattle.lines.specs.Line.{refusedLine}
 use Rattle.report.specs.Output.{marklistOutput, outputOf}
-use Rattle.encoding.specs.Words.{wordsIn}
 use Rattle.report.specs.Input.{countIn, announced, complete, alphabetIn, ruleIn, chapterIn, programOutput}
-use Rattle.encoding.proofs.WordByteLaws.{length-wordsIn}
 use Rattle.report.specs.Stages.{alphabetKept, ruleKept, chapterKept}
 use Rattle.report.proofs.KeptLaws.{kept-output}
 

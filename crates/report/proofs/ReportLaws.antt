@@ -5,29 +5,29 @@ use mathlib.Core.List.{List, [], _∷_, _++_, head-eq-of-cons-eq}
 use Prim.Native.Nat.{ℕ, _<_, _≤_}
 use native.Mathlib.Omega.{arith}
 use lib.ListN.{length, take, drop, replicate, length-replicate, length-take}
-use Rattle.automaton.specs.Transition.{automatonOf}
 use Rattle.words.specs.Limits.{tableMost}
 use Rattle.words.specs.Answer.{refused, accepted}
 use Rattle.words.proofs.AnswerLaws.{accepted-values}
+use Rattle.automaton.specs.Transition.{automatonOf}
 use Rattle.operations.specs.Compile.{compiledTable, compileAnswer, compileExit}
 use Rattle.operations.specs.Run.{runAnswer, runExit}
 use Rattle.operations.specs.Listing.{matchesOf, listFault, listAnswer, listExit}
 use Rattle.operations.proofs.AcceptedLaws.{list-accepted}
 use Rattle.operations.proofs.CompileLaws.{CompileResult, compile-result}
-use Rattle.compiler.specs.declared.Compiled.{Compiled}
-use Rattle.compiler.specs.declared.Compiled.the-variants.{Table, Refused as Compiled·Refused}
-use Rattle.compiler.specs.CompileAnswer.{answerInCompiled}
+use Rattle.operations.proofs.MatchLaws.{matchesOf-few}
 use Rattle.matcher.specs.declared.Ran.{Ran}
 use Rattle.matcher.specs.declared.Ran.the-variants.{Marked, Refused as Ran·Refused}
 use Rattle.matcher.specs.declared.Listed.{Listed}
 use Rattle.matcher.specs.declared.Listed.the-variants.{Matches, Refused as Listed·Refused}
 use Rattle.matcher.specs.MatcherAnswers.{answerInRan, answerInListed}
-use Rattle.operations.proofs.MatchLaws.{matchesOf-few}
+use Rattle.compiler.specs.declared.Compiled.{Compiled}
+use Rattle.compiler.specs.declared.Compiled.the-variants.{Table, Refused as Compiled·Refused}
+use Rattle.compiler.specs.CompileAnswer.{answerInCompiled}
+use Rattle.encoding.specs.ByteWriting.{BytesWritten}
+use Rattle.encoding.proofs.ByteWritingLaws.{bytes-written-same, bytes-written-whole}
 use Rattle.lines.specs.Line.{refusedLine, headLine, hitLines}
 use Rattle.report.specs.Output.{chapterMost, marklistOutput, outputOf}
 use Rattle.report.specs.Stages.{bufferLength, marksLength, ChapterReportable, HitsReportable}
-use Rattle.encoding.specs.ByteWriting.{BytesWritten}
-use Rattle.encoding.proofs.ByteWritingLaws.{bytes-written-same, bytes-written-whole}
 use Rattle.report.proofs.KeptLaws.{complete-output, early-output}
 use Rattle.report.proofs.OutputLength.{output-short}
 use Rattle.report.proofs.ReportedAnswerLaws.{compile-refused, chapter-over, run-refusal}
@@ -135,7 +135,8 @@ unfolding listAnswer
 hits-most a table n marks {k} q e h =
     let g : accepted (k ∷ []) ≡ listAnswer a table n marks (zeros chapterMost) = rw e at h in
     let v =
-    accepted-values (listFault a table n (length marks) (length (zeros chapterMost))) (length (matchesOf table n marks) ∷ []) (k ∷ []) (sym g) in
+    accepted-values (listFault a table n (length marks) (length (zeros chapterMost))) (length (matchesOf table n marks) ∷ [])
+    (k ∷ []) (sym g) in
     let fits = list-accepted a table n (length marks) (length (zeros chapterMost)) (v .0) .list in
     let long = many chapterMost in
     let few = matchesOf-few table marks n in
@@ -156,18 +157,22 @@ module _ {a e table ch marks : List ℕ} (m : HitsReportable a e table ch marks)
   marks-are : marks ≡ left
   marks-are = m .same ∙ ap (λ (l : List ℕ). runExit a l ch (m .slice)) (t .same)
 
-  same-answer : listAnswer a table (length ch) marks (zeros chapterMost) ≡ listAnswer a (compiledTable a e) (length ch) left (zeros chapterMost)
+  same-answer : listAnswer a table (length ch) marks (zeros chapterMost)
+      ≡ listAnswer a (compiledTable a e) (length ch) left (zeros chapterMost)
   same-answer = ap₂ (λ (l ms : List ℕ). listAnswer a l (length ch) ms (zeros chapterMost)) (t .same) marks-are
 
-  pub never-refused : {f : ℕ} (q : Listed) → q ≡ Listed·Refused f → answerInListed q ≡ listAnswer a table (length ch) marks (zeros chapterMost) → ⊥
+  pub never-refused : {f : ℕ} (q : Listed) → q ≡ Listed·Refused f
+      → answerInListed q ≡ listAnswer a table (length ch) marks (zeros chapterMost) → ⊥
   never-refused {f} q told h =
       let g : refused f ≡ listAnswer a table (length ch) marks (zeros chapterMost) = rw told at h in
-      list-not-refused a e ch (t .slice) (length table) (t .long) (t .answer) (m .few) (m .slice) (zeros chapterMost) (m .long) (many chapterMost)
+      list-not-refused a e ch (t .slice) (length table) (t .long) (t .answer) (m .few)
+      (m .slice) (zeros chapterMost) (m .long) (many chapterMost)
       (m .nodes) (m .cells) runs f
       (g ∙ same-answer)
 
   pub lines-written : {hits states x : ℕ} {out out′ list : List ℕ} (q : Listed) → q ≡ Matches hits
-      → answerInListed q ≡ listAnswer a table (length ch) marks (zeros chapterMost) → list ≡ listExit a table (length ch) marks (zeros chapterMost)
+      → answerInListed q ≡ listAnswer a table (length ch) marks (zeros chapterMost)
+      → list ≡ listExit a table (length ch) marks (zeros chapterMost)
       → states ≡ automatonOf table .states
       → BytesWritten 0 (headLine (length ch) states (length (take hits list)) ++ hitLines a ch (take hits list)) out out′ x
       → BytesWritten 0 (marklistOutput a e ch) out out′ x
@@ -177,13 +182,15 @@ module _ {a e table ch marks : List ℕ} (m : HitsReportable a e table ch marks)
       wrote ∙ ap₂ (λ (l ms : List ℕ). listExit a l (length ch) ms (zeros chapterMost)) (t .same) marks-are in
       let z : states ≡ automatonOf (compiledTable a e) .states = s ∙ ap (λ (l : List ℕ). automatonOf l .states) (t .same) in
       let n : hits ≡ length (take hits list) =
-      listed-long a e ch (t .slice) (length table) (t .long) (t .answer) (m .few) (m .slice) (zeros chapterMost) (m .long) (many chapterMost) (m .nodes)
+      listed-long a e ch (t .slice) (length table) (t .long) (t .answer) (m .few)
+      (m .slice) (zeros chapterMost) (m .long) (many chapterMost) (m .nodes)
       (m .cells) runs hits
       (g ∙ same-answer)
       ∙ sym (ap (λ (ls : List ℕ). length (take hits ls)) l) in
       bytes-written-same w
       (sym
-      (listed-output a e ch (t .slice) (length table) (t .long) (t .answer) (m .few) (m .slice) (zeros chapterMost) (m .long) (many chapterMost) (m .nodes)
+      (listed-output a e ch (t .slice) (length table) (t .long) (t .answer) (m .few)
+      (m .slice) (zeros chapterMost) (m .long) (many chapterMost) (m .nodes)
       (m .cells) runs hits
       (g ∙ same-answer)
       ∙ rw (← l, ← n, z)))

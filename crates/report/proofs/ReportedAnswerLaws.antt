@@ -11,15 +11,15 @@ use borrow.Author.Tests.{le-ltb}
 use Rattle.words.specs.Limits.{tableMost, nodesMost}
 use Rattle.words.specs.Refusal.{Refusals, refusal}
 use Rattle.words.specs.Chapter.{treeRefusals}
+use Rattle.words.specs.Answer.{refused, accepted}
 use Rattle.words.proofs.ListLaws.{take-over}
 use Rattle.words.proofs.LimitLaws.{over-outside}
 use Rattle.words.proofs.RefusalLaws.{here, found-refusal, refuses, first-passes, last-passes}
+use Rattle.words.proofs.AnswerLaws.{refused-number, accepted-values}
 use Rattle.automaton.specs.Transition.{Automaton, automatonOf}
 use Rattle.automaton.specs.StateSet.{sizeFor}
 use Rattle.automaton.specs.Numbering.{compiled}
 use Rattle.automaton.proofs.CompiledTable.{table-most}
-use Rattle.words.specs.Answer.{refused, accepted}
-use Rattle.words.proofs.AnswerLaws.{refused-number, accepted-values}
 use Rattle.operations.specs.Compile.{compiledTable, tableTooLong, ruleRefusals, compileRefusals, compileFault, compileAnswer}
 use Rattle.operations.specs.Marks.{sizeOf, finalOf, nodeSets}
 use Rattle.operations.specs.Run.{wrongCount, marksTooShort, tableRefusals, runFault, runMarks, runAnswer, runExit}
@@ -28,8 +28,8 @@ use Rattle.operations.proofs.AcceptedLaws.{RuleAccepted, rule-accepted}
 use Rattle.operations.proofs.AcceptedLaws.{accepted-table, run-accepted, accepted-list}
 use Rattle.operations.proofs.RunLaws.{run-exit, run-writes, run-length, matches-nodeSets}
 use Rattle.operations.proofs.CompileLaws.{CompileResult, compile-result}
-use Rattle.lines.specs.Line.{refusedLine, headLine, hitLines}
 use Rattle.sets.specs.Size.{setMost}
+use Rattle.lines.specs.Line.{refusedLine, headLine, hitLines}
 use Rattle.report.specs.Stages.{marksLength}
 use Rattle.report.specs.Output.{chapterMost, wrongChapter, chapterRefusals, marklistRefusals, marklistFault, hitsOf, marklistOutput}
 use Rattle.report.proofs.KeptLaws.{refused-output, accepted-output}

@@ -20,9 +20,9 @@ use Rattle.operations.specs.Listing.{matchesIn, matchesOf}
 use Rattle.operations.proofs.RunLaws.{run-writes, matches-nodeSets}
 use Rattle.operations.proofs.Examples.{chapter, examples}
 use Rattle.encoding.specs.Decimal.{digitsWithin, decimal}
+use Rattle.encoding.specs.Words.{wordAt, wordsIn}
 use Rattle.lines.specs.Line.{headLine, hitLine, hitLines}
 use Rattle.report.specs.Output.{wrongChapter, marklistFault, hitsOf}
-use Rattle.encoding.specs.Words.{wordAt, wordsIn}
 use Rattle.report.specs.Input.{programOutput}
 use Rattle.report.proofs.KeptLaws.{complete-output, accepted-output}
 use Rattle.report.proofs.ProgramLaws.{program-complete}

@@ -5,9 +5,9 @@ use Prim.Native.Nat.{ℕ, _+_, _-_}
 use native.Mathlib.Omega.{arith}
 use lib.ListN.{length, take, drop, length-drop, drop-of-length-le}
 use lib.Seq.{paste, take-all, drop-drop}
+use borrow.Rule.Slice.PartMut.{midOf, postOf, putMid}
 use Rattle.words.specs.Lists.{writtenOver}
 use Rattle.words.proofs.ScanLaws.{drop-part}
-use borrow.Rule.Slice.PartMut.{midOf, postOf, putMid}
 
 module _ (m : List ℕ) (a : ℕ) where
   tail-mid : midOf a (length m - a) m ≡ drop a m

@@ -9,10 +9,10 @@ use lib.ListN.{length, getD, replicate, length-append, length-replicate}
 use Rattle.words.specs.Word.{wordRange}
 use Rattle.words.proofs.TestLaws.{same-truth}
 use Rattle.words.proofs.AllLaws.{each-append}
-use Rattle.automaton.proofs.PassLaws.{closed-test}
 use Rattle.automaton.specs.Transition.{Automaton, onSymbol, automatonOf}
 use Rattle.automaton.specs.StateSet.{StateSet, sizeFor, contains, allContained, stateSet}
 use Rattle.automaton.specs.Reached.{Reached}
+use Rattle.automaton.proofs.PassLaws.{closed-test}
 use Rattle.automaton.proofs.BitLaws.{words-replicate, contains-replicate, contains-determines}
 use Rattle.automaton.proofs.ClosureLaws.{targets-below, seeded-closed-all, words-stateSet, stateSet-reached}
 use Rattle.automaton.proofs.SetLength.{length-stateSet}

@@ -8,11 +8,11 @@ use native.Mathlib.Numerals.{add-one}
 use lib.ListN.{length}
 use lib.Dec.{ltb, leb}
 use borrow.Author.Tests.{eq-eqb, ne-eqb, lt-ltb, le-ltb}
-use Rattle.words.proofs.TestLaws.{and-none}
 use Rattle.words.specs.Word.{Kind, headKind, transitionKind, epsilonKind, sourceKind, kindNumber, numberOf}
 use Rattle.words.specs.Word.{hasKind, spareBitsClear, isOf, symbolAbove, countAbove, stateAbove, stateBelow}
 use Rattle.words.specs.Alphabet.{rankOf}
 use Rattle.words.specs.Limits.{statesMost}
+use Rattle.words.proofs.TestLaws.{and-none}
 use Rattle.automaton.specs.Table.{isHead, isTableWord, sourcesLeft}
 
 -- ---- a test of two, by the branch on the first

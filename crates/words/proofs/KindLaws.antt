@@ -7,10 +7,10 @@ use Prim.Native.Nat.{ℕ, _<_, _≤_}
 use native.Mathlib.Omega.{arith}
 use lib.Dec.{eqb}
 use borrow.Author.Tests.{eq-eqb, ne-eqb, eqb-true, lt-ltb, ltb-true}
-use Rattle.words.proofs.TestLaws.{Tested, holds, fails, tested, and-true, true-and}
 use Rattle.words.specs.Word.{Kind, entryKind, symbolKind, emptyKind, unionKind, productKind, closureKind, nodeKind, kindUnit}
 use Rattle.words.specs.Word.{headKind, transitionKind, epsilonKind, sourceKind, noKind, kinds, kindAmong, kindAt, kindNumber}
 use Rattle.words.specs.Word.{numberOf, kindOf, hasKind, bodyOf, fieldRange, spareBitsClear, isOf, wordOf, lowByte}
+use Rattle.words.proofs.TestLaws.{Tested, holds, fails, tested, and-true, true-and}
 
 -- ---- a kind and its number
 

@@ -12,8 +12,8 @@ use lib.Dec.{leb}
 use borrow.Author.Tests.{leb-true, eqb-true}
 use Rattle.words.specs.Tree.{Tree, Trees, node, none, more, number, postfix, postfixAll}
 use Rattle.words.specs.Shape.{treesBy, oneTreeBy, stackAfterBy}
-use Rattle.words.proofs.TestLaws.{picked}
 use Rattle.words.specs.ExactlyOne.{ExactlyOne}
+use Rattle.words.proofs.TestLaws.{picked}
 use Rattle.words.proofs.RankedTree.{Ranked, RankedAll}
 use Rattle.words.proofs.TreeFold.{fold, foldAll}
 use Rattle.words.proofs.ReadingLaws.{stack-tree}

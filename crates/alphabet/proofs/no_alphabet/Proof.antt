@@ -1,5 +1,5 @@
 -- `alphabet::no_alphabet` meets its contract: it asks for the length, and then for the entries.
-use mathlib.Core.Path.{sym, _∙_}
+use mathlib.Core.Path.{sym}
 use borrow.Author.Needs.{needs}
 use Rattle.words.specs.Alphabet.{noAlphabet}
 use Rattle.alphabet.proofs.no_alphabet.Statement.{statement}

@@ -1,6 +1,6 @@
 -- `closures::add_closure` meets its contract: the state is put into the set, and all that waits is followed.
-use Rattle.closures.proofs.KeptClosureLaws.{add-puttable, add-stack, add-end}
 use borrow.Author.Needs.{needs}
+use Rattle.closures.proofs.KeptClosureLaws.{add-puttable, add-stack, add-end}
 use Rattle.closures.proofs.add_closure.Statement.{statement}
 use Rattle.closures.proofs.add_closure.Tie as tie
 

@@ -1,6 +1,6 @@
 -- `closures::close_state` meets its contract: the closure is put into the empty set.
-use Rattle.closures.proofs.KeptClosureLaws.{close-empty, close-end}
 use borrow.Author.Needs.{needs}
+use Rattle.closures.proofs.KeptClosureLaws.{close-empty, close-end}
 use Rattle.closures.proofs.close_state.Statement.{statement}
 use Rattle.closures.proofs.close_state.Tie as tie
 

@@ -1,7 +1,7 @@
 -- `closures::join_closure` meets its contract: the closure is in its row, and the row is joined; or it is searched in the set.
 use borrow.Author.Tests.{not-false}
-use Rattle.closures.proofs.KeptClosureLaws.{add-again, join-end}
 use borrow.Author.Needs.{needs}
+use Rattle.closures.proofs.KeptClosureLaws.{add-again, join-end}
 use Rattle.closures.proofs.join_closure.Statement.{statement}
 use Rattle.closures.proofs.join_closure.Tie as tie
 

@@ -1,9 +1,9 @@
 -- `closures::keep_closure` meets its contract: the row has the closure already, is another state's, or gets it.
 use mathlib.Core.Path.{sym}
 use native.Mathlib.Omega.{arith}
+use borrow.Author.Needs.{needs}
 use Rattle.closures.proofs.FollowLaws.{states-most}
 use Rattle.closures.proofs.KeptClosureLaws.{owner-inside, closure-fits, keep-known, keep-other, keep-new}
-use borrow.Author.Needs.{needs}
 use Rattle.closures.proofs.keep_closure.Statement.{statement}
 use Rattle.closures.proofs.keep_closure.Tie as tie
 

@@ -70,7 +70,8 @@ returns-3 c =
 returns-4 : tie.Need-returns-4
 returns-4 c =
     let second = c .before .before .before in
-    found-refusal (asked (second .before .before .before)) (past-five second (next (states-within _ _ _ (c .before .states-after .ensures .0) (c .if3 .left)) none))
+    found-refusal (asked (second .before .before .before))
+    (past-five second (next (states-within _ _ _ (c .before .states-after .ensures .0) (c .if3 .left)) none))
 
 pub rule-fault-spec : {M : Type 1} → statement M
 rule-fault-spec =

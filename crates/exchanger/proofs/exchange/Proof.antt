@@ -1,7 +1,7 @@
 -- `exchanger::exchange` meets its contract: a refused call changes nothing, and an accepted one does what the definitions say.
-use Rattle.operations.specs.ExchangeCall.{ExchangeCall, exchangeCall}
-use Rattle.exchanger.proofs.ExchangeAnswerLaws.{call-refused, call-passes, call-replaced}
 use borrow.Author.Needs.{needs}
+use Rattle.operations.specs.ExchangeCall.{ExchangeCall, exchangeCall}
+use Rattle.exchanger.proofs.ExchangeAnswerLaws.{call-refused, call-passes}
 use Rattle.exchanger.proofs.exchange.Statement.{statement}
 use Rattle.exchanger.proofs.exchange.Tie as tie
 
@@ -33,10 +33,7 @@ same-length-3 c = search needs
 
 returns-2 : tie.Need-returns-2
 returns-2 c =
-    let r = c .before .before .before .before in
-    let d = r .before .before .before in
-    let s = r .replace-subtree .ensures in
-    call-replaced (call (d .before)) _ (d .before .exchange-fault .ensures) (d .if1 .left) _ _ _ (s .0) (s .1 .0) (s .1 .1)
+    c .before .before .before .before .replace-subtree .ensures
 
 pub exchange-spec : {M : Type 1} → statement M
 exchange-spec =

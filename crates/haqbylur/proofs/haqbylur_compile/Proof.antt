@@ -1,8 +1,8 @@
 -- `haqbylur::haqbylur_compile` meets its contract: it hands on what Compile answers and leaves, and each value fits 32 bits.
 use native.Mathlib.Omega.{arith}
+use borrow.Author.Needs.{needs}
 use Rattle.haqbylur.proofs.StatusLaws.{compiled-table, compiled-refused}
 use Rattle.haqbylur.proofs.AnswerValueLaws.{compile-small}
-use borrow.Author.Needs.{needs}
 use Rattle.haqbylur.proofs.haqbylur_compile.Statement.{statement}
 use Rattle.haqbylur.proofs.haqbylur_compile.Tie as tie
 

@@ -1,8 +1,8 @@
 -- `haqbylur::haqbylur_exchange` meets its contract: it hands on what Exchange answers and leaves, and each value fits 32 bits.
-use Rattle.haqbylur.proofs.StatusLaws.{exchanged-replaced, exchanged-refused}
-use Rattle.haqbylur.proofs.AnswerValueLaws.{exchange-small}
 use native.Mathlib.Omega.{arith}
 use borrow.Author.Needs.{needs}
+use Rattle.haqbylur.proofs.StatusLaws.{exchanged-replaced, exchanged-refused}
+use Rattle.haqbylur.proofs.AnswerValueLaws.{exchange-small}
 use Rattle.haqbylur.proofs.haqbylur_exchange.Statement.{statement}
 use Rattle.haqbylur.proofs.haqbylur_exchange.Tie as tie
 

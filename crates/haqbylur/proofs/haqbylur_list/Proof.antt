@@ -1,8 +1,8 @@
 -- `haqbylur::haqbylur_list` meets its contract: it hands on what List answers and leaves, and each value fits 32 bits.
-use Rattle.haqbylur.proofs.StatusLaws.{listed-matches, listed-refused}
-use Rattle.haqbylur.proofs.AnswerValueLaws.{list-small}
 use native.Mathlib.Omega.{arith}
 use borrow.Author.Needs.{needs}
+use Rattle.haqbylur.proofs.StatusLaws.{listed-matches, listed-refused}
+use Rattle.haqbylur.proofs.AnswerValueLaws.{list-small}
 use Rattle.haqbylur.proofs.haqbylur_list.Statement.{statement}
 use Rattle.haqbylur.proofs.haqbylur_list.Tie as tie
 

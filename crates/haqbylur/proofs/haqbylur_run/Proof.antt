@@ -1,8 +1,8 @@
 -- `haqbylur::haqbylur_run` meets its contract: it hands on what Run answers and leaves, and each value fits 32 bits.
-use Rattle.haqbylur.proofs.StatusLaws.{ran-marked, ran-refused}
-use Rattle.haqbylur.proofs.AnswerValueLaws.{run-small}
 use native.Mathlib.Omega.{arith}
 use borrow.Author.Needs.{needs}
+use Rattle.haqbylur.proofs.StatusLaws.{ran-marked, ran-refused}
+use Rattle.haqbylur.proofs.AnswerValueLaws.{run-small}
 use Rattle.haqbylur.proofs.haqbylur_run.Statement.{statement}
 use Rattle.haqbylur.proofs.haqbylur_run.Tie as tie
 

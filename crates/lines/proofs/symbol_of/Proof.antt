@@ -1,6 +1,6 @@
 -- `lines::symbol_of` meets its contract: behind the last node the default is read, whose symbol is 0.
-use Rattle.lines.proofs.LineLaws.{no-symbol}
 use borrow.Author.Needs.{needs}
+use Rattle.lines.proofs.LineLaws.{no-symbol}
 use Rattle.lines.proofs.symbol_of.Statement.{statement}
 use Rattle.lines.proofs.symbol_of.Tie as tie
 

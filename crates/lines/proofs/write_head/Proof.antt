@@ -1,6 +1,6 @@
 -- `lines::write_head` meets its contract: the parts of the line are written one after the other.
-use Rattle.lines.proofs.LineLaws.{head-written}
 use borrow.Author.Needs.{needs}
+use Rattle.lines.proofs.LineLaws.{head-written}
 use Rattle.lines.proofs.write_head.Statement.{statement}
 use Rattle.lines.proofs.write_head.Tie as tie
 

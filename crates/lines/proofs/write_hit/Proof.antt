@@ -1,10 +1,10 @@
 -- `lines::write_hit` meets its contract: the parts of the line are written one after the other, and a subtree begins at or
 -- before its last node.
 use native.Mathlib.Omega.{arith}
+use borrow.Author.Needs.{needs}
 use Rattle.words.specs.Postfix.{arity}
 use Rattle.words.proofs.PostfixLaws.{start-le}
 use Rattle.lines.proofs.LineLaws.{hit-written}
-use borrow.Author.Needs.{needs}
 use Rattle.lines.proofs.write_hit.Statement.{statement}
 use Rattle.lines.proofs.write_hit.Tie as tie
 

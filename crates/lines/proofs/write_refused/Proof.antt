@@ -1,7 +1,7 @@
 -- `lines::write_refused` meets its contract: the parts of the line are written one after the other.
 use mathlib.Core.Path.{_∙_}
-use Rattle.lines.proofs.LineLaws.{refused-written}
 use borrow.Author.Needs.{needs}
+use Rattle.lines.proofs.LineLaws.{refused-written}
 use Rattle.lines.proofs.write_refused.Statement.{statement}
 use Rattle.lines.proofs.write_refused.Tie as tie
 

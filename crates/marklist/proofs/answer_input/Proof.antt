@@ -1,7 +1,7 @@
 -- `marklist::answer_input` meets its contract: the counts say how many words follow, and what it lends of each slice are the words
 -- that make a difference.
-use Rattle.marklist.proofs.PrintedLaws.{kept-fit, kept-long, answered}
 use borrow.Author.Needs.{needs}
+use Rattle.marklist.proofs.PrintedLaws.{kept-fit, kept-long, answered}
 use Rattle.marklist.proofs.answer_input.Statement.{statement}
 use Rattle.marklist.proofs.answer_input.Tie as tie
 
@@ -42,7 +42,8 @@ kept-words-requires : tie.Need-kept-words-requires
 kept-words-requires c κs = tt
 
 array-share-prefix-alphabet : tie.Need-array-share-prefix-alphabet
-array-share-prefix-alphabet c = kept-fit _ (c .kept-words .ensures) (c .before .before .before .before .before .before .before .alphabet2 .given)
+array-share-prefix-alphabet c =
+    kept-fit _ (c .kept-words .ensures) (c .before .before .before .before .before .before .before .alphabet2 .given)
 
 slice-aggregate-report : tie.Need-slice-aggregate-report
 slice-aggregate-report c =
@@ -65,7 +66,8 @@ array-share-prefix-chapter : tie.Need-array-share-prefix-chapter
 array-share-prefix-chapter c = kept-fit _ (c .kept-words3 .ensures) (c .before .before .before .before .before .chapter2 .given)
 
 slice-aggregate-report-3 : tie.Need-slice-aggregate-report-3
-slice-aggregate-report-3 c = kept-long _ _ (c .before .kept-words3 .ensures) (c .before .before .before .before .before .before .chapter2 .given)
+slice-aggregate-report-3 c =
+    kept-long _ _ (c .before .kept-words3 .ensures) (c .before .before .before .before .before .before .chapter2 .given)
 
 report-requires : tie.Need-report-requires
 report-requires c κs = search needs
@@ -84,7 +86,8 @@ returns c =
     let first = second .before .before .before in
     let call = c .before .before in
     answered (first .read-words .ensures) (second .read-words2 .ensures) (third .read-words3 .ensures) (fourth .read-words4 .ensures)
-    (alphabet .kept-words .ensures) (rule .kept-words2 .ensures) (chapter .kept-words3 .ensures) (call .report .ensures .0) (call .report .ensures .1)
+    (alphabet .kept-words .ensures) (rule .kept-words2 .ensures) (chapter .kept-words3 .ensures)
+    (call .report .ensures .0) (call .report .ensures .1)
 
 pub answer-input-spec : {M : Type 1} → statement M
 answer-input-spec =

@@ -2,8 +2,8 @@
 use mathlib.Core.Path.{sym}
 use native.Mathlib.Omega.{arith}
 use lib.Seq.{length-take-le}
-use Rattle.marklist.proofs.PrintedLaws.{printed-short}
 use borrow.Author.Needs.{needs}
+use Rattle.marklist.proofs.PrintedLaws.{printed-short}
 use Rattle.marklist.proofs.main.Statement.{statement}
 use Rattle.marklist.proofs.main.Tie as tie
 

@@ -1,7 +1,7 @@
 -- `matcher::list` meets its contract: a refused call leaves the list, and an accepted one is that of `list_accepted`.
 use mathlib.Core.Path.{sym, _∙_}
-use Rattle.matcher.proofs.ListingLaws.{list-refused, list-accepts}
 use borrow.Author.Needs.{needs}
+use Rattle.matcher.proofs.ListingLaws.{list-refused, list-accepts}
 use Rattle.matcher.proofs.list.Statement.{statement}
 use Rattle.matcher.proofs.list.Tie as tie
 

@@ -1,7 +1,7 @@
 -- `matcher::run` meets its contract: a refused call leaves the marks, and an accepted one is that of `run_accepted`.
 use mathlib.Core.Path.{sym, _∙_}
-use Rattle.matcher.proofs.RunCallLaws.{run-refused, run-accepts}
 use borrow.Author.Needs.{needs}
+use Rattle.matcher.proofs.RunCallLaws.{run-refused, run-accepts}
 use Rattle.matcher.proofs.run.Statement.{statement}
 use Rattle.matcher.proofs.run.Tie as tie
 

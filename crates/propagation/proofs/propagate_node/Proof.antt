@@ -1,8 +1,8 @@
 -- `propagation::propagate_node` meets its contract: the rank tells whether the node is an ancestor.
 use native.Mathlib.Omega.{arith}
+use borrow.Author.Needs.{needs}
 use Rattle.nodes.proofs.NodeLaws.{node-pushable}
 use Rattle.propagation.proofs.PropagationLaws.{node-rank, node-passed, step-beside, step-ancestor}
-use borrow.Author.Needs.{needs}
 use Rattle.propagation.proofs.propagate_node.Statement.{statement}
 use Rattle.propagation.proofs.propagate_node.Tie as tie
 

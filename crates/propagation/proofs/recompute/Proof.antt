@@ -3,9 +3,9 @@
 use native.Mathlib.Omega.{arith}
 use Prim.Native.Nat.{ℕ}
 use lib.ListN.{length-replicate}
+use borrow.Author.Needs.{needs}
 use Rattle.sets.specs.Size.{setMost}
 use Rattle.propagation.proofs.PropagationLaws.{row-fits, row-small, row-few, row-part, before-length, node-recomputed}
-use borrow.Author.Needs.{needs}
 use Rattle.propagation.proofs.recompute.Statement.{statement}
 use Rattle.propagation.proofs.recompute.Tie as tie
 

@@ -1,10 +1,10 @@
 -- `report::report` meets its contract: each return writes what the laws of Compile say of its answer, and the output fits the slice,
 -- so all of it is written.
 use borrow.Author.Tests.{not-true, not-false}
+use borrow.Author.Needs.{needs}
 use Rattle.words.specs.Limits.{tableMost}
 use Rattle.report.proofs.ReportLaws.{complete-whole, early-whole, refused-compiled, table-counted, table-fits}
 use Rattle.report.proofs.ReportLaws.{chapter-reportable, many}
-use borrow.Author.Needs.{needs}
 use Rattle.report.proofs.report.Statement.{statement}
 use Rattle.report.proofs.report.Tie as tie
 

@@ -1,6 +1,6 @@
 -- `report::report_chapter` meets its contract: each return writes what the laws of Run say of its answer.
-use Rattle.report.proofs.ReportLaws.{refused-over, refused-ran, marked}
 use borrow.Author.Needs.{needs}
+use Rattle.report.proofs.ReportLaws.{refused-over, refused-ran, marked}
 use Rattle.report.proofs.report_chapter.Statement.{statement}
 use Rattle.report.proofs.report_chapter.Tie as tie
 

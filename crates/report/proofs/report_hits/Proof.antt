@@ -2,8 +2,8 @@
 use mathlib.Core.Path.{sym}
 use native.Mathlib.Omega.{arith}
 use lib.Seq.{length-take-le}
-use Rattle.report.proofs.ReportLaws.{hits-most, never-refused, lines-written}
 use borrow.Author.Needs.{needs}
+use Rattle.report.proofs.ReportLaws.{hits-most, never-refused, lines-written}
 use Rattle.report.proofs.report_hits.Statement.{statement}
 use Rattle.report.proofs.report_hits.Tie as tie
 

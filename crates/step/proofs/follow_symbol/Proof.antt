@@ -3,10 +3,10 @@ use mathlib.Core.Path.{sym, _∙_}
 use Prim.Native.Nat.{_+_}
 use native.Mathlib.Omega.{arith}
 use lib.ListN.{length}
+use borrow.Author.Needs.{needs}
 use Rattle.index.specs.Index.{keyCount}
 use Rattle.closures.proofs.FollowLaws.{left, index-long}
 use Rattle.step.proofs.SymbolLaws.{SymbolAt, symbol-first, symbol-in, symbol-at, symbol-less, symbol-more, symbol-end}
-use borrow.Author.Needs.{needs}
 use Rattle.step.proofs.follow_symbol.Statement.{statement}
 use Rattle.step.proofs.follow_symbol.Tie as tie
 

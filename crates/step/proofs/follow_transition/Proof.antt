@@ -4,8 +4,8 @@ use mathlib.Core.Path.{sym, _∙_}
 use mathlib.Core.Bool.{true≢false}
 use native.Mathlib.Omega.{arith}
 use borrow.Author.Tests.{not-true, not-false}
-use Rattle.step.proofs.SymbolLaws.{transition-few, transition-sources, transition-joinable, transition-still, transition-more}
 use borrow.Author.Needs.{needs}
+use Rattle.step.proofs.SymbolLaws.{transition-few, transition-sources, transition-joinable, transition-still, transition-more}
 use Rattle.step.proofs.follow_transition.Statement.{statement}
 use Rattle.step.proofs.follow_transition.Tie as tie
 

@@ -1,6 +1,6 @@
 -- `step::node_set` meets its contract: from the empty set all transitions on the symbol are followed.
-use Rattle.step.proofs.NodeStepLaws.{node-followable, node-end}
 use borrow.Author.Needs.{needs}
+use Rattle.step.proofs.NodeStepLaws.{node-followable, node-end}
 use Rattle.step.proofs.node_set.Statement.{statement}
 use Rattle.step.proofs.node_set.Tie as tie
 

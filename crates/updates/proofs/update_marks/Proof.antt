@@ -1,7 +1,7 @@
 -- `updates::update_marks` meets its contract: the index of the table, the stack of the nodes before the replacement, the
 -- replacement's nodes up to its root, and the loop over the root and the ancestors.
-use Rattle.updates.proofs.UpdateLaws.{nodes-index, nodes-stack, nodes-marks, nodes-propagate, nodes-updated}
 use borrow.Author.Needs.{needs}
+use Rattle.updates.proofs.UpdateLaws.{nodes-index, nodes-stack, nodes-marks, nodes-propagate, nodes-updated}
 use Rattle.updates.proofs.update_marks.Statement.{statement}
 use Rattle.updates.proofs.update_marks.Tie as tie
 

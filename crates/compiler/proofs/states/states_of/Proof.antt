@@ -1,7 +1,6 @@
 -- `compiler::states::states_of` meets its contract: a word with entries has one for each constant.
-use mathlib.Core.Path.{ap, _∙_, sym}
+use mathlib.Core.Path.{_∙_, sym}
 use native.Mathlib.Omega.{arith}
-use native.Mathlib.Numerals.{add-one}
 use borrow.Author.Needs.{needs}
 use Rattle.automaton.proofs.EntryStates.{states-full, states-leaf}
 use Rattle.compiler.proofs.states.states_of.Statement.{statement}

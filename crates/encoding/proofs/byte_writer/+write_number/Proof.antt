@@ -3,10 +3,10 @@
 use mathlib.Core.Path.{_∙_}
 use native.Mathlib.Omega.{arith}
 use borrow.Author.Needs.{needs}
-use Rattle.encoding.proofs.DecimalLaws.{number-one, number-several}
 use Prim.Native.Nat.{ℕ, _<_}
 use borrow.Fn.Kinds.{In}
 use borrow.Fn.PlainCycle.{Measures, is, falls, and}
+use Rattle.encoding.proofs.DecimalLaws.{number-one, number-several}
 use Rattle.encoding.proofs.byte_writer.write_number.Reads as write-number
 use Rattle.encoding.proofs.byte_writer.write_number.Kinds as write-number-kinds
 use Rattle.encoding.proofs.byte_writer.+write_number.Lts-write_number as write-number-lts

@@ -2,11 +2,11 @@
 use Prim.Native.Nat.{_+_, _-_, _*_, _≤_}
 use native.Mathlib.Omega.{arith}
 use lib.ListN.{length}
+use borrow.Author.Needs.{needs}
 use Rattle.operations.proofs.AcceptedLaws.{list-accepted}
 use Rattle.operations.proofs.MatchLaws.{matchesOf-few}
 use Rattle.matcher.proofs.AcceptedCallLaws.{list-row}
 use Rattle.matcher.proofs.ListingLaws.{FoundMatches, found-none, found-more, found-end, part-set}
-use borrow.Author.Needs.{needs}
 use Rattle.matcher.proofs.matches.list_accepted.Statement.{statement}
 use Rattle.matcher.proofs.matches.list_accepted.Tie as tie
 

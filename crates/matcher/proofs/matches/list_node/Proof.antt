@@ -1,8 +1,8 @@
 -- `matcher::matches::list_node` meets its contract: the node is a match exactly if its state set holds the final state.
 use mathlib.Core.Path.{sym, _∙_}
 use native.Mathlib.Omega.{arith}
-use Rattle.matcher.proofs.ListingLaws.{match-here, match-none}
 use borrow.Author.Needs.{needs}
+use Rattle.matcher.proofs.ListingLaws.{match-here, match-none}
 use Rattle.matcher.proofs.matches.list_node.Statement.{statement}
 use Rattle.matcher.proofs.matches.list_node.Tie as tie
 

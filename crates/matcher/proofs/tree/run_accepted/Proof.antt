@@ -1,8 +1,8 @@
 -- `matcher::tree::run_accepted` meets its contract: the nodes marked one after the other leave the state sets of the tree.
 use mathlib.Core.Path.{sym}
 use native.Mathlib.Omega.{arith}
-use Rattle.matcher.proofs.RunCallLaws.{workable, tree-updatable, run-left, run-fits, run-few, run-part, run-cells}
 use borrow.Author.Needs.{needs}
+use Rattle.matcher.proofs.RunCallLaws.{workable, tree-updatable, run-left, run-fits, run-few, run-part, run-cells}
 use Rattle.matcher.proofs.tree.run_accepted.Statement.{statement}
 use Rattle.matcher.proofs.tree.run_accepted.Tie as tie
 

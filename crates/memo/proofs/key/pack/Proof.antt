@@ -1,7 +1,7 @@
 -- `memo::key::pack` meets its contract: each digit is below 8,192, so that a shift leaves those above.
 use native.Mathlib.Omega.{arith}
-use Rattle.memo.proofs.KeyLaws.{digits, pack-is}
 use borrow.Author.Needs.{needs}
+use Rattle.memo.proofs.KeyLaws.{digits, pack-is}
 use Rattle.memo.proofs.key.pack.Statement.{statement}
 use Rattle.memo.proofs.key.pack.Tie as tie
 

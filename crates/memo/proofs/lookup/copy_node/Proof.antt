@@ -1,6 +1,6 @@
 -- `memo::lookup::copy_node` meets its contract: one word is as many words as its index says.
-use Rattle.memo.proofs.NodeWritingLaws.{one-copyable, one-copied}
 use borrow.Author.Needs.{needs}
+use Rattle.memo.proofs.NodeWritingLaws.{one-copyable, one-copied}
 use Rattle.memo.proofs.lookup.copy_node.Statement.{statement}
 use Rattle.memo.proofs.lookup.copy_node.Tie as tie
 

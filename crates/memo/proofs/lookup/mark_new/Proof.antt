@@ -1,7 +1,7 @@
 -- `memo::lookup::mark_new` meets its contract: the first words of the set that is worked out are written at the node's place.
 use native.Mathlib.Omega.{arith}
-use Rattle.memo.proofs.NodeWritingLaws.{set-length, set-long, set-few, set-fits, set-placeable, set-new}
 use borrow.Author.Needs.{needs}
+use Rattle.memo.proofs.NodeWritingLaws.{set-length, set-long, set-few, set-fits, set-placeable, set-new}
 use Rattle.memo.proofs.lookup.mark_new.Statement.{statement}
 use Rattle.memo.proofs.lookup.mark_new.Tie as tie
 

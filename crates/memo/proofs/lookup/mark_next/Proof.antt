@@ -1,8 +1,8 @@
 -- `memo::lookup::mark_next` meets its contract: a slot with the node's key holds a node with its state set, and otherwise the node is
 -- worked out and remembered.
 use native.Mathlib.Omega.{arith}
-use Rattle.memo.proofs.MemoLaws.{next-new, found-few, found-copyable, found-next, stored-next}
 use borrow.Author.Needs.{needs}
+use Rattle.memo.proofs.MemoLaws.{next-new, found-few, found-copyable, found-next, stored-next}
 use Rattle.memo.proofs.lookup.mark_next.Statement.{statement}
 use Rattle.memo.proofs.lookup.mark_next.Tie as tie
 

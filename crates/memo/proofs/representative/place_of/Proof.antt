@@ -2,8 +2,8 @@
 use Prim.Native.Nat.{_-_}
 use native.Mathlib.Omega.{arith}
 use lib.ListN.{length}
-use Rattle.memo.proofs.RepresentLaws.{Mixing, mixed-word}
 use borrow.Author.Needs.{needs}
+use Rattle.memo.proofs.RepresentLaws.{Mixing, mixed-word}
 use Rattle.memo.proofs.representative.place_of.Statement.{statement}
 use Rattle.memo.proofs.representative.place_of.Tie as tie
 

@@ -1,9 +1,9 @@
 -- `memo::representative::representative` meets its contract: an earlier node is taken only if its words are the same.
 use mathlib.Core.Path.{refl}
 use native.Mathlib.Omega.{arith}
+use borrow.Author.Needs.{needs}
 use Rattle.memo.specs.Memo.{itself}
 use Rattle.memo.proofs.RepresentLaws.{place-inside, place-few, represents}
-use borrow.Author.Needs.{needs}
 use Rattle.memo.proofs.representative.representative.Statement.{statement}
 use Rattle.memo.proofs.representative.representative.Tie as tie
 

@@ -1,7 +1,7 @@
 -- `nodes::marking::mark_node` meets its contract: the last of the four words that are lent represent the children.
 use native.Mathlib.Omega.{arith}
-use Rattle.nodes.proofs.NodeLaws.{node-height, node-few, node-pushable, node-next, node-words, node-kept}
 use borrow.Author.Needs.{needs}
+use Rattle.nodes.proofs.NodeLaws.{node-height, node-few, node-pushable, node-next, node-words, node-kept}
 use Rattle.nodes.proofs.marking.mark_node.Statement.{statement}
 use Rattle.nodes.proofs.marking.mark_node.Tie as tie
 

@@ -1,8 +1,8 @@
 -- `refusals::shared::marks_too_short` meets its contract: a state set has at most 64 words, so that the product fits.
 use native.Mathlib.Omega.{arith}
+use borrow.Author.Needs.{needs}
 use Rattle.operations.specs.Run.{marksTooShort}
 use Rattle.operations.proofs.ValueLaws.{words-most}
-use borrow.Author.Needs.{needs}
 use Rattle.refusals.proofs.shared.marks_too_short.Statement.{statement}
 use Rattle.refusals.proofs.shared.marks_too_short.Tie as tie
 

@@ -1,6 +1,6 @@
 -- `sets::whole::copy_set` meets its contract: the set of its own gets the words at its front.
-use Rattle.sets.proofs.SetLaws.{copied-length, copied-fits, set-copied}
 use borrow.Author.Needs.{needs}
+use Rattle.sets.proofs.SetLaws.{copied-length, copied-fits, set-copied}
 use Rattle.sets.proofs.whole.copy_set.Statement.{statement}
 use Rattle.sets.proofs.whole.copy_set.Tie as tie
 

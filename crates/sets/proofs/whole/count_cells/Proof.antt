@@ -3,8 +3,8 @@ use Prim.Native.Nat.{_+_, _-_}
 use native.Mathlib.Omega.{arith}
 use lib.ListN.{length}
 use lib.Count.{ones-le}
-use Rattle.sets.proofs.CellCountLaws.{Summed, pair-few, summed-none, summed-pair, summed-more, summed-end}
 use borrow.Author.Needs.{needs}
+use Rattle.sets.proofs.CellCountLaws.{Summed, pair-few, summed-none, summed-pair, summed-more, summed-end}
 use Rattle.sets.proofs.whole.count_cells.Statement.{statement}
 use Rattle.sets.proofs.whole.count_cells.Tie as tie
 

@@ -1,7 +1,7 @@
 -- `sets::whole::count_pair` meets its contract: the digits of both words are counted apart.
 use native.Mathlib.Omega.{arith}
-use Rattle.sets.proofs.CellCountLaws.{pair-ones, pair-few}
 use borrow.Author.Needs.{needs}
+use Rattle.sets.proofs.CellCountLaws.{pair-ones, pair-few}
 use Rattle.sets.proofs.whole.count_pair.Statement.{statement}
 use Rattle.sets.proofs.whole.count_pair.Tie as tie
 

@@ -3,9 +3,9 @@ use mathlib.Core.Path.{_≡_, ap, _∙_}
 use Prim.Native.Nat.{_-_, _≤_}
 use native.Mathlib.Omega.{arith}
 use lib.ListN.{length}
+use borrow.Author.Needs.{needs}
 use Rattle.sets.specs.Joined.{joinedTo}
 use Rattle.sets.proofs.JoinLaws.{joined-none, joined-more, joined-length}
-use borrow.Author.Needs.{needs}
 use Rattle.sets.proofs.whole.join.Statement.{statement}
 use Rattle.sets.proofs.whole.join.Tie as tie
 

@@ -2,8 +2,8 @@
 -- compared.
 use Prim.Native.Nat.{_-_}
 use lib.ListN.{length}
-use Rattle.sets.proofs.CompareLaws.{Agree, agree-none, agree-more, agree-end, differ-length, differ-at}
 use borrow.Author.Needs.{needs}
+use Rattle.sets.proofs.CompareLaws.{Agree, agree-none, agree-more, agree-end, differ-length, differ-at}
 use Rattle.sets.proofs.whole.same_words.Statement.{statement}
 use Rattle.sets.proofs.whole.same_words.Tie as tie
 

@@ -3,8 +3,8 @@ use Prim.Native.Nat.{_-_}
 use mathlib.Core.Path.{refl, _∙_}
 use native.Mathlib.Omega.{arith}
 use lib.ListN.{length}
-use Rattle.slices.proofs.CopyLaws.{Copied, copied-none, copied-more, copied-end, paste-front}
 use borrow.Author.Needs.{needs}
+use Rattle.slices.proofs.CopyLaws.{Copied, copied-none, copied-more, copied-end, paste-front}
 use Rattle.sets.proofs.whole.write_set.Statement.{statement}
 use Rattle.sets.proofs.whole.write_set.Tie as tie
 

@@ -1,6 +1,6 @@
 -- `sets::whole::write_set_at` meets its contract: the words before the part that is lent stay, and the part gets the set at its front.
-use Rattle.slices.proofs.PartLaws.{tail-part}
 use borrow.Author.Needs.{needs}
+use Rattle.slices.proofs.PartLaws.{tail-part}
 use Rattle.sets.proofs.whole.write_set_at.Statement.{statement}
 use Rattle.sets.proofs.whole.write_set_at.Tie as tie
 

@@ -3,8 +3,8 @@ use Prim.Native.Nat.{ℕ, _+_, _-_, _≤_}
 use mathlib.Core.Path.{_≡_}
 use native.Mathlib.Omega.{arith}
 use lib.ListN.{replicate, length-replicate}
-use Rattle.slices.proofs.CopyLaws.{Copied, copied-none, copied-more, copied-end, zero-at}
 use borrow.Author.Needs.{needs}
+use Rattle.slices.proofs.CopyLaws.{Copied, copied-none, copied-more, copied-end, zero-at}
 use Rattle.slices.proofs.moves.clear_words.Statement.{statement}
 use Rattle.slices.proofs.moves.clear_words.Tie as tie
 

@@ -3,8 +3,8 @@ use Prim.Native.Nat.{_-_}
 use mathlib.Core.Path.{refl}
 use native.Mathlib.Omega.{arith}
 use lib.ListN.{length}
-use Rattle.slices.proofs.CopyLaws.{Copied, copied-none, copied-more, copied-end}
 use borrow.Author.Needs.{needs}
+use Rattle.slices.proofs.CopyLaws.{Copied, copied-none, copied-more, copied-end}
 use Rattle.slices.proofs.moves.copy_words.Statement.{statement}
 use Rattle.slices.proofs.moves.copy_words.Tie as tie
 

@@ -4,8 +4,8 @@ use mathlib.Core.Path.{refl, sym, _∙_}
 use native.Mathlib.Omega.{arith}
 use lib.ListN.{length, drop, length-drop}
 use lib.Seq.{getD-drop}
-use Rattle.slices.proofs.CopyLaws.{Copied, copied-none, copied-more, copied-end, copied-behind}
 use borrow.Author.Needs.{needs}
+use Rattle.slices.proofs.CopyLaws.{Copied, copied-none, copied-more, copied-end, copied-behind}
 use Rattle.slices.proofs.moves.move_down.Statement.{statement}
 use Rattle.slices.proofs.moves.move_down.Tie as tie
 

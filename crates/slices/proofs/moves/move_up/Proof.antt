@@ -1,6 +1,6 @@
 -- `slices::moves::move_up` meets its contract: a word is read below the places that are written already, so it is still as it was.
-use Rattle.slices.proofs.MoveLaws.{Up, up-none, up-more, up-end}
 use borrow.Author.Needs.{needs}
+use Rattle.slices.proofs.MoveLaws.{Up, up-none, up-more, up-end}
 use Rattle.slices.proofs.moves.move_up.Statement.{statement}
 use Rattle.slices.proofs.moves.move_up.Tie as tie
 

@@ -1,7 +1,7 @@
 -- `syntax::expression::is_expression_word` meets its contract: of a word whose spare bits are clear each case has the test of its kind,
 -- and none of the kinds that are left is a rule word's.
 use mathlib.Core.Path.{_≡_, refl, sym, _∙_}
-use mathlib.Core.Bool.{Bool, true, false, not}
+use mathlib.Core.Bool.{Bool, false, not}
 use mathlib.Core.List.{List, [], _∷_}
 use Prim.Native.Nat.{ℕ}
 use borrow.Author.Needs.{needs}

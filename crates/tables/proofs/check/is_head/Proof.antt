@@ -11,14 +11,14 @@ use borrow.Author.Needs.{needs}
 use Rattle.words.specs.Word.{headKind, countAbove, stateBelow}
 use Rattle.words.specs.declared.word.Kind.the-variants.{Head}
 use Rattle.words.proofs.DecodedLaws.{told-isOf, left-isOf}
+use Rattle.words.proofs.word.kind_of.Reads as kind-of-reads
+use Rattle.words.proofs.word.spare_bits_clear.Reads as spare-bits-clear-reads
 use Rattle.automaton.specs.Table.{isHead}
 use Rattle.tables.proofs.CheckLaws.{and-both, and-first, head-value}
 use Rattle.tables.proofs.check.is_head.Statement.{statement}
 use Rattle.tables.proofs.check.is_head.Tie as tie
 use Rattle.tables.proofs.check.is_head.Reads as reads
 use Rattle.tables.proofs.check.is_head.Lts as lts
-use Rattle.words.proofs.word.kind_of.Reads as kind-of-reads
-use Rattle.words.proofs.word.spare_bits_clear.Reads as spare-bits-clear-reads
 
 kind-of-requires : tie.Need-kind-of-requires
 kind-of-requires c κs = search needs
