@@ -167,7 +167,9 @@ class Words(unittest.TestCase):
                 words.hits(data, wrong, names)
 
     def command(self, *arguments, data=b""):
-        run = subprocess.run([sys.executable, "-B", words.__file__] + list(arguments), input=data, stdout=subprocess.PIPE, stderr=subprocess.PIPE)
+        run = subprocess.run(
+            [sys.executable, "-B", words.__file__] + list(arguments), input=data, stdout=subprocess.PIPE, stderr=subprocess.PIPE
+        )
         return run.returncode, run.stdout, run.stderr.decode()
 
     def test_statuses(self):

@@ -165,7 +165,10 @@ pub fn print(measure: &Measure, workloads: &[Workload]) -> [Target; 3] {
     println!(
         "library takes; the library's as a part of a fresh Run; and the elements worked out on average.\n"
     );
-    println!("| workload | fresh Run | one leaf | peer | ratio | part | worked out | about 100 elements | peer | ratio | part | worked out |");
+    println!(
+        "| workload | fresh Run | one leaf | peer | ratio | part | worked out | about 100 elements | peer | ratio | part | \
+         worked out |"
+    );
     println!("|---|---|---|---|---|---|---|---|---|---|---|---|");
     let mut one = Target::new("Exchange of one leaf to incremental", 2.0);
     let mut hundred = Target::new("Exchange of about 100 elements to incremental", 2.0);

@@ -65,7 +65,8 @@ def judge(place, input_file, claim_files):
     given = book.read_input(content_of(input_file))
     answer = matcher.answer(given)
     if isinstance(given, book.Book) and len(given.chapter) > MARKLIST_MOST:
-        print(f'over {MARKLIST_MOST} elements, for which marklist says 9: judged with the limit of {MOST_ELEMENTS} that Run has (a board that says `refused 9` follows marklist)')
+        print(f'over {MARKLIST_MOST} elements, for which marklist says 9: judged with the limit of {MOST_ELEMENTS} that Run has '
+              '(a board that says `refused 9` follows marklist)')
     if not certify(certificate.text_of(given, answer), place or Path(input_file).name + '.certificate'):
         return COULD_NOT_TELL
     if not claims:
