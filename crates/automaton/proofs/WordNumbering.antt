@@ -160,7 +160,7 @@ module _ (a : List ℕ) where
   length-portsFrom [] n = refl
   length-portsFrom (v ∷ k) n = ap suc (length-portsFrom k (n + statesOf a v))
 
-  lastPort-snoc : (k : List ℕ) (v : ℕ) → lastPort a (k ++ (v ∷ [])) ≡ portOf a (statesAfter a 0 k) v
+  pub lastPort-snoc : (k : List ℕ) (v : ℕ) → lastPort a (k ++ (v ∷ [])) ≡ portOf a (statesAfter a 0 k) v
   unfolding portsFrom
   lastPort-snoc k v =
       let P = portOf a (statesAfter a 0 k) v in

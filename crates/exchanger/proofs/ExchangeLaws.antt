@@ -23,7 +23,7 @@ use Rattle.operations.specs.Exchange.{setIn, recomputedIn, used, fault, newTree
 use Rattle.operations.specs.Recomputation.{startIn}
 use Rattle.operations.proofs.AcceptedLaws.{call-accepted}
 use Rattle.operations.proofs.MarksLaws.{length-flatten, take-refit}
-use Rattle.operations.proofs.RuleLaws.{follows-length, follows-outcomes}
+use Rattle.operations.proofs.FromChildren.{follows-length, follows-outcomes}
 use Rattle.nodes.specs.Nodes.{setFrom, markedFrom}
 use Rattle.nodes.proofs.LoopLaws.{setAt}
 use Rattle.nodes.proofs.LoopLaws as loops

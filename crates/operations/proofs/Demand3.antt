@@ -41,11 +41,11 @@ pub record Related (a table : List ℕ) (chapterLength marksLength : ℕ) (p : L
 
 module _ (a table : List ℕ) (chapterLength marksLength : ℕ) where
   -- an accepted call with the plain chapter as the used elements
-  abbrev Accepted : List ℕ → Call → Type 0
-  Accepted p c = ExchangeAccepted a table (length p) p chapterLength marksLength (c .element) (c .replacement)
+  abbrev PlainAccepted : List ℕ → Call → Type 0
+  PlainAccepted p c = ExchangeAccepted a table (length p) p chapterLength marksLength (c .element) (c .replacement)
 
   -- the new tree passes Run's checks
-  run-spliced : (p : List ℕ) (c : Call) → Accepted p c → runFault a table (splice a p (c .element) (c .replacement)) marksLength ≡ 0
+  run-spliced : (p : List ℕ) (c : Call) → PlainAccepted p c → runFault a table (splice a p (c .element) (c .replacement)) marksLength ≡ 0
   run-spliced p c k =
       accepted-run a table (splice a p (c .element) (c .replacement)) marksLength
       (result-accepted a table p chapterLength marksLength (c .element) (c .replacement) k)
@@ -86,7 +86,7 @@ module _ (a table : List ℕ) (chapterLength marksLength : ℕ) where
     unfolding newTree
     same-tree = ap (λ (u : List ℕ). splice a u (c .element) (c .replacement)) (g .elements)
 
-    same-sets : Accepted p c → sets ≡ nodeSets a table p′
+    same-sets : PlainAccepted p c → sets ≡ nodeSets a table p′
     unfolding outcomes
     same-sets k =
         ap (λ (u : List ℕ). map setIn (outcomesAfter a table (storedSet (sizeOf table) (s .marks)) u (c .element) (c .replacement)))
@@ -95,7 +95,7 @@ module _ (a table : List ℕ) (chapterLength marksLength : ℕ) where
         (tree-accepted a p (k .marked .tree) .shape) (k .change .element) (k .change .replacement .tree .shape)
         (stored-right a table p (s .marks) (g .marks))
 
-    related-exchanged : Accepted p c → Related a table chapterLength marksLength p′ exchanged
+    related-exchanged : PlainAccepted p c → Related a table chapterLength marksLength p′ exchanged
     related-exchanged k = record {
       count = ap length same-tree;
       elements = take-refit (s .count) tree (s .chapter) ∙ same-tree;

@@ -21,7 +21,7 @@ use Rattle.operations.proofs.AcceptedLaws.{compile-accepted, run-accept
 use Rattle.operations.proofs.MarksLaws.{Sized, length-storedSet, length-flatten, length-refit}
 use Rattle.operations.proofs.MatchLaws.{matchesOf-few}
 use Rattle.operations.proofs.RunLaws.{run-length}
-use Rattle.operations.proofs.RuleLaws.{follows-length, follows-outcomes}
+use Rattle.operations.proofs.FromChildren.{follows-length, follows-outcomes}
 use Rattle.operations.proofs.OutcomeSizes.{whole-outcomes}
 
 -- ---- Compile, Run and List

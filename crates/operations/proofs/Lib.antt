@@ -15,7 +15,7 @@ pub mod ValueLaws
 pub mod AnyTable
 pub mod Demand2
 pub mod BehindLaws
-pub mod RuleLaws
+pub mod FromChildren
 pub mod OutcomeParts
 pub mod OutcomeSizes
 pub mod LengthLaws

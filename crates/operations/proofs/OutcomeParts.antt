@@ -27,7 +27,7 @@ use Rattle.operations.proofs.MarksLaws.{length-nodeSets}
 use Rattle.operations.proofs.PropagateLaws.{count-kept}
 use Rattle.operations.proofs.OutcomeLaws.{root-read}
 use Rattle.operations.proofs.BehindLaws.{chosen-at, chosen-behind, recomputed-count, is-chosen}
-use Rattle.operations.proofs.RuleLaws.{length-behind}
+use Rattle.operations.proofs.FromChildren.{length-behind}
 
 -- the last state set of a tree is its root's
 pub root-last : (a table xs : List ℕ) → oneTree a xs ≡ true → 0 < length xs

@@ -23,7 +23,7 @@ use Rattle.operations.proofs.MarksLaws.{storedSet-flatten}
 use Rattle.operations.proofs.LengthLaws.{sized-outcomes}
 use Rattle.operations.proofs.AcceptedLaws.{CallAccepted, call-accepted}
 use Rattle.operations.proofs.AnyTable.{nodeSet-reached}
-use Rattle.operations.proofs.RuleLaws.{Follows, follows-length, follows-outcomes, from-children}
+use Rattle.operations.proofs.FromChildren.{Follows, follows-length, follows-outcomes, from-children}
 use Rattle.operations.proofs.OutcomeParts.{root-last, outcome-before, outcome-replaced, recomputed-parts}
 use Rattle.operations.proofs.OutcomeParts.{behindOf, outcome-rest, count-rest, recomputed-most}
 
@@ -93,15 +93,15 @@ module _ (c : ExchangeCall) (elements workedOut : ℕ) (h : exchangeAnswer c ≡
   unfolding outcomes
   replaced = outcome-replaced a (c .table) (storedIn c) (used c) (c .element) xs
 
-  rule : (j : ℕ) (r : StateSet) → j < length (newTree c) → outcomeOf c j ≡ recomputed r
+  recomputed-from : (j : ℕ) (r : StateSet) → j < length (newTree c) → outcomeOf c j ≡ recomputed r
       → r ≡ nodeSet (c .table) (getD (newTree c) j 0) (map (setAfter c) (childrenOf a (newTree c) j))
-  rule = from-children a (c .table) (newTree c) (outcomes c) follows
+  recomputed-from = from-children a (c .table) (newTree c) (outcomes c) follows
 
   reached : (j : ℕ) (r : StateSet) → j < length (newTree c) → outcomeOf c j ≡ recomputed r
       → ReachedSet (c .table) (symbolOf (getD (newTree c) j 0)) (map (setAfter c) (childrenOf a (newTree c) j)) r
   reached j r l e =
       let rs = map (setAfter c) (childrenOf a (newTree c) j) in
-      subst (ReachedSet (c .table) (symbolOf (getD (newTree c) j 0)) rs) (sym (rule j r l e))
+      subst (ReachedSet (c .table) (symbolOf (getD (newTree c) j 0)) rs) (sym (recomputed-from j r l e))
       (nodeSet-reached a (c .table) (alphabet-accepted a (call .checked .alphabet) .counted .few) (call .checked .automaton)
       (getD (newTree c) j 0) rs)
 
@@ -119,7 +119,7 @@ module _ (c : ExchangeCall) (elements workedOut : ℕ) (h : exchangeAnswer c ≡
     replacement = replaced;
     root = ap setIn (replaced (length xs - 1) (omega (arith, some))) ∙ root-last a (c .table) xs shape some;
     rest = outcome-rest c there shape;
-    rule = rule;
+    fromChildren = recomputed-from;
     reached = reached;
     exact = parts ∙ ap (λ (i : ℕ). length xs + i) (count-rest c there shape);
     most = rw parts (omega (arith, recomputed-most c there shape));

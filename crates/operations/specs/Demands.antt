@@ -173,7 +173,7 @@ pub record RecomputesOnly (c : ExchangeCall) (elements workedOut : ℕ) : Type 0
   pub rest : (k : ℕ) → k < behindIn c
       → outcomeOf c (newNumber c k) ≡ cond (recomputes c k) (recomputed (setAfter c (newNumber c k))) (kept (storedIn c (oldNumber c k)))
   -- "each by the rule above from its parts' marks: those just worked out, otherwise those stored"
-  pub rule : (j : ℕ) (r : StateSet) → j < length (newTree c) → outcomeOf c j ≡ recomputed r
+  pub fromChildren : (j : ℕ) (r : StateSet) → j < length (newTree c) → outcomeOf c j ≡ recomputed r
       → r ≡ nodeSet (c .table) (getD (newTree c) j 0) (map (setAfter c) (childrenOf (c .alphabet) (newTree c) j))
   -- which is: its states are exactly those that are reached
   pub reached : (j : ℕ) (r : StateSet) → j < length (newTree c) → outcomeOf c j ≡ recomputed r

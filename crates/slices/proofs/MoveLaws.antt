@@ -9,14 +9,14 @@ use lib.Seq.{paste, take-suc, set-at, length-take-le, getD-take, drop-cons}
 use Rattle.slices.specs.Movable.{Movable}
 
 -- the words from index `to + k` on are moved
-pub record Up (s₀ : List ℕ) (from to count : ℕ) (s : List ℕ) (k : ℕ) : Type 0 where
+pub record MovedUp (s₀ : List ℕ) (from to count : ℕ) (s : List ℕ) (k : ℕ) : Type 0 where
   pub few : k ≤ count
   pub long : length s ≡ length s₀
   pub same : s ≡ paste s₀ (to + k) (drop (from + k) s₀) (count - k)
 
 module _ (s₀ : List ℕ) (from to count : ℕ) (inside : Movable s₀ from to count) (h : from ≤ to) where
-  pub up-none : Up s₀ from to count s₀ count
-  up-none =
+  pub movedUp-none : MovedUp s₀ from to count s₀ count
+  movedUp-none =
       let z : count - count ≡ 0 = omega arith in
       let y : to + count + 0 ≡ to + count = omega arith in
       record {
@@ -46,9 +46,9 @@ module _ (s₀ : List ℕ) (from to count : ℕ) (inside : Movable s₀ from to 
       ∙ List·getD-append (take at s₀) (take n ys ++ drop (at + n) s₀) 0 i (rw (length-take-le at s₀ ha) hi)
       ∙ getD-take at s₀ i 0 hi
 
-  pub up-more : (s : List ℕ) (k : ℕ) → Up s₀ from to count s k → 0 < k
-      → Up s₀ from to count (set s (to + (k - 1)) (getD s (from + (k - 1)) 0)) (k - 1)
-  up-more s k u z =
+  pub movedUp-more : (s : List ℕ) (k : ℕ) → MovedUp s₀ from to count s k → 0 < k
+      → MovedUp s₀ from to count (set s (to + (k - 1)) (getD s (from + (k - 1)) 0)) (k - 1)
+  movedUp-more s k u z =
       let few = u .few in
       let target = inside .target in
       let source = inside .source in
@@ -70,8 +70,8 @@ module _ (s₀ : List ℕ) (from to count : ℕ) (inside : Movable s₀ from to 
             ∙ ap (paste s₀ (to + (k - 1)) (drop (from + (k - 1)) s₀)) n;
       }
 
-  pub up-end : (s : List ℕ) (k : ℕ) → Up s₀ from to count s k → k ≤ 0 → s ≡ paste s₀ to (drop from s₀) count
-  up-end s k u z =
+  pub movedUp-end : (s : List ℕ) (k : ℕ) → MovedUp s₀ from to count s k → k ≤ 0 → s ≡ paste s₀ to (drop from s₀) count
+  movedUp-end s k u z =
       let e : k ≡ 0 = omega arith in
       let x : to + 0 ≡ to = omega arith in
       let y : from + 0 ≡ from = omega arith in

@@ -98,21 +98,21 @@ module _ (arity : ℕ → ℕ) where
 
   -- one word more takes its children from the stack
   module _ (w : ℕ) (s : List Tree) (r : arity w ≤ length s) (h : AllRanked arity s) where
-    abbrev kids : List Tree
-    kids = reverse (take (arity w) s)
+    abbrev children : List Tree
+    children = reverse (take (arity w) s)
 
-    kids-number : arity w ≡ number (row kids)
-    kids-number = sym (number-row kids ∙ length-reverse (take (arity w) s) ∙ length-take-le (arity w) s r)
+    children-number : arity w ≡ number (row children)
+    children-number = sym (number-row children ∙ length-reverse (take (arity w) s) ∙ length-take-le (arity w) s r)
 
-    more-ranked : AllRanked arity (built w kids ∷ drop (arity w) s)
+    more-ranked : AllRanked arity (built w children ∷ drop (arity w) s)
     more-ranked =
-        ((kids-number, ranked-row kids (ranked-reverse (take (arity w) s) (ranked-take (arity w) s h))), ranked-drop (arity w) s h)
+        ((children-number, ranked-row children (ranked-reverse (take (arity w) s) (ranked-take (arity w) s h))), ranked-drop (arity w) s h)
 
-    more-words : onStack (built w kids ∷ drop (arity w) s) ≡ onStack s ++ w ∷ []
+    more-words : onStack (built w children ∷ drop (arity w) s) ≡ onStack s ++ w ∷ []
     more-words =
-        sym (append-assoc (onStack (drop (arity w) s)) (postfixAll (row kids)) (w ∷ []))
+        sym (append-assoc (onStack (drop (arity w) s)) (postfixAll (row children)) (w ∷ []))
         ∙ ap (λ (x : List ℕ). (onStack (drop (arity w) s) ++ x) ++ w ∷ [])
-        (sym (onStack-row kids) ∙ ap onStack (reverse-reverse (take (arity w) s)))
+        (sym (onStack-row children) ∙ ap onStack (reverse-reverse (take (arity w) s)))
         ∙ ap (λ (x : List ℕ). x ++ w ∷ [])
         (sym (onStack-append (take (arity w) s) (drop (arity w) s)) ∙ ap onStack (take-append-drop (arity w) s))
 

@@ -1,17 +1,17 @@
 -- `slices::moves::move_up` meets its contract: a word is read below the places that are written already, so it is still as it was.
 use borrow.Author.Needs.{needs}
-use Rattle.slices.proofs.MoveLaws.{Up, up-none, up-more, up-end}
+use Rattle.slices.proofs.MoveLaws.{MovedUp, movedUp-none, movedUp-more, movedUp-end}
 use Rattle.slices.proofs.moves.move_up.Statement.{statement}
 use Rattle.slices.proofs.moves.move_up.Tie as tie
 
 abbrev Inv-loop : tie.InvT-loop
-Inv-loop words₀ from to count k₀ words k = Up words₀ from to count words k
+Inv-loop words₀ from to count k₀ words k = MovedUp words₀ from to count words k
 
 abbrev μ-loop : tie.MeasureT-loop
 μ-loop words₀ from to count k₀ words k = k
 
 loop-holds : tie.Need-loop-holds Inv-loop μ-loop
-loop-holds c = up-none _ _ _ _ (c .pre .0) (c .pre .1)
+loop-holds c = movedUp-none _ _ _ _ (c .pre .0) (c .pre .1)
 
 sub-k : tie.Need-sub-k Inv-loop μ-loop
 sub-k c = search needs
@@ -40,13 +40,13 @@ loop-less c = search needs
 loop-again : tie.Need-loop-again Inv-loop μ-loop
 loop-again c =
     let start = c .before .before .before in
-    up-more _ _ _ _ (start .pre .0) (start .pre .1) _ _ (c .before .before .loop .inv) (c .before .loop-test .taken)
+    movedUp-more _ _ _ _ (start .pre .0) (start .pre .1) _ _ (c .before .before .loop .inv) (c .before .loop-test .taken)
 
 same-length : tie.Need-same-length Inv-loop μ-loop
 same-length c = search needs
 
 returns : tie.Need-returns Inv-loop μ-loop
-returns c = up-end _ _ _ _ (c .before .before .pre .0) (c .before .before .pre .1) _ _ (c .before .loop .inv) (c .loop-test .left)
+returns c = movedUp-end _ _ _ _ (c .before .before .pre .0) (c .before .before .pre .1) _ _ (c .before .loop .inv) (c .loop-test .left)
 
 pub move-up-spec : {M : Type 1} → statement M
 move-up-spec =
