@@ -27,7 +27,7 @@ pub data ReachedFrom (ts : List Transition) (s : ℕ) : ℕ → Type 0 where
 abbrev pub Closed : List ℕ → StateSet → Type 0
 Closed table r = isClosed (automatonOf table .transitions) r ≡ true
 
--- a closed set of as many words as a set may have
+-- a closed set of as many words as a set may have, each of 32 bits
 pub record ClosedSet (table : List ℕ) (r : StateSet) : Type 0 where
   pub size : length r ≡ setMost
   pub words : AllBelow wordRange r

@@ -17,7 +17,7 @@ pub(crate) const STACK_BASE: usize = RANK_MOST;
 // The words of the array.
 pub const STACK_LENGTH: usize = STACK_BASE + NODES_MOST;
 
-// Puts a node on the stack in the place of its children, of which there are so many, and answers the stack's height.
+// Puts a node on the stack in the place of its children, whose number is given, and answers the stack's height.
 pub fn push_node(stack: &mut [u32], height: usize, children: usize, node: usize) -> usize
     requires { ⌜ Pushable (now stack) height children node ⌝ }
     ensures answer { λ r. ⌜ r ≡ height - children + 1 ⌝ }
