@@ -36,7 +36,7 @@ given-snoc arity f [] w j s = rw add-zero
 given-snoc arity f (v ∷ ws) w j s = rw (add-suc, ← suc-add) (given-snoc arity f ws w (suc j) (f j ∷ drop (arity v) s))
 
 -- the stack is as high as there are trees
-given-height : {A : Type 0} (arity : ℕ → ℕ) (f : ℕ → A) (ws : List ℕ) (j : ℕ) (s : List A) (n : ℕ)
+pub given-height : {A : Type 0} (arity : ℕ → ℕ) (f : ℕ → A) (ws : List ℕ) (j : ℕ) (s : List A) (n : ℕ)
     → treesBy arity (length s) ws n ≡ true → length (stackGivenBy arity f j ws s) ≡ n
 unfolding treesBy stackGivenBy
 given-height arity f [] j s n h = eqb-true (length s) n h

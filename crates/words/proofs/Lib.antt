@@ -23,6 +23,7 @@ pub mod ChildLaws
 pub mod ExactlyOneLaws
 pub mod TreeLaws
 pub mod SubtreeLaws
+pub mod SubtreeMeaning
 pub mod CountLaws
 pub mod HoldingLaws
 pub mod WordLaws

@@ -47,7 +47,7 @@ module _ (arity : ℕ → ℕ) where
       picks (leb r (d + n)) (treesBy arity (d + n - r + 1) l (t + n)) (le-leb r (d + n) (omega arith))
       (rw q (trees-more l (d - r + 1) t n (p .1)))
 
-  trees-same : (l : List ℕ) (d t t′ : ℕ) → treesBy arity d l t ≡ true → treesBy arity d l t′ ≡ true → t ≡ t′
+  pub trees-same : (l : List ℕ) (d t t′ : ℕ) → treesBy arity d l t ≡ true → treesBy arity d l t′ ≡ true → t ≡ t′
   unfolding treesBy
   trees-same [] d t t′ h g = sym (eqb-true d t h) ∙ eqb-true d t′ g
   trees-same (w ∷ l) d t t′ h g =
@@ -87,7 +87,7 @@ module _ (arity : ℕ → ℕ) where
 -- ---- where subtrees begin
 
 -- the run from s to j, and one word more
-run-snoc : (ch : List ℕ) (s j : ℕ) → s ≤ j → j < length ch → slice s (suc j) ch ≡ slice s j ch ++ getD ch j 0 ∷ []
+pub run-snoc : (ch : List ℕ) (s j : ℕ) → s ≤ j → j < length ch → slice s (suc j) ch ≡ slice s j ch ++ getD ch j 0 ∷ []
 run-snoc ch s j hs hj =
     ap (drop s) (take-suc ch j 0 hj)
     ∙ drop-append-le s (take j ch) (getD ch j 0 ∷ []) (rw (length-take-le j ch (omega arith)) hs)
@@ -128,7 +128,7 @@ module _ (arity : ℕ → ℕ) (ch : List ℕ) where
   start-le i = rw start-parts (startFrom-le i (arity (getD ch i 0)))
 
   -- where no word lacks parts, the run that startFrom finds does make n trees
-  run-is : (j n d : ℕ) → j ≤ length ch → treesBy arity 0 (take j ch) d ≡ true → n ≤ d
+  pub run-is : (j n d : ℕ) → j ≤ length ch → treesBy arity 0 (take j ch) d ≡ true → n ≤ d
       → treesBy arity 0 (slice (startFromBy arity ch j n) j ch) n ≡ true
   unfolding startFromBy treesBy
   run-is zero n d hj h hn =

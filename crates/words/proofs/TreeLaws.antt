@@ -101,12 +101,12 @@ module _ (arity : ℕ → ℕ) where
     abbrev children : List Tree
     children = reverse (take (arity w) s)
 
-    children-number : arity w ≡ number (row children)
-    children-number = sym (number-row children ∙ length-reverse (take (arity w) s) ∙ length-take-le (arity w) s r)
+    row-number : arity w ≡ number (row children)
+    row-number = sym (number-row children ∙ length-reverse (take (arity w) s) ∙ length-take-le (arity w) s r)
 
     more-ranked : AllRanked arity (built w children ∷ drop (arity w) s)
     more-ranked =
-        ((children-number, ranked-row children (ranked-reverse (take (arity w) s) (ranked-take (arity w) s h))), ranked-drop (arity w) s h)
+        ((row-number, ranked-row children (ranked-reverse (take (arity w) s) (ranked-take (arity w) s h))), ranked-drop (arity w) s h)
 
     more-words : onStack (built w children ∷ drop (arity w) s) ≡ onStack s ++ w ∷ []
     more-words =
