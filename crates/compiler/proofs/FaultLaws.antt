@@ -12,10 +12,10 @@ use Rattle.words.specs.Limits.{statesMost}
 use Rattle.words.specs.Refusal.{refusal}
 use Rattle.words.specs.Answer.{refused, accepted}
 use Rattle.words.proofs.ListLaws.{sets-whole}
-use Rattle.words.proofs.RefusalLaws.{parts-pass}
+use Rattle.words.proofs.RefusalLaws.{part-passes}
 use Rattle.words.proofs.AnswerLaws.{answer-refused, answer-accepted, exit-refused, exit-accepted}
 use Rattle.automaton.specs.Numbering.{statesAfter, compiled}
-use Rattle.operations.specs.Compile.{compiledTable, tooManyStates, tableTooLong, ruleRefusals, compileFault}
+use Rattle.operations.specs.Compile.{compiledTable, tooManyStates, tableTooLong, ruleRefusals, compileRefusals, compileFault}
 use Rattle.operations.specs.Compile.{compileAnswer, compileExit}
 use Rattle.operations.proofs.AcceptedLaws.{compile-accepted}
 
@@ -48,7 +48,7 @@ module _ (a e slice : List ℕ) (f : ℕ) (h : f ≡ compileFault a e (length sl
 
   module _ (z : f ≡ 0) where
     pub accepted-rule : refusal (ruleRefusals a e) ≡ 0
-    accepted-rule = parts-pass (ruleRefusals a e) ((7, tableTooLong a e (length slice)) ∷ []) refl (sym h ∙ z) .0
+    accepted-rule = part-passes (compileRefusals a e (length slice)) refl (sym h ∙ z) (ruleRefusals a e) refl
 
     pub compile-accepts : (n : ℕ) (out : List ℕ) → n ≡ 0 + length (compiledTable a e) → out ≡ sets slice 0 (compiledTable a e)
         → (accepted (n ∷ []) ≡ compileAnswer a e slice) × (out ≡ compileExit a e slice)

@@ -1,32 +1,33 @@
 -- What is known of a call that is not refused. A part that lists of refusals share has one record, and an operation's record is made
 -- of those of its parts and of what is its own; what 1 and 2, 3 to 5, and 10 and 11 say is in words (AcceptedAlphabet,
 -- AcceptedExpression, AcceptedTree).
-use mathlib.Core.Path.{_≡_, refl, _∙_}
-use mathlib.Core.Bool.{true, false, _||_}
-use mathlib.Core.List.{List, [], _∷_, _++_}
+use mathlib.Core.Path.{_≡_, refl, ap, sym}
+use mathlib.Core.Bool.{true, false, not, _||_}
+use mathlib.Core.List.{List}
 use Prim.Native.Nat.{ℕ, _*_, _≤_, _<_}
 use lib.ListN.{length}
 use lib.Dec.{ltb}
 use borrow.Author.Tests.{ltb-true, ltb-false, le-ltb, not-false}
 use Rattle.words.specs.Limits.{statesMost, nodesMost}
-use Rattle.words.specs.Refusal.{Refusals, refusal}
+use Rattle.words.specs.Refusal.{refusal}
 use Rattle.words.specs.Alphabet.{alphabetRefusals, alphabetFault}
 use Rattle.words.specs.ExpressionWords.{expressionRefusals, expressionFault}
 use Rattle.words.specs.Chapter.{notNodes, treeRefusals, treeFault}
 use Rattle.words.specs.Postfix.{notOneTree, splice}
 use Rattle.words.proofs.TestLaws.{or-false}
 use Rattle.words.proofs.LimitLaws.{Within, not-outside, is-within}
-use Rattle.words.proofs.RefusalLaws.{conditionOf, none-applies, none-refusal, parts-pass, first-passes}
+use Rattle.words.proofs.RefusalLaws.{none, next, found-refusal, refusal-found, conditionOf, none-applies, none-refusal}
+use Rattle.words.proofs.RefusalLaws.{passed, part-passes, part-behind}
 use Rattle.words.proofs.AcceptedTree.{AcceptedTree, tree-accepted}
 use Rattle.automaton.specs.Table.{isTable, noTable}
 use Rattle.automaton.specs.Numbering.{compiled}
-use Rattle.operations.specs.Compile.{compiledTable, tooManyStates, tableTooLong, ruleRefusals, compileFault}
+use Rattle.operations.specs.Compile.{compiledTable, tooManyStates, tableTooLong, ruleRefusals, compileRefusals, compileFault}
 use Rattle.operations.specs.Marks.{sizeOf}
-use Rattle.operations.specs.Run.{wrongCount, marksTooShort, tableRefusals, markedRefusals, runFault}
-use Rattle.operations.specs.Listing.{listTooShort, listFault}
+use Rattle.operations.specs.Run.{wrongCount, marksTooShort, tableRefusals, markedRefusals, runRefusals, runFault}
+use Rattle.operations.specs.Listing.{listTooShort, listRefusals, listFault}
 use Rattle.operations.specs.ExchangeCall.{ExchangeCall}
 use Rattle.operations.specs.Exchange.{wrongUsedCount, noElement, noReplacement, resultTooLong, changeRefusals}
-use Rattle.operations.specs.Exchange.{exchangeFault, used, fault}
+use Rattle.operations.specs.Exchange.{exchangeRefusals, exchangeFault, used, fault}
 
 -- ---- an alphabet and a rule
 
@@ -41,13 +42,11 @@ pub record RuleAccepted (a e : List ℕ) : Type 0 where
 pub rule-accepted : (a e : List ℕ) → refusal (ruleRefusals a e) ≡ 0 → RuleAccepted a e
 unfolding tooManyStates
 rule-accepted a e h =
-    let six : Refusals = (6, tooManyStates a e) ∷ [] in
-    let p = parts-pass (alphabetRefusals a) (expressionRefusals a e ++ six) refl h in
-    let q = parts-pass (expressionRefusals a e) six refl (p .1) in
+    let rs = ruleRefusals a e in
     record {
-      alphabet = p .0;
-      expression = q .0;
-      states = ltb-false statesMost (compiled a e .states) (none-applies six refl (q .1) 6);
+      alphabet = part-passes rs refl h (alphabetRefusals a) refl;
+      expression = part-behind rs refl h 2 (expressionRefusals a e) refl;
+      states = ltb-false statesMost (compiled a e .states) (none-applies rs refl h 6);
     }
 
 -- `tableLength` is the length of the table slice
@@ -60,11 +59,10 @@ pub record CompileAccepted (a e : List ℕ) (tableLength : ℕ) : Type 0 where
 pub compile-accepted : (a e : List ℕ) (tableLength : ℕ) → compileFault a e tableLength ≡ 0 → CompileAccepted a e tableLength
 unfolding tableTooLong
 compile-accepted a e tableLength h =
-    let seven : Refusals = (7, tableTooLong a e tableLength) ∷ [] in
-    let p = parts-pass (ruleRefusals a e) seven refl h in
+    let rs = compileRefusals a e tableLength in
     record {
-      rule = rule-accepted a e (p .0);
-      fits = ltb-false tableLength (length (compiledTable a e)) (none-applies seven refl (p .1) 7);
+      rule = rule-accepted a e (part-passes rs refl h (ruleRefusals a e) refl);
+      fits = ltb-false tableLength (length (compiledTable a e)) (none-applies rs refl h 7);
     }
 
 -- ---- an alphabet and a table
@@ -79,13 +77,16 @@ module _ (a table : List ℕ) where
   pub table-accepted : refusal (tableRefusals a table) ≡ 0 → TableAccepted a table
   unfolding noTable
   table-accepted h =
-      let eight : Refusals = (8, noTable a table) ∷ [] in
-      let p = parts-pass (alphabetRefusals a) eight refl h in
-      record { alphabet = p .0; automaton = not-false (isTable a table) (none-applies eight refl (p .1) 8) }
+      let rs = tableRefusals a table in
+      record {
+        alphabet = part-passes rs refl h (alphabetRefusals a) refl;
+        automaton = not-false (isTable a table) (none-applies rs refl h 8);
+      }
 
   pub accepted-table : TableAccepted a table → refusal (tableRefusals a table) ≡ 0
   unfolding noTable
-  accepted-table g = first-passes (alphabetRefusals a) ((8, noTable a table) ∷ []) refl (g .alphabet) ∙ rw (g .automaton)
+  accepted-table g =
+      sym (found-refusal (tableRefusals a table) (passed (alphabetRefusals a) refl (g .alphabet) (next (ap not (g .automaton)) none)))
 
 -- ---- how many elements there are
 
@@ -127,16 +128,19 @@ pub record MarkedAccepted (a table : List ℕ) (n : ℕ) (ch : List ℕ) (marksL
   pub marks : n * sizeOf table ≤ marksLength
 
 module _ (a table : List ℕ) (n : ℕ) (ch : List ℕ) (marksLength : ℕ) where
-  abbrev twelve : Refusals
-  twelve = (12, marksTooShort table n marksLength) ∷ []
-
   pub marked-accepted : refusal (markedRefusals a table n ch marksLength) ≡ 0 → MarkedAccepted a table n ch marksLength
   marked-accepted h =
-      let p = parts-pass (treeRefusals a ch) twelve refl h in
-      record { tree = p .0; marks = marks-fit table n marksLength (none-applies twelve refl (p .1) 12) }
+      let rs = markedRefusals a table n ch marksLength in
+      record {
+        tree = part-passes rs refl h (treeRefusals a ch) refl;
+        marks = marks-fit table n marksLength (none-applies rs refl h 12);
+      }
 
   pub accepted-marked : MarkedAccepted a table n ch marksLength → refusal (markedRefusals a table n ch marksLength) ≡ 0
-  accepted-marked g = first-passes (treeRefusals a ch) twelve refl (g .tree) ∙ rw (fit-marks table n marksLength (g .marks))
+  accepted-marked g =
+      sym
+      (found-refusal (markedRefusals a table n ch marksLength)
+      (passed (treeRefusals a ch) refl (g .tree) (next (fit-marks table n marksLength (g .marks)) none)))
 
 -- ---- a change
 
@@ -205,26 +209,25 @@ pub record RunAccepted (a table p : List ℕ) (marksLength : ℕ) : Type 0 where
   pub marked : MarkedAccepted a table (length p) p marksLength
 
 module _ (a table p : List ℕ) (marksLength : ℕ) where
-  abbrev nine : Refusals
-  nine = (9, wrongCount (length p)) ∷ []
-
-  abbrev marked : Refusals
-  marked = markedRefusals a table (length p) p marksLength
-
   pub run-accepted : runFault a table p marksLength ≡ 0 → RunAccepted a table p marksLength
   run-accepted h =
-      let first = parts-pass (tableRefusals a table) (nine ++ marked) refl h in
-      let rest = parts-pass nine marked refl (first .1) in
+      let rs = runRefusals a table p marksLength in
       record {
-        checked = table-accepted a table (first .0);
-        counted = count-right (length p) (none-applies nine refl (rest .0) 9);
-        marked = marked-accepted a table (length p) p marksLength (rest .1);
+        checked = table-accepted a table (part-passes rs refl h (tableRefusals a table) refl);
+        counted = count-right (length p) (none-applies rs refl h 9);
+        marked =
+            marked-accepted a table (length p) p marksLength
+            (part-behind rs refl h 9 (markedRefusals a table (length p) p marksLength) refl);
       }
 
   pub accepted-run : RunAccepted a table p marksLength → runFault a table p marksLength ≡ 0
   accepted-run g =
-      first-passes (tableRefusals a table) (nine ++ marked) refl (accepted-table a table (g .checked))
-      ∙ rw (right-count (length p) (g .counted)) (accepted-marked a table (length p) p marksLength (g .marked))
+      sym
+      (found-refusal (runRefusals a table p marksLength)
+      (passed (tableRefusals a table) refl (accepted-table a table (g .checked))
+      (next (right-count (length p) (g .counted))
+      (refusal-found (markedRefusals a table (length p) p marksLength)
+      (sym (accepted-marked a table (length p) p marksLength (g .marked)))))))
 
 -- ---- List
 
@@ -239,16 +242,13 @@ pub record ListAccepted (a table : List ℕ) (n marksLength listLength : ℕ) : 
   pub list : n ≤ listLength
 
 module _ (a table : List ℕ) (n marksLength listLength : ℕ) where
-  abbrev own : Refusals
-  own = (9, wrongCount n) ∷ (12, marksTooShort table n marksLength) ∷ (13, listTooShort n listLength) ∷ []
-
   pub list-accepted : listFault a table n marksLength listLength ≡ 0 → ListAccepted a table n marksLength listLength
   unfolding listTooShort
   list-accepted h =
-      let p = parts-pass (tableRefusals a table) own refl h in
-      let not-so : (k : ℕ) → conditionOf k own ≡ false = none-applies own refl (p .1) in
+      let rs = listRefusals a table n marksLength listLength in
+      let not-so : (k : ℕ) → conditionOf k rs ≡ false = none-applies rs refl h in
       record {
-        checked = table-accepted a table (p .0);
+        checked = table-accepted a table (part-passes rs refl h (tableRefusals a table) refl);
         counted = count-right n (not-so 9);
         marks = marks-fit table n marksLength (not-so 12);
         list = ltb-false listLength n (not-so 13);
@@ -257,8 +257,11 @@ module _ (a table : List ℕ) (n marksLength listLength : ℕ) where
   pub accepted-list : ListAccepted a table n marksLength listLength → listFault a table n marksLength listLength ≡ 0
   unfolding listTooShort
   accepted-list g =
-      first-passes (tableRefusals a table) own refl (accepted-table a table (g .checked))
-      ∙ rw (right-count n (g .counted), fit-marks table n marksLength (g .marks), le-ltb listLength n (g .list))
+      sym
+      (found-refusal (listRefusals a table n marksLength listLength)
+      (passed (tableRefusals a table) refl (accepted-table a table (g .checked))
+      (next (right-count n (g .counted))
+      (next (fit-marks table n marksLength (g .marks)) (next (le-ltb listLength n (g .list)) none)))))
 
 -- ---- Exchange
 
@@ -276,17 +279,13 @@ pub exchange-accepted : (a table : List ℕ) (n : ℕ) (used : List ℕ) (chapte
     → exchangeFault a table n used chapterLength marksLength i xs ≡ 0
     → ExchangeAccepted a table n used chapterLength marksLength i xs
 exchange-accepted a table n used chapterLength marksLength i xs h =
-    let nine : Refusals = (9, wrongUsedCount n chapterLength) ∷ [] in
-    let marked = markedRefusals a table n used marksLength in
+    let rs = exchangeRefusals a table n used chapterLength marksLength i xs in
     let change = changeRefusals a table n used chapterLength marksLength i xs in
-    let first = parts-pass (tableRefusals a table) (nine ++ (marked ++ change)) refl h in
-    let second = parts-pass nine (marked ++ change) refl (first .1) in
-    let third = parts-pass marked change refl (second .1) in
     record {
-      checked = table-accepted a table (first .0);
-      count = used-count-right n chapterLength (none-applies nine refl (second .0) 9);
-      marked = marked-accepted a table n used marksLength (third .0);
-      change = change-accepted a table n used chapterLength marksLength i xs (third .1);
+      checked = table-accepted a table (part-passes rs refl h (tableRefusals a table) refl);
+      count = used-count-right n chapterLength (none-applies rs refl h 9);
+      marked = marked-accepted a table n used marksLength (part-behind rs refl h 9 (markedRefusals a table n used marksLength) refl);
+      change = change-accepted a table n used chapterLength marksLength i xs (part-behind rs refl h 12 change refl);
     }
 
 -- the same of a call as one record

@@ -1,7 +1,7 @@
 -- What Compile, Run and List answer on slices that are long enough is what the output is made of: no number of a short slice can
 -- arise.
 use mathlib.Core.Path.{_≡_, refl, ap, _∙_, sym}
-use mathlib.Core.Bool.{Bool, false}
+use mathlib.Core.Bool.{false}
 use mathlib.Core.List.{List, [], _∷_, _++_, head-eq-of-cons-eq}
 use Prim.Native.Nat.{ℕ, zero, suc, _*_, _<_, _≤_}
 use native.Mathlib.Omega.{arith}
@@ -10,11 +10,10 @@ use lib.ListN.{length, take}
 use borrow.Author.Tests.{le-ltb}
 use Rattle.words.specs.Limits.{tableMost, nodesMost}
 use Rattle.words.specs.Refusal.{Refusals, refusal}
-use Rattle.words.specs.Chapter.{treeRefusals}
 use Rattle.words.specs.Answer.{refused, accepted}
 use Rattle.words.proofs.ListLaws.{take-over}
 use Rattle.words.proofs.LimitLaws.{over-outside}
-use Rattle.words.proofs.RefusalLaws.{here, found-refusal, refuses, first-passes, last-passes}
+use Rattle.words.proofs.RefusalLaws.{Found, none, here, next, found-refusal, refusal-found, refuses, passed, none-behind, behind}
 use Rattle.words.proofs.AnswerLaws.{refused-number, accepted-values}
 use Rattle.automaton.specs.Transition.{Automaton, automatonOf}
 use Rattle.automaton.specs.StateSet.{sizeFor}
@@ -22,7 +21,7 @@ use Rattle.automaton.specs.Numbering.{compiled}
 use Rattle.automaton.proofs.CompiledTable.{table-most}
 use Rattle.operations.specs.Compile.{compiledTable, tableTooLong, ruleRefusals, compileRefusals, compileFault, compileAnswer}
 use Rattle.operations.specs.Marks.{sizeOf, finalOf, nodeSets}
-use Rattle.operations.specs.Run.{wrongCount, marksTooShort, tableRefusals, runFault, runMarks, runAnswer, runExit}
+use Rattle.operations.specs.Run.{wrongCount, marksTooShort, tableRefusals, runRefusals, runFault, runMarks, runAnswer, runExit}
 use Rattle.operations.specs.Listing.{listFault, matchesIn, matchesOf, listAnswer, listExit}
 use Rattle.operations.proofs.AcceptedLaws.{RuleAccepted, rule-accepted}
 use Rattle.operations.proofs.AcceptedLaws.{accepted-table, run-accepted, accepted-list}
@@ -51,7 +50,8 @@ module _ (a e : List ℕ) where
       go : (n : ℕ) → refusal (ruleRefusals a e) ≡ n → compileFault a e tableMost ≡ refusal (ruleRefusals a e)
       go (suc n) h =
           sym (found-refusal (compileRefusals a e tableMost) (refuses (ruleRefusals a e) _ refl (λ z. omega arith)))
-      go zero h = first-passes (ruleRefusals a e) ((7, tableTooLong a e tableMost) ∷ []) refl h ∙ rw (table-enough h) (sym h)
+      go zero h =
+          sym (found-refusal (compileRefusals a e tableMost) (passed (ruleRefusals a e) refl h (next (table-enough h) none))) ∙ sym h
 
   -- a refused Compile: its number is printed
   pub compile-refused : (ch slice : List ℕ) (n : ℕ) → length slice ≡ tableMost → refused n ≡ compileAnswer a e slice
@@ -80,7 +80,9 @@ module _ (a e : List ℕ) where
 
     -- the refusals that are left
     pub left-fault : marklistFault a e ch ≡ refusal (chapterRefusals a ch)
-    left-fault = first-passes (ruleRefusals a e) (chapterRefusals a ch) refl rule-none
+    left-fault =
+        sym
+        (found-refusal (marklistRefusals a e ch) (passed (ruleRefusals a e) refl rule-none (refusal-found (chapterRefusals a ch) refl)))
 
     -- "Over 256 elements it says 9"
     pub chapter-over : chapterMost < length ch → marklistOutput a e ch ≡ refusedLine 9
@@ -113,12 +115,17 @@ module _ (a e : List ℕ) where
       run-fault : runFault a (compiledTable a e) ch marksLength ≡ marklistFault a e ch
       run-fault =
           let T = compiledTable a e in
-          let shared : Refusals = (9, wrongCount (length ch)) ∷ treeRefusals a ch in
-          let last : Refusals = (12, marksTooShort T (length ch) marksLength) ∷ [] in
-          first-passes (tableRefusals a T) (shared ++ last) refl
-          (accepted-table a T (record { alphabet = rule .alphabet; automaton = known .checked }))
-          ∙ last-passes shared last (rw marks-enough)
-          ∙ ap (λ (b : Bool). refusal ((9, b) ∷ treeRefusals a ch)) same-count ∙ sym left-fault
+          sym
+          (found-refusal asked
+          (passed (tableRefusals a T) refl (accepted-table a T (record { alphabet = rule .alphabet; automaton = known .checked }))
+          (go (refusal-found (chapterRefusals a ch) left-fault))))
+        where
+          asked : Refusals
+          asked = runRefusals a (compiledTable a e) ch marksLength
+
+          go : {f : ℕ} → Found (chapterRefusals a ch) f → Found (behind 8 asked) f
+          go (here b) = here (same-count ∙ b)
+          go (next b r) = next (same-count ∙ b) (none-behind r (behind 11 asked) (marks-enough, tt))
 
       -- a refused Run: its number is printed
       pub run-refusal : (marks : List ℕ) (n : ℕ) → length marks ≡ marksLength → refused n ≡ runAnswer a (compiledTable a e) ch marks

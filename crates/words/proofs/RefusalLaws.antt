@@ -1,11 +1,12 @@
 -- Laws of refusals: the number is that of the first condition that holds, and a call that is not refused has none that does.
 -- `Found` is the evidence; the laws of `First` and of `NoneHolds`, of which the claims speak, follow from it. `NoneHolds` is passed
 -- on.
-use mathlib.Core.Path.{_≡_, refl, _∙_, sym}
+use mathlib.Core.Path.{_≡_, refl, _∙_, sym, subst}
 use mathlib.Core.Bool.{Bool, true, false, not, cond, _&&_, _||_}
 use mathlib.Core.List.{[], _∷_, _++_}
-use Prim.Native.Nat.{ℕ, _<_, _≤_}
+use Prim.Native.Nat.{ℕ, zero, suc, _<_, _≤_}
 use native.Mathlib.Omega.{arith}
+use lib.ListN.{length, take}
 use lib.Dec.{ltb, leb, eqb}
 use borrow.Author.Tests.{ltb-true, leb-true, ne-eqb}
 use Rattle.words.specs.Refusal.{Refusals, refusal, First, here as first-here, later}
@@ -122,20 +123,44 @@ passes rs {ks} {g = g} p e h r = go rs (refusal-none rs p (sym e ∙ h))
     go [] n = r
     go (q ∷ rs) n = next (n .0) (go rs (n .1))
 
--- where the whole list does not refuse, neither part does
-pub parts-pass : (rs ks : Refusals) → positive rs ≡ true → refusal (rs ++ ks) ≡ 0 → (refusal rs ≡ 0) × (refusal ks ≡ 0)
-parts-pass [] ks p h = (refl, h)
-parts-pass ((n, true) ∷ rs) ks p h = absurd (omega (arith, first-above n rs p))
-parts-pass ((n, false) ∷ rs) ks p h = parts-pass rs ks (rest-above n rs p) h
+pub passed : (rs : Refusals) {ks : Refusals} {g : ℕ} → positive rs ≡ true → refusal rs ≡ 0 → Found ks g → Found (rs ++ ks) g
+passed rs p z r = passes rs p (sym z) refl r
 
--- where one part does not refuse, the other decides
-pub first-passes : (rs ks : Refusals) → positive rs ≡ true → refusal rs ≡ 0 → refusal (rs ++ ks) ≡ refusal ks
-first-passes rs ks p h = sym (found-refusal (rs ++ ks) (passes rs p refl h (refusal-found ks refl)))
+-- conditions that fail make no difference behind it
+pub none-behind : {rs : Refusals} {f : ℕ} → Found rs f → (ks : Refusals) → NoneHolds ks → Found (rs ++ ks) f
+none-behind none ks h = none-found ks h
+none-behind (here e) ks h = here e
+none-behind (next e r) ks h = next e (none-behind r ks h)
 
-pub last-passes : (rs ks : Refusals) → refusal ks ≡ 0 → refusal (rs ++ ks) ≡ refusal rs
-last-passes [] ks h = h
-last-passes ((n, true) ∷ rs) ks h = refl
-last-passes ((n, false) ∷ rs) ks h = last-passes rs ks h
+-- ---- parts of a list that does not refuse
+
+-- what stands behind number n
+abbrev pub behind : ℕ → Refusals → Refusals
+behind n [] = []
+behind n (r ∷ rs) = let rest = behind n rs in cond (eqb (r .0) n) rs rest
+
+holds-taken : (k : ℕ) (rs : Refusals) → NoneHolds rs → NoneHolds (take k rs)
+holds-taken zero rs h = tt
+holds-taken (suc k) [] h = tt
+holds-taken (suc k) (r ∷ rs) h = (h .0, holds-taken k rs (h .1))
+
+holds-behind : (n : ℕ) (rs : Refusals) → NoneHolds rs → NoneHolds (behind n rs)
+holds-behind n [] h = tt
+holds-behind n (r ∷ rs) h = go (eqb (r .0) n) (holds-behind n rs (h .1))
+  where
+    go : (b : Bool) → NoneHolds (behind n rs) → NoneHolds (cond b rs (behind n rs))
+    go true i = h .1
+    go false i = i
+
+-- the part with which the list begins, and the part that stands behind number n: where they are written out, `refl` proves that they
+-- stand there
+module _ (whole : Refusals) (p : positive whole ≡ true) (h : refusal whole ≡ 0) where
+  pub part-passes : (rs : Refusals) → take (length rs) whole ≡ rs → refusal rs ≡ 0
+  part-passes rs e = none-refusal rs (subst NoneHolds e (holds-taken (length rs) whole (refusal-none whole p h)))
+
+  pub part-behind : (n : ℕ) (rs : Refusals) → take (length rs) (behind n whole) ≡ rs → refusal rs ≡ 0
+  part-behind n rs e =
+      none-refusal rs (subst NoneHolds e (holds-taken (length rs) (behind n whole) (holds-behind n whole (refusal-none whole p h))))
 
 -- the first number of the list that applies, or n
 abbrev pub refusalOr : Refusals → ℕ → ℕ
