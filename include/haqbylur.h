@@ -84,7 +84,7 @@ uint32_t haqbylur_run(
     uint32_t *elements,
     uint32_t *cells);
 
-/* Names the hits of a marked chapter of `count` elements, in rising order: the elements whose whole subtree belongs to the rule's
+/* Names the hits of a marked chapter of `count` elements, in ascending order: the elements whose whole subtree belongs to the rule's
  * language. hits: how many there are. Refusals 1, 2, 8, 9, 12, 13. */
 uint32_t haqbylur_list(
     const uint32_t *alphabet, size_t alphabet_length,

@@ -36,8 +36,8 @@ def passes(transitions, symbol_targets):
     return count
 
 
-class Walk:
-    """The walk over a chapter: each element's state set, the steps that occur, the most frequent first, and the stacks between
+class Reading:
+    """A chapter read once: each element's state set, the steps that occur, the most frequent first, and the stacks between
     the parts of the chapter."""
 
     def __init__(self, book, words_in_part):
@@ -70,10 +70,10 @@ class Walk:
         return [(states, steps[i:i + STEPS_IN_FACT]) for states, steps in groups.items() for i in range(0, len(steps), STEPS_IN_FACT)]
 
 
-def table_facts(walk, unfolding):
-    moves = list_of('moves', walk.automaton.transitions, transition, 4, 'Transition')
-    states, final = walk.steps.states, walk.steps.final
-    return [list_of('table', walk.table, hexadecimal), moves,
+def table_facts(reading, unfolding):
+    moves = list_of('moves', reading.automaton.transitions, transition, 4, 'Transition')
+    states, final = reading.steps.states, reading.steps.final
+    return [list_of('table', reading.table, hexadecimal), moves,
             'abbrev pub automaton : Automaton\n'
             f'automaton = record {{ states = {states}; final = {final}; transitions = moves }}\n',
             fact('compiles', 'compiledTable alphabet rule ≡ table', unfolding=unfolding),
@@ -82,14 +82,14 @@ def table_facts(walk, unfolding):
             fact('final-state', f'compiled alphabet rule .final ≡ {final}', unfolding=unfolding)]
 
 
-def step_facts(walk):
+def step_facts(reading):
     """The steps, worked out; and `value`, which looks a step up."""
-    groups = walk.groups()
-    texts = [list_of(name, words) for words, name in walk.names.items()]
+    groups = reading.groups()
+    texts = [list_of(name, words) for words, name in reading.names.items()]
     proofs = []
     for i, (states, steps) in enumerate(groups):
-        count, after = passes(walk.automaton.transitions, states), walk.names[walk.steps.known[steps[0]]]
-        texts += [list_of(f'steps{i}', steps, walk.step_text, 1, 'Step'), list_of(f'start{i}', walk.steps.words_of(states)),
+        count, after = passes(reading.automaton.transitions, states), reading.names[reading.steps.known[steps[0]]]
+        texts += [list_of(f'steps{i}', steps, reading.step_text, 1, 'Step'), list_of(f'start{i}', reading.steps.words_of(states)),
                   fact(f'closes{i}', f'closes automaton {count} start{i} {after} ≡ true', unfolding=SETS),
                   fact(f'reach{i}', f'reach automaton start{i} {after} steps{i} ≡ true', unfolding=SETS)]
         proofs.append(f'(right-steps automaton {count} start{i} {after} steps{i} closes{i} reach{i})')
@@ -97,20 +97,20 @@ def step_facts(walk):
     for i in reversed(range(len(groups) - 1)):
         proof = f'known-append (setBy automaton) steps{i} ({behind}) {proofs[i]}\n    ({proof})'
         behind = f'steps{i} ++ ({behind})'
-    return texts + [list_of('steps', [step for _, steps in groups for step in steps], walk.step_text, 1, 'Step'),
+    return texts + [list_of('steps', [step for _, steps in groups for step in steps], reading.step_text, 1, 'Step'),
                     fact('known', 'Known (setBy automaton) steps', proof),
                     'unfoldable pub value : Value\nvalue w rs = found (setBy automaton) steps w rs\n',
                     fact('same-value', '(w : ℕ) (rs : List StateSet) → value w rs ≡ setBy automaton w rs',
                          'found-same (setBy automaton) steps known w rs', ['value'])]
 
 
-def hit_facts(walk, nodes, words_in_part):
+def hit_facts(reading, nodes, words_in_part):
     """The hits, part by part of the chapter."""
-    parts = len(walk.stacks) - 1
-    hits = {part: list(group) for part, group in groupby(walk.hits, lambda hit: hit // words_in_part)}
-    texts = [list_of(f'stack{i}', [walk.names[words] for words in stack], of='StateSet') for i, stack in enumerate(walk.stacks)]
+    parts = len(reading.stacks) - 1
+    hits = {part: list(group) for part, group in groupby(reading.hits, lambda hit: hit // words_in_part)}
+    texts = [list_of(f'stack{i}', [reading.names[words] for words in stack], of='StateSet') for i, stack in enumerate(reading.stacks)]
     texts += [part_of(f'hits{i}', hits.get(i, [])) for i in range(parts)] + [listed('hits', parts)]
-    scan = f'quickHits alphabet value {walk.steps.final}'
+    scan = f'quickHits alphabet value {reading.steps.final}'
     for i in range(parts):
         end = min((i + 1) * words_in_part, nodes)
         texts.append(fact(f'scanned{i}', f'(rest : List ℕ) → {scan} {i * words_in_part} (chapter{i} rest) stack{i} ≡ '
@@ -120,11 +120,11 @@ def hit_facts(walk, nodes, words_in_part):
                     fact('inside', f'below {nodes} hits ≡ true')]
 
 
-def line_facts(walk, nodes, starts, lines_in_part):
+def line_facts(reading, nodes, starts, lines_in_part):
     """The lines, part by part of the answer; the first begins with the head line."""
-    head = f'headLine {nodes} {walk.steps.states} {len(walk.hits)}'
-    ends = [0] + list(range(lines_in_part - 1, len(walk.hits), lines_in_part)) + [len(walk.hits)]
-    groups = [walk.hits[start:end] for start, end in zip(ends, ends[1:])]
+    head = f'headLine {nodes} {reading.steps.states} {len(reading.hits)}'
+    ends = [0] + list(range(lines_in_part - 1, len(reading.hits), lines_in_part)) + [len(reading.hits)]
+    groups = [reading.hits[start:end] for start, end in zip(ends, ends[1:])]
     groups = groups[:-1] if len(groups) > 1 and not groups[-1] else groups
     lines = 'quickLines alphabet chapter starts'
     texts = [list_of('starts', starts), fact('begin', 'quickStarts alphabet chapter 0 chapter [] ≡ starts', unfolding=READING)]
@@ -138,7 +138,7 @@ def line_facts(walk, nodes, starts, lines_in_part):
 
 
 def evidence(book, words_in_part, lines_in_part, unfolding):
-    walk, nodes = Walk(book, words_in_part), len(book.chapter)
+    reading, nodes = Reading(book, words_in_part), len(book.chapter)
     report = f'''\
 report : Report alphabet rule chapter value answer
 report = record {{
@@ -146,16 +146,16 @@ report = record {{
   compiles = compiles;
   automaton = automaton;
   decodes = decodes;
-  states = {walk.steps.states};
+  states = {reading.steps.states};
   stateCount = state-count;
-  final = {walk.steps.final};
+  final = {reading.steps.final};
   finalState = final-state;
   value = same-value;
   hits = hits;
   found = all-hits;
   nodes = {nodes};
   elements = refl;
-  count = {len(walk.hits)};
+  count = {len(reading.hits)};
   counted = refl;
   inside = inside;
   tree = one-tree;
@@ -164,6 +164,6 @@ report = record {{
   lines = all-lines;
 }}
 '''
-    return [*table_facts(walk, unfolding), *step_facts(walk), *hit_facts(walk, nodes, words_in_part),
+    return [*table_facts(reading, unfolding), *step_facts(reading), *hit_facts(reading, nodes, words_in_part),
             fact('one-tree', 'trees alphabet 0 chapter 1 ≡ true', unfolding=READING + ['treesBy']),
-            *line_facts(walk, nodes, starts_of(book.alphabet, book.chapter), lines_in_part), report]
+            *line_facts(reading, nodes, starts_of(book.alphabet, book.chapter), lines_in_part), report]

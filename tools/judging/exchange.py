@@ -105,16 +105,16 @@ def recompute(call, steps, start):
     count, element = call.count[0], call.element[0]
     stored = [tuple(call.marks[i * steps.size:(i + 1) * steps.size]) for i in range(count)]
     fresh = state_sets(call.alphabet, steps, call.replacement)
-    behind, worked_out, going = [], len(fresh), fresh[-1] != stored[element]
+    behind, worked_out, active = [], len(fresh), fresh[-1] != stored[element]
     starts = starts_of(call.alphabet, call.chapter[:count])
     stack = []
     for index, word in enumerate(call.chapter[:count]):
         children = pop(stack, arity(call.alphabet, word))
         words = fresh[-1] if index == element else stored[index]
         if index > element:
-            if going and starts[index] <= element:
+            if active and starts[index] <= element:
                 words, worked_out = steps.step(word, children), worked_out + 1
-                going = words != stored[index]
+                active = words != stored[index]
             behind.append(words)
         stack.append(words)
     return stored[:start] + fresh + behind, worked_out

@@ -1,6 +1,6 @@
 -- The constants of an alphabet, word by word: those of the first i entries, their number, and a list that they are written
 -- into.
-use mathlib.Core.Path.{_≡_, refl, ap, _∙_, sym}
+use mathlib.Core.Path.{_≡_, refl, ap, _∙_, sym, subst}
 use mathlib.Core.Bool.{Bool, true, false, cond}
 use mathlib.Core.List.{List, [], _∷_, _++_, append-nil}
 use Prim.Native.Nat.{ℕ, suc, _+_, _<_, _≤_}
@@ -11,6 +11,7 @@ use lib.ListN.{length, getD, take, set, length-append}
 use lib.Seq.{sets, length-sets, take-suc, take-all, length-take-le, set-out}
 use lib.Dec.{ltb, eqb}
 use borrow.Author.Tests.{lt-ltb, ltb-true, ltb-false}
+use Rattle.words.specs.Limits.{alphabetMost}
 use Rattle.words.specs.Alphabet.{entryRank, rankOf, isSymbol, isConstant, constantsFrom, constantsOf}
 use Rattle.words.proofs.TestLaws.{Tested, holds, fails, tested, and-true}
 use Rattle.words.proofs.ListLaws.{sets-append}
@@ -79,11 +80,11 @@ module _ {a : List ℕ} {n i : ℕ} (c : Counted a n i) where
   pub counted-end : length a ≤ i → n ≡ length (constantsOf a)
   counted-end h = c .count ∙ ap (λ (l : List ℕ). length (constantsOf l)) (take-all i a h)
 
--- ---- writing: the n constants of the first i entries, of which there are at most 64, are stored from the first word on
+-- ---- writing: the n constants of the first i entries, of which there are at most as many as an alphabet can have, are stored from the first word on
 
 pub record Written (a list₀ list : List ℕ) (n i : ℕ) : Type 0 where
   pub counted : Counted a n i
-  pub low : i ≤ 64
+  pub low : i ≤ alphabetMost
   pub words : list ≡ sets list₀ 0 (constantsOf (take i a))
 
 pub written-none : (a list : List ℕ) → Written a list list 0 0
@@ -94,7 +95,7 @@ module _ {a list₀ list : List ℕ} {n i : ℕ} (w : Written a list₀ list n i
   pub written-length : length list ≡ length list₀
   written-length = ap length (w .words) ∙ length-sets list₀ 0 (constantsOf (take i a))
 
-  pub written-more : i < 64 → isConstant a i ≡ true → Written a list₀ (set list n i) (n + 1) (i + 1)
+  pub written-more : i < alphabetMost → isConstant a i ≡ true → Written a list₀ (set list n i) (n + 1) (i + 1)
   written-more h e =
       let before = constantsOf (take i a) in
       record {
@@ -107,14 +108,16 @@ module _ {a list₀ list : List ℕ} {n i : ℕ} (w : Written a list₀ list n i
       }
 
   -- a constant past the end of the list is left out
-  pub written-past : i < 64 → isConstant a i ≡ true → length list ≤ n → Written a list₀ list (n + 1) (i + 1)
+  pub written-past : i < alphabetMost → isConstant a i ≡ true → length list ≤ n → Written a list₀ list (n + 1) (i + 1)
   written-past h e l = rw (set-out list n i l) at (written-more h e)
 
-  pub written-skip : i < 64 → isConstant a i ≡ false → Written a list₀ list n (i + 1)
+  pub written-skip : i < alphabetMost → isConstant a i ≡ false → Written a list₀ list n (i + 1)
   written-skip h e = record { counted = counted-skip (w .counted) e; low = omega arith; words = w .words ∙ rw (constants-skip a i e) }
 
-  pub written-end : 64 ≤ i → (n ≡ length (constantsOf (take 64 a))) × (list ≡ sets list₀ 0 (constantsOf (take 64 a)))
+  pub written-end : alphabetMost ≤ i
+      → (n ≡ length (constantsOf (take alphabetMost a))) × (list ≡ sets list₀ 0 (constantsOf (take alphabetMost a)))
   written-end h =
       let low = w .low in
-      let e : i ≡ 64 = omega arith in
-      rw (← e) (w .counted .count, w .words)
+      let e : i ≡ alphabetMost = omega arith in
+      subst (λ (k : ℕ). (n ≡ length (constantsOf (take k a))) × (list ≡ sets list₀ 0 (constantsOf (take k a)))) e
+      (w .counted .count, w .words)

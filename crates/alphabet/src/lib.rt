@@ -3,6 +3,7 @@ ghost use mathlib.Core.Path.{_≡_};
 ghost use lib.ListN.{length, take};
 ghost use lib.Seq.{sets};
 ghost use Rattle.words.specs.Lists.{all};
+ghost use Rattle.words.specs.Word.{lowByte};
 ghost use Rattle.words.specs.Limits.{alphabetMost};
 ghost use Rattle.words.specs.Alphabet.{isEntry, isConstant, rankOf, constantsOf, noAlphabet, alphabetFault};
 use words::limits::ALPHABET_MOST;
@@ -22,6 +23,13 @@ pub fn rank(alphabet: &[u32], symbol: usize) -> usize
         return (alphabet[symbol] % SYMBOL_RANGE) as usize;
     }
     0
+}
+
+// The rank of the symbol that a word names: how many children a node takes.
+pub fn symbol_rank(alphabet: &[u32], w: u32) -> usize
+    ensures { λ r. ⌜ r ≡ rankOf (now (alphabet .entry)) (lowByte w) ⌝ }
+{
+    rank(alphabet, (w % SYMBOL_RANGE) as usize)
 }
 
 // Whether the alphabet has the symbol and its rank is 0.

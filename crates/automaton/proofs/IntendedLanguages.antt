@@ -84,7 +84,7 @@ module _ (cs : List ℕ) where
   symbolBlock noneᵉ c σ = σ c ∷ []
   symbolBlock (moreᵉ e es) f σ = block (Under (Member (symbol f (moreᵉ e es))) σ) σ
 
-  -- the assignment is handed down; F of a product or closure gets another language for c
+  -- the parts get the same assignment; F of a product or closure gets another language for c
   abbrev mutual
     pub languages : Expression → Assignment → List Language
     languages (symbol f es) σ = languagesAll es σ ++ symbolBlock es f σ

@@ -8,7 +8,8 @@ use native.Mathlib.Nat.{add-suc, suc-add}
 use native.Mathlib.Numerals.{add-one}
 use lib.ListN.{length}
 use Rattle.words.specs.Limits.{alphabetMost}
-use Rattle.words.specs.Word.{Kind, noKind, symbolKind, emptyKind, unionKind, productKind, closureKind, kindNumber, symbolRange, wordOf, lowByte}
+use Rattle.words.specs.Word.{Kind, noKind, symbolKind, emptyKind, unionKind, productKind, closureKind}
+use Rattle.words.specs.Word.{kindNumber, symbolRange, wordOf, lowByte}
 use Rattle.words.specs.Alphabet.{constantsOf}
 use Rattle.words.specs.Postfix.{arity}
 use Rattle.words.proofs.KindLaws.{kindOf-wordOf, kindOf-hasKind}

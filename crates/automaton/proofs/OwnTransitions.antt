@@ -62,10 +62,10 @@ module _ (a : List ℕ) (n w : ℕ) where
         last = rw (length-numbered (constantsOf a) (suc n)) (add-suc n (length (constantsOf a)));
       })
 
-  pub own : (Ps : List Port) → isExpressionWord a w ≡ true → length Ps ≡ arity a w → Own a hi w E Ps (ownTransitions w E Ps)
+  pub own-transitions : (Ps : List Port) → isExpressionWord a w ≡ true → length Ps ≡ arity a w → Own a hi w E Ps (ownTransitions w E Ps)
   unfolding ownTransitions
-  own [] h r = leaf (leaf-of (entries-none a w (sym r)))
-  own (P ∷ Ps) h r = go Ps r (expressionWord a w h)
+  own-transitions [] h r = leaf (leaf-of (entries-none a w (sym r)))
+  own-transitions (P ∷ Ps) h r = go Ps r (expressionWord a w h)
     where
       i : Inner a hi E
       i = inner (entries-some a w (length Ps) (sym r))

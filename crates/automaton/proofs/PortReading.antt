@@ -1,5 +1,5 @@
 -- The words of an accepted expression, read one by one with the stack of ports: what holds at every word. Laws of the
--- compiled automaton are proved by going through such a reading.
+-- compiled automaton are proved by induction over such a reading.
 use Prim.Native.Nat.{ℕ, suc, _+_, _-_, _≤_}
 use mathlib.Core.Path.{_≡_, _∙_, subst}
 use mathlib.Core.Bool.{true}
@@ -17,7 +17,7 @@ use Rattle.words.proofs.TestLaws.{and-true, picked}
 use Rattle.words.proofs.AcceptedExpression.{expression-passed}
 use Rattle.automaton.specs.Numbering.{Port, statesOf, portOf, ownTransitions}
 use Rattle.automaton.proofs.PortStates.{PortIn, portOf-in, portIn-from, PortStack, bottom, push, Children, children-le, taken}
-use Rattle.automaton.proofs.OwnTransitions.{Own, own}
+use Rattle.automaton.proofs.OwnTransitions.{Own, own-transitions}
 
 -- the children of word w
 abbrev pub childrenOn : List ℕ → ℕ → List Port → List Port
@@ -50,7 +50,7 @@ module _ (a : List ℕ) where
         number = l;
         rest = t .rest;
         port = portOf-in a n w h;
-        own = own a n w (childrenOn a w stack) h l;
+        own = own-transitions a n w (childrenOn a w stack) h l;
       }
 
   reading : (ws : List ℕ) (n t : ℕ) (stack : List Port) → all (isExpressionWord a) ws ≡ true → trees a (length stack) ws t ≡ true

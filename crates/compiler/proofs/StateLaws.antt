@@ -16,7 +16,7 @@ use Rattle.words.proofs.WordLaws.{isExpressionWord-facts}
 use Rattle.automaton.specs.Numbering.{hasEntries, statesOf, portOf, statesAfter}
 use Rattle.automaton.proofs.EntryStates.{port-full, port-leaf}
 use Rattle.ports.specs.Ports.{everyEntry, noEntry, exitUnit, exitRange, entriesIn, exitIn, codeIn, portIn}
-use Rattle.ports.proofs.PortLaws.{entries-every, entries-none, entries-own}
+use Rattle.ports.proofs.PortLaws.{entriesIn-every, entriesIn-none, entriesIn-own}
 use Rattle.compiler.specs.Compiling.{wordStatesMost}
 
 -- the loop after i words
@@ -57,26 +57,26 @@ port-fields cs x t h l =
     ap₂ (λ (y u : ℕ). record { exit = y; entries = entriesIn cs y u }) e f
 
 module _ (a : List ℕ) (x w p : ℕ) (low : x < exitRange) where
-  pub port-every : hasEntries a w ≡ true → p ≡ x * exitUnit + everyEntry → portIn (constantsOf a) p ≡ portOf a x w
-  port-every h q =
+  pub word-port-every : hasEntries a w ≡ true → p ≡ x * exitUnit + everyEntry → portIn (constantsOf a) p ≡ portOf a x w
+  word-port-every h q =
       ap (portIn (constantsOf a)) q ∙ port-fields (constantsOf a) x everyEntry low (omega arith)
-      ∙ rw (entries-every (constantsOf a) x everyEntry refl, port-full a w x h)
+      ∙ rw (entriesIn-every (constantsOf a) x everyEntry refl, port-full a w x h)
 
-  pub port-constant : length a ≤ alphabetMost → lowByte w < length a → hasEntries a w ≡ false → numberOf w ≡ kindNumber symbolKind
+  pub word-port-constant : length a ≤ alphabetMost → lowByte w < length a → hasEntries a w ≡ false → numberOf w ≡ kindNumber symbolKind
       → p ≡ x * exitUnit + lowByte w → portIn (constantsOf a) p ≡ portOf a x w
-  port-constant few l h k q =
+  word-port-constant few l h k q =
       ap (portIn (constantsOf a)) q ∙ port-fields (constantsOf a) x (lowByte w) low (omega arith)
       ∙ rw (
-        entries-own (constantsOf a) x (lowByte w) (λ m. omega arith) (λ m. omega arith),
+        entriesIn-own (constantsOf a) x (lowByte w) (λ m. omega arith) (λ m. omega arith),
         port-leaf a w x h,
         eq-eqb (numberOf w) (kindNumber symbolKind) k,
       )
 
-  pub port-empty : hasEntries a w ≡ false → (numberOf w ≡ kindNumber symbolKind → ⊥) → p ≡ x * exitUnit + noEntry
+  pub word-port-empty : hasEntries a w ≡ false → (numberOf w ≡ kindNumber symbolKind → ⊥) → p ≡ x * exitUnit + noEntry
       → portIn (constantsOf a) p ≡ portOf a x w
-  port-empty h k q =
+  word-port-empty h k q =
       ap (portIn (constantsOf a)) q ∙ port-fields (constantsOf a) x noEntry low (omega arith)
-      ∙ rw (entries-none (constantsOf a) x noEntry refl, port-leaf a w x h, ne-eqb (numberOf w) (kindNumber symbolKind) k)
+      ∙ rw (entriesIn-none (constantsOf a) x noEntry refl, port-leaf a w x h, ne-eqb (numberOf w) (kindNumber symbolKind) k)
 
 -- the symbol of a symbol word is one of the alphabet's
 pub symbol-known : (a : List ℕ) (w : ℕ) → isExpressionWord a w ≡ true → numberOf w ≡ kindNumber symbolKind → lowByte w < length a

@@ -12,7 +12,7 @@ use Rattle.automaton.specs.Transition.{onSymbol, transitionWords, transitionsWo
 use Rattle.automaton.specs.Numbering.{numbered, constantTransitions}
 use Rattle.automaton.proofs.TransitionLaws.{transitionsWords-append, numbered-append}
 use Rattle.ports.specs.Ports.{everyEntry, noEntry, exitIn, codeIn, portIn}
-use Rattle.ports.proofs.PortLaws.{entries-every, entries-none, entries-own}
+use Rattle.ports.proofs.PortLaws.{entriesIn-every, entriesIn-none, entriesIn-own}
 use Rattle.emitter.specs.Writing.{WordsWritten}
 use Rattle.emitter.proofs.WritingLaws.{words-written-none, words-written-more, words-written-same}
 
@@ -64,16 +64,16 @@ module _ {cs : List ℕ} {x at : ℕ} {out out′ : List ℕ} {next k : ℕ} (w 
 module _ (cs : List ℕ) (p x at : ℕ) (out out′ : List ℕ) (r : ℕ) (e : x ≡ exitIn p) where
   pub port-every : codeIn p ≡ everyEntry → WordsWritten constantsMost at (everyWords x cs) out out′ r
       → WordsWritten constantsMost at (transitionsWords (constantTransitions (portIn cs p .entries))) out out′ r
-  port-every t w = rw (entries-every cs (exitIn p) (codeIn p) t, ← e) w
+  port-every t w = rw (entriesIn-every cs (exitIn p) (codeIn p) t, ← e) w
 
   pub port-own : (codeIn p ≡ everyEntry → ⊥) → (codeIn p ≡ noEntry → ⊥)
       → WordsWritten 1 at (transitionWords (onSymbol (codeIn p) [] x)) out out′ r
       → WordsWritten constantsMost at (transitionsWords (constantTransitions (portIn cs p .entries))) out out′ r
   port-own n m w =
-      rw (entries-own cs (exitIn p) (codeIn p) n m, ← e) (words-written-same 1 constantsMost at r _ _ out out′ w (omega arith) refl)
+      rw (entriesIn-own cs (exitIn p) (codeIn p) n m, ← e) (words-written-same 1 constantsMost at r _ _ out out′ w (omega arith) refl)
 
 pub port-none : (cs : List ℕ) (p at : ℕ) (out : List ℕ) → codeIn p ≡ noEntry
     → WordsWritten constantsMost at (transitionsWords (constantTransitions (portIn cs p .entries))) out out at
 port-none cs p at out t =
-    rw (entries-none cs (exitIn p) (codeIn p) t)
+    rw (entriesIn-none cs (exitIn p) (codeIn p) t)
     (words-written-same 0 constantsMost at at [] [] out out (words-written-none at out) (omega arith) refl)

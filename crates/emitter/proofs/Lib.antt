@@ -1,6 +1,6 @@
 pub mod WritingLaws
 pub mod EntryLaws
-pub mod TargetLaws
+pub mod ChildTargetLaws
 pub mod EntryEpsilonLaws
 pub mod OwnLaws
 pub mod SourceLaws

@@ -18,7 +18,7 @@ use Rattle.automaton.proofs.EntryStates.{own-kind}
 use Rattle.ports.specs.Ports.{portIn, portsIn, childIn}
 use Rattle.emitter.specs.Writing.{WordsWritten}
 use Rattle.emitter.proofs.WritingLaws.{words-written-none, words-written-same}
-use Rattle.emitter.proofs.TargetLaws.{both, single}
+use Rattle.emitter.proofs.ChildTargetLaws.{both, single}
 
 no-members : (ts : List Transition) → length ts ≡ 0 → ts ≡ []
 no-members [] h = refl

@@ -14,7 +14,7 @@ use Rattle.emitter.specs.Writing.{WordsWritten}
 use Rattle.emitter.specs.Emission.{entriesWordsMost, ownWordsMost, Emittable}
 use Rattle.emitter.proofs.WritingLaws.{words-written-more, words-written-same}
 use Rattle.emitter.proofs.EntryLaws.{epsilonWords, epsilonWords-append}
-use Rattle.emitter.proofs.TargetLaws.{targets-both}
+use Rattle.emitter.proofs.ChildTargetLaws.{targets-both}
 use Rattle.emitter.proofs.EntryEpsilonLaws.{entryEpsilonWords}
 use Rattle.emitter.proofs.SourceLaws.{sources-exits}
 

@@ -1,4 +1,4 @@
-// The own transitions of one word of a rule, written as words of a table.
+// Words of a table written into a lent slice: the constants' transitions, and the own transitions of one word of a rule.
 pub mod constants;
 mod entries;
 pub mod own;

@@ -58,19 +58,19 @@ bytes-written-whole bs out out′ r p h =
 
 -- ---- the loop over a text, after i of its bytes
 
-pub record Texted (text : List ℕ) (at : ℕ) (out₀ out : List ℕ) (next i : ℕ) : Type 0 where
+pub record TextWritten (text : List ℕ) (at : ℕ) (out₀ out : List ℕ) (next i : ℕ) : Type 0 where
   pub few : i ≤ length text
   pub long : length out ≡ length out₀
   pub written : BytesWritten at (take i text) out₀ out next
 
 module _ (text : List ℕ) (at : ℕ) (out₀ : List ℕ) where
-  pub texted-none : Texted text at out₀ out₀ at 0
-  texted-none = record { few = omega arith; long = refl; written = bytes-written-none at out₀ }
+  pub text-written-none : TextWritten text at out₀ out₀ at 0
+  text-written-none = record { few = omega arith; long = refl; written = bytes-written-none at out₀ }
 
-  pub texted-more : (out : List ℕ) (next i : ℕ) → Texted text at out₀ out next i → i < length text
+  pub text-written-more : (out : List ℕ) (next i : ℕ) → TextWritten text at out₀ out next i → i < length text
       → (out′ : List ℕ) (r : ℕ) → length out′ ≡ length out → BytesWritten next (getD text i 0 ∷ []) out out′ r
-      → Texted text at out₀ out′ r (i + 1)
-  texted-more out next i t h out′ r l w =
+      → TextWritten text at out₀ out′ r (i + 1)
+  text-written-more out next i t h out′ r l w =
       record {
         few = omega arith;
         long = l ∙ t .long;
@@ -79,5 +79,6 @@ module _ (text : List ℕ) (at : ℕ) (out₀ : List ℕ) where
             (sym (ap (λ (k : ℕ). take k text) (add-one i) ∙ take-suc text i 0 h));
       }
 
-  pub texted-end : (out : List ℕ) (next i : ℕ) → Texted text at out₀ out next i → length text ≤ i → BytesWritten at text out₀ out next
-  texted-end out next i t h = bytes-written-same (t .written) (take-all i text h)
+  pub text-written-end : (out : List ℕ) (next i : ℕ) → TextWritten text at out₀ out next i → length text ≤ i
+      → BytesWritten at text out₀ out next
+  text-written-end out next i t h = bytes-written-same (t .written) (take-all i text h)

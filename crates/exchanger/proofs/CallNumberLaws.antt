@@ -23,7 +23,7 @@ split-words : (i k size : ℕ) → (i + 1 + k) * size ≡ i * size + size + k * 
 split-words i k size =
     add-mul (i + 1) k size ∙ ap (λ (j : ℕ). j + k * size) (add-mul i 1 size ∙ ap (λ (j : ℕ). i * size + j) (one-mul size))
 
--- how many nodes stand behind the element
+-- how many nodes stand behind the element, as code works it out
 abbrev pub restCount : ExchangeCall → ℕ
 restCount c = c .count - c .element - 1
 

@@ -31,7 +31,7 @@ use Rattle.nodes.proofs.MarkLaws.{MarksHolding, holding-set, setFrom-rows, mark
 use Rattle.nodes.proofs.MarkedSets.{markedSets, length-markedSets}
 use Rattle.propagation.specs.declared.Progress.{Progress}
 use Rattle.propagation.specs.Propagation.{propagateStep, propagateFrom, initial}
-use Rattle.propagation.proofs.PropagationLaws.{recomputed-is, step-ancestor, propagate-continues, propagate-stops}
+use Rattle.propagation.proofs.PropagateNodeLaws.{recomputed-is, step-ancestor, propagate-continues, propagate-stops}
 use Rattle.updates.specs.Updating.{updatedFrom}
 use Rattle.exchanger.proofs.PropagateSets.{propagateSets}
 use Rattle.exchanger.proofs.ExchangeLoops.{movedSets, replacedSets, updatedSets, updatedSets-outcomes}

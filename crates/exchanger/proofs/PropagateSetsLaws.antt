@@ -19,8 +19,8 @@ use Rattle.nodes.proofs.LoopLaws as loops
 use Rattle.nodes.proofs.MarkLaws.{MarksHolding, holding-set, setFrom-rows, markedAt-rows}
 use Rattle.propagation.specs.declared.Progress.{Progress}
 use Rattle.propagation.specs.Propagation.{propagateFrom}
-use Rattle.propagation.proofs.PropagationLaws.{recomputed-is, recomputed-same, step-beside}
-use Rattle.propagation.proofs.PropagationLaws.{step-ancestor, propagate-continues, propagate-stops}
+use Rattle.propagation.proofs.PropagateNodeLaws.{recomputed-is, recomputed-same, step-beside}
+use Rattle.propagation.proofs.PropagateNodeLaws.{step-ancestor, propagate-continues, propagate-stops}
 use Rattle.exchanger.proofs.PropagateSets.{propagateSets, propagateSets-beside, propagateSets-last, propagateSets-onward}
 
 -- two functions that agree from i and from j on

@@ -1,7 +1,8 @@
 -- Every value of an answer fits 32 bits: what the answer's number and values are is given by its definition.
 use mathlib.Core.Path.{_≡_}
 use mathlib.Core.List.{List}
-use Prim.Native.Nat.{ℕ, _^_, _<_}
+use Prim.Native.Nat.{ℕ, _<_}
+use Rattle.words.specs.Word.{wordRange}
 use Rattle.operations.specs.Compile.{compileAnswer}
 use Rattle.operations.specs.Run.{runAnswer}
 use Rattle.operations.specs.Listing.{listAnswer}
@@ -20,17 +21,17 @@ use Rattle.compiler.specs.declared.Compiled.{Compiled}
 use Rattle.compiler.specs.declared.Compiled.the-variants.{Table}
 use Rattle.compiler.specs.CompileAnswer.{answerInCompiled}
 
-pub compile-small : (a e slice : List ℕ) {k : ℕ} (r : Compiled) → r ≡ Table k → answerInCompiled r ≡ compileAnswer a e slice → k < 2 ^ 32
+pub compile-small : (a e slice : List ℕ) {k : ℕ} (r : Compiled) → r ≡ Table k → answerInCompiled r ≡ compileAnswer a e slice → k < wordRange
 compile-small a e slice r told answer = compile-value a e slice (rw told at answer)
 
 pub run-small : (a table ch marks : List ℕ) {n cells : ℕ} (r : Ran) → r ≡ Marked n cells → answerInRan r ≡ runAnswer a table ch marks
-    → (n < 2 ^ 32) × (cells < 2 ^ 32)
+    → (n < wordRange) × (cells < wordRange)
 run-small a table ch marks r told answer = run-values a table ch marks (rw told at answer)
 
 pub list-small : (a table : List ℕ) (n : ℕ) (marks list : List ℕ) {k : ℕ} (r : Listed) → r ≡ Matches k
-    → answerInListed r ≡ listAnswer a table n marks list → k < 2 ^ 32
+    → answerInListed r ≡ listAnswer a table n marks list → k < wordRange
 list-small a table n marks list r told answer = list-value a table n marks list (rw told at answer)
 
 pub exchange-small : (c : ExchangeCall) {count worked : ℕ} (r : Exchanged) → r ≡ Replaced count worked
-    → answerInExchanged r ≡ exchangeAnswer c → (count < 2 ^ 32) × (worked < 2 ^ 32)
+    → answerInExchanged r ≡ exchangeAnswer c → (count < wordRange) × (worked < wordRange)
 exchange-small c r told answer = exchange-values c (rw told at answer)

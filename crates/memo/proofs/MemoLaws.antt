@@ -139,8 +139,11 @@ module _ {table index : List ℕ} {f : ℕ} {marks four : List ℕ} {rank i : �
             let row = g .new .row in
             record {
               small = size-few (g .new);
-              source = row-inside (getD known s 0) i (sizeOf table) (length marks) (slot-found .0) (omega arith);
-              target = row;
+              inside =
+                  record {
+                    source = row-inside (getD known s 0) i (sizeOf table) (length marks) (slot-found .0) (omega arith);
+                    target = row;
+                  };
             })
 
         pub found-next : (marks′ : List ℕ) → marks′ ≡ paste marks (i * n) (take n (drop (getD known s 0 * n) marks)) n

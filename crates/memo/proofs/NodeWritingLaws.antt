@@ -100,8 +100,11 @@ module _ (marks : List ℕ) (node i size : ℕ) (g : Copyable marks (node * size
   pub one-copyable : Copyable marks node i 1
   one-copyable = record {
     small = omega arith;
-    source = omega (arith, g .source, times-one node, e);
-    target = omega (arith, g .target, times-one i, e);
+    inside =
+        record {
+          source = omega (arith, g .inside .source, times-one node, e);
+          target = omega (arith, g .inside .target, times-one i, e);
+        };
   }
 
   pub one-copied : (marks′ : List ℕ) → marks′ ≡ paste marks i (take 1 (drop node marks)) 1

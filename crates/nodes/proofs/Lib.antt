@@ -4,4 +4,4 @@ pub mod MarkLaws
 pub mod WorkableLaws
 pub mod RootStackLaws
 pub mod NodeLaws
-pub mod NodesLaws
+pub mod NodeLoopLaws

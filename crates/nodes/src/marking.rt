@@ -6,7 +6,7 @@ ghost use Rattle.nodes.specs.Nodes.{markedAt, markedFrom};
 ghost use Rattle.nodes.specs.Marking.{Maintained, NodeMarkable, NodesMarkable};
 use super::stack::STACK_BASE;
 use super::stack::push_node;
-use alphabet::rank;
+use alphabet::symbol_rank;
 use memo::lookup::mark_next;
 use words::word::SYMBOL_RANGE;
 
@@ -39,8 +39,9 @@ pub fn mark_node(
         (now (keys .exit)) (now (known .exit)) (now (places .exit)) (now (owners .exit)) (now (rows .exit)) (now (pending .exit))
         ⌝ }
 {
-    let symbol = nodes[i] % SYMBOL_RANGE;
-    let children = rank(alphabet, symbol as usize);
+    let w = nodes[i];
+    let symbol = w % SYMBOL_RANGE;
+    let children = symbol_rank(alphabet, w);
     let node = mark_next(
         table,
         index,

@@ -9,11 +9,11 @@ use lib.ListN.{length}
 use lib.Dec.{ltb}
 use borrow.Author.Tests.{ltb-true, ltb-false, le-ltb, not-false}
 use Rattle.words.specs.Limits.{statesMost, nodesMost}
-use Rattle.words.specs.Refusal.{refusal}
+use Rattle.words.specs.Refusal.{refusal, someHolds}
 use Rattle.words.specs.Alphabet.{alphabetRefusals, alphabetFault}
 use Rattle.words.specs.ExpressionWords.{expressionRefusals, expressionFault}
-use Rattle.words.specs.Chapter.{notNodes, treeRefusals, treeFault}
-use Rattle.words.specs.Postfix.{notOneTree, splice}
+use Rattle.words.specs.Chapter.{treeRefusals, treeFault}
+use Rattle.words.specs.Postfix.{splice}
 use Rattle.words.proofs.TestLaws.{or-false}
 use Rattle.words.proofs.LimitLaws.{Within, not-outside, is-within}
 use Rattle.words.proofs.RefusalLaws.{none, next, found-refusal, refusal-found, conditionOf, none-applies, none-refusal}
@@ -152,12 +152,8 @@ pub record Replacement (a xs : List ℕ) : Type 0 where
 pub replacement-right : (a xs : List ℕ) → noReplacement a xs ≡ false → Replacement a xs
 unfolding noReplacement
 replacement-right a xs h =
-    let p = or-false (wrongCount (length xs) || notNodes a xs) (notOneTree a xs) h in
-    let q = or-false (wrongCount (length xs)) (notNodes a xs) (p .0) in
-    record {
-      counted = count-right (length xs) (q .0);
-      tree = tree-accepted a xs (none-refusal (treeRefusals a xs) (q .1, (p .1, tt)));
-    }
+    let p = or-false (wrongCount (length xs)) (someHolds (treeRefusals a xs)) h in
+    record { counted = count-right (length xs) (p .0); tree = tree-accepted a xs (none-refusal (treeRefusals a xs) (p .1)) }
 
 -- 16
 pub record ResultFits (table : List ℕ) (n chapterLength marksLength : ℕ) : Type 0 where

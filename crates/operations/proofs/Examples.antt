@@ -174,7 +174,7 @@ rows =
     ∷ marking alphabet (0x2000_0003 ∷ 0x2000_0005 ∷ 0x2000_0006 ∷ []) (d ∷ g ∷ h ∷ []) (0 ∷ 0 ∷ 0 ∷ []) (1057 ∷ 2 ∷ 64 ∷ [])
     -- an ancestor with the same hit and other marks, a bit beyond the last state: work continues to the next
     ∷ inSource (set (set marks 3 0) 4 2173467072) 3 (d ∷ []) (accepted (7 ∷ 3 ∷ [])) slice marks (2 ∷ 3 ∷ 4 ∷ [])
-    -- false marks beside the way count as they stand, and stay
+    -- false marks of a node that is no ancestor count as they stand, and stay
     ∷ inSource (set marks 2 0) 3 (a ∷ []) (accepted (7 ∷ 3 ∷ []))
     (a ∷ b ∷ f ∷ a ∷ g ∷ h ∷ f ∷ 1 ∷ 2 ∷ 3 ∷ [])
     (34636297 ∷ 69272594 ∷ 0 ∷ 34636297 ∷ 0 ∷ 0 ∷ 0 ∷ 7 ∷ 7 ∷ 7 ∷ [])

@@ -6,6 +6,7 @@ use Prim.Native.Nat.{ℕ, _*_, _<_, _≤_}
 use native.Mathlib.Omega.{arith}
 use lib.ListN.{length, getD, take, drop, length-append, length-drop}
 use lib.Seq.{take-at}
+use Rattle.words.specs.Limits.{alphabetMost}
 use Rattle.words.specs.Tree.{Tree}
 use Rattle.words.specs.Postfix.{subtreeOf}
 use Rattle.language.specs.Expression.{SubjectOf}
@@ -45,7 +46,7 @@ module _ (a table p : List ℕ) where
   matches-nodeSets marks h = ap (matchesIn (finalOf table) 0) (stored-nodeSets a table p marks h)
 
   -- the state set of a node is that of its subtree's tree
-  pub node-tree : length a ≤ 64 → (i : ℕ) (t : Tree) → i < length p → SubjectOf a (subtreeOf a p i) t
+  pub node-tree : length a ≤ alphabetMost → (i : ℕ) (t : Tree) → i < length p → SubjectOf a (subtreeOf a p i) t
       → getD (nodeSets a table p) i [] ≡ treeSet (automatonOf table) t
   unfolding nodeSets nodeSet
   node-tree few i t l k = value-subject a few (λ f rs. stateSet (automatonOf table) f rs) p i [] t l k

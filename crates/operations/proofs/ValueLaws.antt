@@ -1,10 +1,11 @@
 -- Every value of an accepted call fits 32 bits.
 use mathlib.Core.Path.{_≡_, sym}
 use mathlib.Core.List.{List, [], _∷_, flatten, head-eq-of-cons-eq}
-use Prim.Native.Nat.{ℕ, _*_, _^_, _<_, _≤_}
+use Prim.Native.Nat.{ℕ, _*_, _<_, _≤_}
 use native.Mathlib.Omega.{arith}
 use native.Mathlib.Nat.{le-trans, mul-le-mul-left, mul-le-mul-right}
 use lib.ListN.{length}
+use Rattle.words.specs.Word.{wordRange}
 use Rattle.words.specs.Limits.{nodesMost}
 use Rattle.words.specs.Answer.{accepted}
 use Rattle.words.proofs.AnswerLaws.{accepted-values}
@@ -23,7 +24,7 @@ use Rattle.operations.proofs.MatchLaws.{matchesOf-few}
 use Rattle.operations.proofs.Recomputed.{recomputation}
 
 -- Compile: at most 1,147 words
-pub compile-value : (a e slice : List ℕ) {k : ℕ} → accepted (k ∷ []) ≡ compileAnswer a e slice → k < 2 ^ 32
+pub compile-value : (a e slice : List ℕ) {k : ℕ} → accepted (k ∷ []) ≡ compileAnswer a e slice → k < wordRange
 compile-value a e slice {k} h =
     let g = compile-result a e slice k (sym h) in
     omega (arith, g .count, g .most)
@@ -37,7 +38,7 @@ words-most table n h =
 
 -- Run: at most 4,096 elements, and at most 32 ones in a word
 pub run-values : (a table ch marks : List ℕ) {n cells : ℕ} → accepted (n ∷ cells ∷ []) ≡ runAnswer a table ch marks
-    → (n < 2 ^ 32) × (cells < 2 ^ 32)
+    → (n < wordRange) × (cells < wordRange)
 unfolding runAnswer
 run-values a table ch marks {n} {cells} h =
     let v = accepted-values (runFault a table ch (length marks)) _ (n ∷ cells ∷ []) (sym h) in
@@ -49,7 +50,7 @@ run-values a table ch marks {n} {cells} h =
     (omega arith, omega arith)
 
 -- List: at most as many hits as elements
-pub list-value : (a table : List ℕ) (n : ℕ) (marks list : List ℕ) {k : ℕ} → accepted (k ∷ []) ≡ listAnswer a table n marks list → k < 2 ^ 32
+pub list-value : (a table : List ℕ) (n : ℕ) (marks list : List ℕ) {k : ℕ} → accepted (k ∷ []) ≡ listAnswer a table n marks list → k < wordRange
 unfolding listAnswer
 list-value a table n marks list {k} h =
     let v = accepted-values (listFault a table n (length marks) (length list)) (length (matchesOf table n marks) ∷ []) (k ∷ []) (sym h) in
@@ -66,7 +67,7 @@ recomputed-few (recomputed r ∷ os) = let i = recomputed-few os in omega arith
 
 -- Exchange: at most 4,096 elements, and at most as many recomputed
 pub exchange-values : (c : ExchangeCall) {count worked : ℕ} → accepted (count ∷ worked ∷ []) ≡ exchangeAnswer c
-    → (count < 2 ^ 32) × (worked < 2 ^ 32)
+    → (count < wordRange) × (worked < wordRange)
 unfolding exchangeAnswer newTree
 exchange-values c {count} {worked} h =
     let v = accepted-values (fault c) _ (count ∷ worked ∷ []) (sym h) in

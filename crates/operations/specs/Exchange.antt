@@ -7,9 +7,9 @@ use lib.ListN.{length, getD, take, drop}
 use lib.Dec.{ltb}
 use Rattle.words.specs.Lists.{listFrom}
 use Rattle.words.specs.Limits.{nodesMost}
-use Rattle.words.specs.Refusal.{Refusals, refusal}
-use Rattle.words.specs.Chapter.{notNodes}
-use Rattle.words.specs.Postfix.{arity, notOneTree, startOf, isAncestor, splice, valueOn, stackAfter, stackGiven}
+use Rattle.words.specs.Refusal.{Refusals, refusal, someHolds}
+use Rattle.words.specs.Chapter.{treeRefusals}
+use Rattle.words.specs.Postfix.{arity, startOf, isAncestor, splice, valueOn, stackAfter, stackGiven}
 use Rattle.words.specs.Answer.{Answer, answerOf, exitOf}
 use Rattle.automaton.specs.StateSet.{StateSet}
 use Rattle.operations.specs.Marks.{sizeOf, nodeSet, nodeSets, storedSet, sameWords, refit}
@@ -26,7 +26,7 @@ noElement n i = not (ltb i n)
 
 -- 15: "replacement of 0 or over 4,096 words, or no tree over the alphabet"
 unfoldable pub noReplacement : List ℕ → List ℕ → Bool
-noReplacement a xs = wrongCount (length xs) || notNodes a xs || notOneTree a xs
+noReplacement a xs = wrongCount (length xs) || someHolds (treeRefusals a xs)
 
 -- 16: "result over 4,096 elements, the chapter slice or the marks slice", for a result of n elements
 unfoldable pub resultTooLong : List ℕ → ℕ → ℕ → ℕ → Bool

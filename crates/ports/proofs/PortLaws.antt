@@ -13,17 +13,17 @@ use Rattle.ports.specs.Ports.{everyEntry, noEntry, exitRange, entriesIn,
 -- ---- the entries that a code says
 
 module _ (cs : List ℕ) (x t : ℕ) where
-  pub entries-every : t ≡ everyEntry → entriesIn cs x t ≡ numbered (suc x) cs
+  pub entriesIn-every : t ≡ everyEntry → entriesIn cs x t ≡ numbered (suc x) cs
   unfolding entriesIn
-  entries-every e = rw (eq-eqb t everyEntry e)
+  entriesIn-every e = rw (eq-eqb t everyEntry e)
 
-  pub entries-none : t ≡ noEntry → entriesIn cs x t ≡ []
+  pub entriesIn-none : t ≡ noEntry → entriesIn cs x t ≡ []
   unfolding entriesIn
-  entries-none e = rw (ne-eqb t everyEntry (λ z. omega arith), eq-eqb t noEntry e)
+  entriesIn-none e = rw (ne-eqb t everyEntry (λ z. omega arith), eq-eqb t noEntry e)
 
-  pub entries-own : (t ≡ everyEntry → ⊥) → (t ≡ noEntry → ⊥) → entriesIn cs x t ≡ (t, x) ∷ []
+  pub entriesIn-own : (t ≡ everyEntry → ⊥) → (t ≡ noEntry → ⊥) → entriesIn cs x t ≡ (t, x) ∷ []
   unfolding entriesIn
-  entries-own n m = rw (ne-eqb t everyEntry n, ne-eqb t noEntry m)
+  entriesIn-own n m = rw (ne-eqb t everyEntry n, ne-eqb t noEntry m)
 
 -- ---- the entry for constant k
 
@@ -33,7 +33,7 @@ module _ (cs : List ℕ) (p k x : ℕ) (e : x ≡ exitIn p) (low : x < exitRange
   entry-every once h few t =
       let n : suc x + k ≡ x + 1 + k = omega arith in
       record {
-        states = rw (entries-every cs (exitIn p) (codeIn p) t, ← e, once (suc x) k h, n);
+        states = rw (entriesIn-every cs (exitIn p) (codeIn p) t, ← e, once (suc x) k h, n);
         low = omega arith;
       }
 
@@ -41,13 +41,13 @@ module _ (cs : List ℕ) (p k x : ℕ) (e : x ≡ exitIn p) (low : x < exitRange
       → EntryRead cs p (getD cs k 0) (State x)
   entry-own n m t =
       record {
-        states = rw (entries-own cs (exitIn p) (codeIn p) n m, ← e, eq-eqb (codeIn p) (getD cs k 0) t);
+        states = rw (entriesIn-own cs (exitIn p) (codeIn p) n m, ← e, eq-eqb (codeIn p) (getD cs k 0) t);
         low = omega arith;
       }
 
 pub entry-none : (cs : List ℕ) (p c : ℕ) → codeIn p ≡ noEntry → EntryRead cs p c Missing
-entry-none cs p c t = record { states = rw (entries-none cs (exitIn p) (codeIn p) t); low = tt }
+entry-none cs p c t = record { states = rw (entriesIn-none cs (exitIn p) (codeIn p) t); low = tt }
 
 pub entry-other : (cs : List ℕ) (p c : ℕ) → (codeIn p ≡ everyEntry → ⊥) → (codeIn p ≡ noEntry → ⊥) → (codeIn p ≡ c → ⊥)
     → EntryRead cs p c Missing
-entry-other cs p c n m t = record { states = rw (entries-own cs (exitIn p) (codeIn p) n m, ne-eqb (codeIn p) c t); low = tt }
+entry-other cs p c n m t = record { states = rw (entriesIn-own cs (exitIn p) (codeIn p) n m, ne-eqb (codeIn p) c t); low = tt }

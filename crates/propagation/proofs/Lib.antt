@@ -1,2 +1,2 @@
-pub mod PropagationLaws
+pub mod PropagateNodeLaws
 pub mod ProgressLaws

@@ -11,7 +11,7 @@ use Rattle.nodes.specs.Marking.{Maintained}
 use Rattle.nodes.proofs.WorkableLaws.{workable-long}
 use Rattle.propagation.specs.declared.Progress.{Progress}
 use Rattle.propagation.specs.Propagation.{propagateStep, propagateFrom, initial, Propagable, PropagationStartable}
-use Rattle.propagation.proofs.PropagationLaws.{step-small, propagate-continues, propagate-stops}
+use Rattle.propagation.proofs.PropagateNodeLaws.{step-small, propagate-continues, propagate-stops}
 
 pub record Propagating (a table ch : List ℕ) (root count : ℕ) (marks₀ marks array : List ℕ) (t : Progress) (top : ℕ)
     (keys known places owners rows pending : List ℕ) (i : ℕ) : Type 0 where

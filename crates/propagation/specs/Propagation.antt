@@ -40,7 +40,7 @@ propagateFrom a table ch i (suc n) marks t =
 abbrev pub initial : ℕ → Progress
 initial count = record { reach = 0; recomputed = count; active = true }
 
--- what going past node i asks: the counts stay small
+-- what passing node i asks: the counts stay small
 pub record Propagable (a table index ch : List ℕ) (i : ℕ) (marks array : List ℕ) (height : ℕ) (t : Progress)
     (keys known places owners rows pending : List ℕ) : Type 0 where
   pub at : NodeMarkable a table index ch i marks array height keys known places owners rows pending

@@ -4,14 +4,13 @@ ghost use Prim.Native.Nat.{_+_, _-_};
 ghost use lib.ListN.{length};
 ghost use Rattle.nodes.specs.Marking.{Maintained, NodeMarkable};
 ghost use Rattle.propagation.specs.Propagation.{recomputeAt, propagateStep, propagateFrom, initial, Propagable, PropagationStartable};
-use alphabet::rank;
+use alphabet::symbol_rank;
 use nodes::marking::mark_node;
 use nodes::stack::push_node;
 use sets::state::SET_MOST;
 use sets::whole::same_words;
 use sets::whole::write_set;
 use tables::head::set_size;
-use words::word::SYMBOL_RANGE;
 
 // How far the loop is: how many roots on the stack, counted from the top, reach down to the one whose tree holds the
 // replacement (0 before the replacement's root is put there), how many nodes were recomputed, and whether work continues.
@@ -125,7 +124,7 @@ fn propagate_node(
         (now (pending .exit))
         ⌝ }
 {
-    let children = rank(alphabet, (nodes[i] % SYMBOL_RANGE) as usize);
+    let children = symbol_rank(alphabet, nodes[i]);
     let reach = progress.reach;
     let recomputed = progress.recomputed;
     if children < reach {

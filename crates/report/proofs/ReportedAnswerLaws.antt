@@ -11,12 +11,12 @@ use borrow.Author.Tests.{le-ltb}
 use Rattle.words.specs.Limits.{tableMost, nodesMost}
 use Rattle.words.specs.Refusal.{Refusals, refusal}
 use Rattle.words.specs.Answer.{refused, accepted}
+use Rattle.words.proofs.TestLaws.{false-or}
 use Rattle.words.proofs.ListLaws.{take-over}
 use Rattle.words.proofs.LimitLaws.{over-outside}
 use Rattle.words.proofs.RefusalLaws.{Found, none, here, next, found-refusal, refusal-found, refuses, passed, none-behind, behind}
 use Rattle.words.proofs.AnswerLaws.{refused-number, accepted-values}
 use Rattle.automaton.specs.Transition.{Automaton, automatonOf}
-use Rattle.automaton.specs.StateSet.{sizeFor}
 use Rattle.automaton.specs.Numbering.{compiled}
 use Rattle.automaton.proofs.CompiledTable.{table-most}
 use Rattle.operations.specs.Compile.{compiledTable, tableTooLong, ruleRefusals, compileRefusals, compileFault, compileAnswer}
@@ -27,7 +27,7 @@ use Rattle.operations.proofs.AcceptedLaws.{RuleAccepted, rule-accepted}
 use Rattle.operations.proofs.AcceptedLaws.{accepted-table, run-accepted, accepted-list}
 use Rattle.operations.proofs.RunLaws.{run-exit, run-writes, run-length, matches-nodeSets}
 use Rattle.operations.proofs.CompileLaws.{CompileResult, compile-result}
-use Rattle.sets.specs.Size.{setMost}
+use Rattle.sets.proofs.SizeLaws.{set-small}
 use Rattle.lines.specs.Line.{refusedLine, headLine, hitLines}
 use Rattle.report.specs.Stages.{marksLength}
 use Rattle.report.specs.Output.{chapterMost, wrongChapter, chapterRefusals, marklistRefusals, marklistFault, hitsOf, marklistOutput}
@@ -95,15 +95,12 @@ module _ (a e : List ℕ) where
     pub compiled-states : automatonOf (compiledTable a e) .states ≡ compiled a e .states
     compiled-states = ap (λ A. A .states) (known .automaton)
 
-    size-few : sizeOf (compiledTable a e) ≤ setMost
-    unfolding sizeOf sizeFor
-    size-few = let s = rule .states in rw compiled-states (omega arith)
-
     module _ (few : length ch ≤ chapterMost) where
       marks-enough : marksTooShort (compiledTable a e) (length ch) marksLength ≡ false
       unfolding marksTooShort
       marks-enough =
-          let p : length ch * sizeOf (compiledTable a e) ≤ marksLength = mul-le-mul few size-few in
+          let p : length ch * sizeOf (compiledTable a e) ≤ marksLength =
+          mul-le-mul few (set-small a (compiledTable a e) (known .checked)) in
           le-ltb marksLength (length ch * sizeOf (compiledTable a e)) p
 
       -- 9 is judged alike
@@ -125,7 +122,7 @@ module _ (a e : List ℕ) where
 
           go : {f : ℕ} → Found (chapterRefusals a ch) f → Found (behind 8 asked) f
           go (here b) = here (same-count ∙ b)
-          go (next b r) = next (same-count ∙ b) (none-behind r (behind 11 asked) (marks-enough, tt))
+          go (next b r) = next (same-count ∙ b) (none-behind r (behind 11 asked) (false-or _ false marks-enough refl))
 
       -- a refused Run: its number is printed
       pub run-refusal : (marks : List ℕ) (n : ℕ) → length marks ≡ marksLength → refused n ≡ runAnswer a (compiledTable a e) ch marks

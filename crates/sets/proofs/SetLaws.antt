@@ -16,7 +16,7 @@ module _ {marks : List ℕ} {from to size : ℕ} (g : Copyable marks from to siz
   same-part = let n : from + size - from ≡ size = omega arith in ap (λ (k : ℕ). take k (drop from marks)) n
 
   source-length : length source ≡ size
-  source-length = ap length same-part ∙ length-take-le size (drop from marks) (omega (arith, length-drop from marks, g .source))
+  source-length = ap length same-part ∙ length-take-le size (drop from marks) (omega (arith, length-drop from marks, g .inside .source))
 
   front : take size set ≡ take size (drop from marks)
   front = ap (take size) e ∙ take-at source rest size source-length ∙ same-part
@@ -25,7 +25,7 @@ module _ {marks : List ℕ} {from to size : ℕ} (g : Copyable marks from to siz
   copied-length = sym (ap length front ∙ sym (ap length same-part) ∙ source-length)
 
   pub copied-fits : to + length (take size set) ≤ length marks
-  copied-fits = omega (arith, copied-length, g .target)
+  copied-fits = omega (arith, copied-length, g .inside .target)
 
   pub set-copied : (marks′ : List ℕ) → marks′ ≡ paste marks to (take size set) (length (take size set))
       → marks′ ≡ paste marks to (take size (drop from marks)) size

@@ -1,11 +1,10 @@
 -- Which set of a slice may be copied: a condition that callers show. It serves inner functions.
-use Prim.Native.Nat.{ℕ, _+_, _≤_}
+use Prim.Native.Nat.{ℕ, _≤_}
 use mathlib.Core.List.{List}
-use lib.ListN.{length}
+use Rattle.slices.specs.Movable.{Movable}
 use Rattle.sets.specs.Size.{setMost}
 
 -- one set from index `from` on, and its places from index `to` on, lie inside the slice
 pub record Copyable (words : List ℕ) (from to size : ℕ) : Type 0 where
   pub small : size ≤ setMost
-  pub source : from + size ≤ length words
-  pub target : to + size ≤ length words
+  pub inside : Movable words from to size

@@ -11,6 +11,7 @@ ghost use Rattle.sets.specs.Copyable.{Copyable};
 ghost use Rattle.sets.specs.Joined.{joined};
 ghost use Rattle.sets.specs.Size.{marksMost};
 use super::state::SET_MOST;
+use slices::moves::copy_words;
 
 // Puts the states of another set into a set.
 pub fn join(set: &mut [u32], other: &[u32])
@@ -29,11 +30,7 @@ pub fn write_set(part: &mut [u32], set: &[u32])
     requires { ⌜ length (now set) ≤ length (now part) ⌝ }
     ensures { λ _. ⌜ now (part .exit) ≡ writtenOver (now (set .entry)) (now (part .entry)) ⌝ }
 {
-    let mut k = 0;
-    while k < set.len() {
-        part[k] = set[k];
-        k += 1;
-    }
+    copy_words(part, 0, set);
 }
 
 // Writes the words of one set from index `at` on, through the part that begins there.

@@ -20,7 +20,7 @@ take-drop (suc t) (suc n) [] h = go (suc n - suc t)
 take-drop (suc t) (suc n) (x ∷ l) h =
     ap (λ (i : ℕ). take i (drop t l)) (let e : suc n - suc t ≡ n - t = omega arith in e) ∙ take-drop t n l (omega arith)
 
--- the words from index t up to n move to index `at`; `front` is what stands before them
+-- the words from index t up to n move to index `at`; `words` are they and those before that index
 module _ (l : List ℕ) (at t n : ℕ) (h : t ≤ n) (inside : n ≤ length l) (fits : at + (n - t) ≤ length l) where
   abbrev words : List ℕ
   words = take at l ++ slice t n l

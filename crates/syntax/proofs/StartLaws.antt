@@ -1,5 +1,5 @@
--- Laws of the backward walk that finds where a subtree begins: which arities there are, where the words do not suffice, and
--- the walk's invariant.
+-- Laws of the backward loop that finds where a subtree begins: which arities there are, where the words do not suffice, and
+-- the loop's invariant.
 use mathlib.Core.Path.{_≡_, refl, ap, ap₂, _∙_, sym}
 use mathlib.Core.List.{List}
 use Prim.Native.Nat.{ℕ, zero, suc, _+_, _-_, _<_, _≤_}
@@ -40,7 +40,7 @@ start-missing arity ws i z h =
     ∙ ap (startFromBy arity ws i) (ap arity (List·getD-eq-default ws 0 h) ∙ z)
     ∙ startFrom-none arity ws i
 
--- ---- the walk back from behind a node: `needed` trees still end before `start`
+-- ---- backward from behind a node: `needed` trees still end before `start`
 
 pub record Backward (arity : ℕ → ℕ) (ws : List ℕ) (node start needed : ℕ) : Type 0 where
   pub low : start ≤ node + 1

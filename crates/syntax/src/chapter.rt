@@ -2,7 +2,7 @@
 ghost use mathlib.Core.Path.{_≡_};
 ghost use Rattle.words.specs.Lists.{all};
 ghost use Rattle.words.specs.Chapter.{isNode, treeFault};
-use alphabet::rank;
+use alphabet::symbol_rank;
 use words::word::Kind;
 use words::word::SYMBOL_RANGE;
 use words::word::kind_of;
@@ -46,7 +46,7 @@ pub fn tree_fault(alphabet: &[u32], words: &[u32]) -> u32
         if !is_node(alphabet, w) {
             return 10;
         }
-        let children = rank(alphabet, (w % SYMBOL_RANGE) as usize);
+        let children = symbol_rank(alphabet, w);
         if made < children {
             if !nodes_only(alphabet, &words[i..]) {
                 return 10;

@@ -1,9 +1,8 @@
 // Words in postfix order: how many children a word takes, which words make one tree, and where subtrees begin.
 ghost use mathlib.Core.Path.{_≡_};
 ghost use Rattle.words.specs.Postfix.{arity, oneTree, startOf};
-use alphabet::rank;
+use alphabet::symbol_rank;
 use words::word::Kind;
-use words::word::SYMBOL_RANGE;
 use words::word::kind_of;
 
 // How many children a word takes.
@@ -12,11 +11,11 @@ pub fn arity(alphabet: &[u32], w: u32) -> usize
 {
     let kind = kind_of(w);
     match kind {
-        Kind::Symbol => rank(alphabet, (w % SYMBOL_RANGE) as usize),
+        Kind::Symbol => symbol_rank(alphabet, w),
         Kind::Union => 2,
         Kind::Product => 2,
         Kind::Closure => 1,
-        Kind::Node => rank(alphabet, (w % SYMBOL_RANGE) as usize),
+        Kind::Node => symbol_rank(alphabet, w),
         _ => 0,
     }
 }
@@ -38,7 +37,7 @@ pub(crate) fn one_tree(alphabet: &[u32], words: &[u32]) -> bool
     made == 1
 }
 
-// The index of the first word of the node's subtree. Going back from behind the node, `needed` trees still end before `start`;
+// The index of the first word of the node's subtree. Counted back from behind the node, `needed` trees still end before `start`;
 // where fewer words are left than trees needed, they do not suffice and the answer is 0.
 pub fn subtree_start(alphabet: &[u32], words: &[u32], node: usize) -> usize
     ensures { λ r. ⌜ r ≡ startOf (now (alphabet .entry)) (now (words .entry)) node ⌝ }

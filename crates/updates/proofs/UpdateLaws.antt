@@ -14,7 +14,7 @@ use Rattle.memo.specs.Memo.{placesMost, slotsMost}
 use Rattle.nodes.specs.Nodes.{stackLength, Held, Stackable, markedFrom}
 use Rattle.nodes.specs.Marking.{Maintained, NodesMarkable}
 use Rattle.nodes.proofs.WorkableLaws.{table-few, workable-long}
-use Rattle.nodes.proofs.NodesLaws.{nothing-maintained}
+use Rattle.nodes.proofs.NodeLoopLaws.{nothing-maintained}
 use Rattle.propagation.specs.Propagation.{propagateFrom, initial, PropagationStartable}
 use Rattle.updates.specs.Updating.{updatedFrom, Updatable}
 

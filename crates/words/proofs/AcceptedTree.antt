@@ -24,4 +24,4 @@ module _ (a ch : List ℕ) where
 
   pub accepted-tree : AcceptedTree a ch → treeFault a ch ≡ 0
   unfolding notNodes notOneTree
-  accepted-tree g = none-refusal (treeRefusals a ch) (rw (g .nodes), (rw (g .shape), tt))
+  accepted-tree g = none-refusal (treeRefusals a ch) (rw (g .nodes, g .shape))

@@ -9,9 +9,9 @@ use native.Mathlib.Omega.{arith}
 use lib.ListN.{length, take}
 use lib.Dec.{ltb, leb, eqb}
 use borrow.Author.Tests.{ltb-true, leb-true, ne-eqb}
-use Rattle.words.specs.Refusal.{Refusals, refusal, First, here as first-here, later}
+use Rattle.words.specs.Refusal.{Refusals, refusal, someHolds, First, here as first-here, later}
 pub use Rattle.words.specs.Refusal.{NoneHolds}
-use Rattle.words.proofs.TestLaws.{and-true}
+use Rattle.words.proofs.TestLaws.{and-true, or-false, false-or}
 
 -- ---- a number and how it is found
 
@@ -60,14 +60,20 @@ refusal-most m ((n, false) ∷ rs) h = refusal-most m rs (and-true (leb n m) (at
 
 -- ---- a call that is not refused: no condition holds
 
+first-fails : (r : ℕ × Bool) (rs : Refusals) → NoneHolds (r ∷ rs) → r .1 ≡ false
+first-fails r rs h = or-false (r .1) (someHolds rs) h .0
+
+rest-fails : (r : ℕ × Bool) (rs : Refusals) → NoneHolds (r ∷ rs) → NoneHolds rs
+rest-fails r rs h = or-false (r .1) (someHolds rs) h .1
+
 none-found : (rs : Refusals) → NoneHolds rs → Found rs 0
 none-found [] h = none
-none-found (r ∷ rs) h = next (h .0) (none-found rs (h .1))
+none-found (r ∷ rs) h = next (first-fails r rs h) (none-found rs (rest-fails r rs h))
 
 found-none : (rs : Refusals) → positive rs ≡ true → Found rs 0 → NoneHolds rs
-found-none [] p none = tt
+found-none [] p none = refl
 found-none ((n, b) ∷ rs) p (here e) = absurd (omega (arith, first-above n rs p))
-found-none ((n, b) ∷ rs) p (next e r) = (e, found-none rs (rest-above n rs p) r)
+found-none ((n, b) ∷ rs) p (next e r) = false-or b (someHolds rs) e (found-none rs (rest-above n rs p) r)
 
 pub none-refusal : (rs : Refusals) → NoneHolds rs → refusal rs ≡ 0
 none-refusal rs h = sym (found-refusal rs (none-found rs h))
@@ -85,17 +91,13 @@ none-applies rs p h = none-of rs (refusal-none rs p h)
   where
     none-of : (rs : Refusals) → NoneHolds rs → (n : ℕ) → conditionOf n rs ≡ false
     none-of [] h n = refl
-    none-of (r ∷ rs) h n = go (eqb (r .0) n) (none-of rs (h .1) n)
+    none-of (r ∷ rs) h n = go (eqb (r .0) n) (none-of rs (rest-fails r rs h) n)
       where
         go : (b : Bool) → conditionOf n rs ≡ false → cond b (r .1) (conditionOf n rs) ≡ false
-        go true i = h .0
+        go true i = first-fails r rs h
         go false i = i
 
--- some condition of the list holds: then the call is refused, and only then
-abbrev pub someHolds : Refusals → Bool
-someHolds [] = false
-someHolds (r ∷ rs) = r .1 || someHolds rs
-
+-- where some condition holds, the call is refused, and only there
 pub refused-some : (rs : Refusals) {f : ℕ} → positive rs ≡ true → f ≡ refusal rs → not (eqb f 0) ≡ someHolds rs
 refused-some rs p e = rw e (go rs p)
   where
@@ -121,7 +123,7 @@ passes rs {ks} {g = g} p e h r = go rs (refusal-none rs p (sym e ∙ h))
   where
     go : (rs : Refusals) → NoneHolds rs → Found (rs ++ ks) g
     go [] n = r
-    go (q ∷ rs) n = next (n .0) (go rs (n .1))
+    go (q ∷ rs) n = next (first-fails q rs n) (go rs (rest-fails q rs n))
 
 pub passed : (rs : Refusals) {ks : Refusals} {g : ℕ} → positive rs ≡ true → refusal rs ≡ 0 → Found ks g → Found (rs ++ ks) g
 passed rs p z r = passes rs p (sym z) refl r
@@ -140,16 +142,17 @@ behind n [] = []
 behind n (r ∷ rs) = let rest = behind n rs in cond (eqb (r .0) n) rs rest
 
 holds-taken : (k : ℕ) (rs : Refusals) → NoneHolds rs → NoneHolds (take k rs)
-holds-taken zero rs h = tt
-holds-taken (suc k) [] h = tt
-holds-taken (suc k) (r ∷ rs) h = (h .0, holds-taken k rs (h .1))
+holds-taken zero rs h = refl
+holds-taken (suc k) [] h = refl
+holds-taken (suc k) (r ∷ rs) h =
+    false-or (r .1) (someHolds (take k rs)) (first-fails r rs h) (holds-taken k rs (rest-fails r rs h))
 
 holds-behind : (n : ℕ) (rs : Refusals) → NoneHolds rs → NoneHolds (behind n rs)
-holds-behind n [] h = tt
-holds-behind n (r ∷ rs) h = go (eqb (r .0) n) (holds-behind n rs (h .1))
+holds-behind n [] h = refl
+holds-behind n (r ∷ rs) h = go (eqb (r .0) n) (holds-behind n rs (rest-fails r rs h))
   where
     go : (b : Bool) → NoneHolds (behind n rs) → NoneHolds (cond b rs (behind n rs))
-    go true i = h .1
+    go true i = rest-fails r rs h
     go false i = i
 
 -- the part with which the list begins, and the part that stands behind number n: where they are written out, `refl` proves that they

@@ -45,6 +45,9 @@ false-or b c e f = rw (e, f)
 pub or-left : (b c : Bool) → b ≡ true → b || c ≡ true
 or-left b c e = rw e
 
+pub or-right : (b c : Bool) → b ≡ false → b || c ≡ c
+or-right b c e = rw e
+
 pub or-none : (b : Bool) → b || false ≡ b
 or-none true = refl
 or-none false = refl

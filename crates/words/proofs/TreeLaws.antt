@@ -10,10 +10,12 @@ use lib.ListN.{length, take, drop, length-drop, length-reverse, take-append-drop
 use lib.Seq.{length-take-le}
 use lib.Dec.{leb}
 use borrow.Author.Tests.{leb-true, eqb-true}
+use Rattle.words.specs.Lists.{All}
 use Rattle.words.specs.Tree.{Tree, Trees, node, none, more, number, postfix, postfixAll}
 use Rattle.words.specs.Shape.{treesBy, oneTreeBy, stackAfterBy}
 use Rattle.words.specs.ExactlyOne.{ExactlyOne}
 use Rattle.words.proofs.TestLaws.{picked}
+use Rattle.words.proofs.AllLaws.{each-take, each-drop, each-reverse}
 use Rattle.words.proofs.RankedTree.{Ranked, RankedAll}
 use Rattle.words.proofs.TreeFold.{fold, foldAll}
 use Rattle.words.proofs.ReadingLaws.{stack-tree}
@@ -51,10 +53,6 @@ abbrev onStack : List Tree → List ℕ
 onStack [] = []
 onStack (t ∷ s) = onStack s ++ postfix t
 
-abbrev AllRanked : (ℕ → ℕ) → List Tree → Type 0
-AllRanked arity [] = Unit {0}
-AllRanked arity (t ∷ s) = Ranked arity t × AllRanked arity s
-
 onStack-append : (l s : List Tree) → onStack (l ++ s) ≡ onStack s ++ onStack l
 onStack-append [] s = sym (append-nil (onStack s))
 onStack-append (t ∷ l) s = ap (λ (x : List ℕ). x ++ postfix t) (onStack-append l s) ∙ append-assoc (onStack s) (onStack l) (postfix t)
@@ -67,46 +65,28 @@ onStack-row (t ∷ l) =
     ∙ ap (λ (x : List ℕ). postfix t ++ x) (onStack-row l)
 
 module _ (arity : ℕ → ℕ) where
-  ranked-append : (l s : List Tree) → AllRanked arity l → AllRanked arity s → AllRanked arity (l ++ s)
-  ranked-append [] s h g = g
-  ranked-append (t ∷ l) s h g = (h .0, ranked-append l s (h .1) g)
-
-  ranked-reverse : (l : List Tree) → AllRanked arity l → AllRanked arity (reverse l)
-  ranked-reverse [] h = tt
-  ranked-reverse (t ∷ l) h =
-      subst (AllRanked arity) (sym (reverse-cons t l)) (ranked-append (reverse l) (t ∷ []) (ranked-reverse l (h .1)) (h .0, tt))
-
-  ranked-row : (l : List Tree) → AllRanked arity l → RankedAll arity (row l)
+  ranked-row : (l : List Tree) → All (Ranked arity) l → RankedAll arity (row l)
   ranked-row [] h = tt
   ranked-row (t ∷ l) h = (h .0, ranked-row l (h .1))
 
-  ranked-take : (n : ℕ) (s : List Tree) → AllRanked arity s → AllRanked arity (take n s)
-  ranked-take zero s h = tt
-  ranked-take (suc n) [] h = tt
-  ranked-take (suc n) (t ∷ s) h = (h .0, ranked-take n s (h .1))
-
-  ranked-drop : (n : ℕ) (s : List Tree) → AllRanked arity s → AllRanked arity (drop n s)
-  ranked-drop zero s h = h
-  ranked-drop (suc n) [] h = tt
-  ranked-drop (suc n) (t ∷ s) h = ranked-drop n s (h .1)
-
   -- a stack of n trees whose words are ws
   record Stack (ws : List ℕ) (n : ℕ) (s : List Tree) : Type 0 where
-    ranked : AllRanked arity s
+    ranked : All (Ranked arity) s
     words : onStack s ≡ ws
     height : length s ≡ n
 
   -- one word more takes its children from the stack
-  module _ (w : ℕ) (s : List Tree) (r : arity w ≤ length s) (h : AllRanked arity s) where
+  module _ (w : ℕ) (s : List Tree) (r : arity w ≤ length s) (h : All (Ranked arity) s) where
     abbrev children : List Tree
     children = reverse (take (arity w) s)
 
     row-number : arity w ≡ number (row children)
     row-number = sym (number-row children ∙ length-reverse (take (arity w) s) ∙ length-take-le (arity w) s r)
 
-    more-ranked : AllRanked arity (built w children ∷ drop (arity w) s)
+    more-ranked : All (Ranked arity) (built w children ∷ drop (arity w) s)
     more-ranked =
-        ((row-number, ranked-row children (ranked-reverse (take (arity w) s) (ranked-take (arity w) s h))), ranked-drop (arity w) s h)
+        let P = Ranked arity in
+        ((row-number, ranked-row children (each-reverse P (take (arity w) s) (each-take P (arity w) s h))), each-drop P (arity w) s h)
 
     more-words : onStack (built w children ∷ drop (arity w) s) ≡ onStack s ++ w ∷ []
     more-words =
@@ -117,7 +97,7 @@ module _ (arity : ℕ → ℕ) where
         (sym (onStack-append (take (arity w) s) (drop (arity w) s)) ∙ ap onStack (take-append-drop (arity w) s))
 
   -- words that make n trees on a stack are read as the words of n trees
-  read-stack : (ws : List ℕ) (s : List Tree) (n : ℕ) → AllRanked arity s → treesBy arity (length s) ws n ≡ true
+  read-stack : (ws : List ℕ) (s : List Tree) (n : ℕ) → All (Ranked arity) s → treesBy arity (length s) ws n ≡ true
       → (s′ : List Tree) × Stack (onStack s ++ ws) n s′
   unfolding treesBy
   read-stack [] s n h e = (s, record { ranked = h; words = sym (append-nil (onStack s)); height = eqb-true (length s) n e })

@@ -2,7 +2,7 @@
 use Prim.Native.Nat.{ℕ}
 use mathlib.Core.Path.{_≡_}
 use mathlib.Core.List.{List, [], _∷_}
-use mathlib.Core.Bool.{Bool, true, false, cond}
+use mathlib.Core.Bool.{Bool, true, false, cond, _||_}
 
 -- a call's refusals in document 01's order: each number with its condition
 abbrev pub Refusals : Type 0
@@ -18,7 +18,10 @@ pub data First (n : ℕ) : Refusals → Type 0 where
   here : {b : Bool} {rs : Refusals} → b ≡ true → First n ((n, b) ∷ rs)
   later : {m : ℕ} {b : Bool} {rs : Refusals} → b ≡ false → First n rs → First n ((m, b) ∷ rs)
 
--- no condition of the list holds
+-- some condition of the list holds; none does
+abbrev pub someHolds : Refusals → Bool
+someHolds [] = false
+someHolds (r ∷ rs) = r .1 || someHolds rs
+
 abbrev pub NoneHolds : Refusals → Type 0
-NoneHolds [] = Unit {0}
-NoneHolds (r ∷ rs) = (r .1 ≡ false) × NoneHolds rs
+NoneHolds rs = someHolds rs ≡ false

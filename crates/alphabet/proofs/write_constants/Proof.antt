@@ -4,6 +4,7 @@ use mathlib.Core.Path.{_∙_, sym}
 use mathlib.Core.Logic.{⊎-elim}
 use Prim.Native.Nat.{_-_}
 use borrow.Author.Needs.{needs}
+use Rattle.words.specs.Limits.{alphabetMost}
 use Rattle.alphabet.proofs.ConstantScanLaws.{Written, written-none, written-length, written-more}
 use Rattle.alphabet.proofs.ConstantScanLaws.{written-past, written-skip, written-end}
 use Rattle.alphabet.proofs.write_constants.Statement.{statement}
@@ -13,7 +14,7 @@ abbrev Inv-loop : tie.InvT-loop
 Inv-loop alphabet list₀ n₀ i₀ list n i = Written alphabet list₀ list n i
 
 abbrev μ-loop : tie.MeasureT-loop
-μ-loop alphabet list₀ n₀ i₀ list n i = 64 - i
+μ-loop alphabet list₀ n₀ i₀ list n i = alphabetMost - i
 
 loop-holds : tie.Need-loop-holds Inv-loop μ-loop
 loop-holds c = written-none _ _

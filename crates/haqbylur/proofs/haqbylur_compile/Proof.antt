@@ -1,4 +1,4 @@
--- `haqbylur::haqbylur_compile` meets its contract: it hands on what Compile answers and leaves, and each value fits 32 bits.
+-- `haqbylur::haqbylur_compile` meets its contract: it answers and leaves what Compile does, and each value fits 32 bits.
 use native.Mathlib.Omega.{arith}
 use borrow.Author.Needs.{needs}
 use Rattle.haqbylur.proofs.StatusLaws.{compiled-table, compiled-refused}

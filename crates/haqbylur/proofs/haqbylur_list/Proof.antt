@@ -1,4 +1,4 @@
--- `haqbylur::haqbylur_list` meets its contract: it hands on what List answers and leaves, and each value fits 32 bits.
+-- `haqbylur::haqbylur_list` meets its contract: it answers and leaves what List does, and each value fits 32 bits.
 use native.Mathlib.Omega.{arith}
 use borrow.Author.Needs.{needs}
 use Rattle.haqbylur.proofs.StatusLaws.{listed-matches, listed-refused}

@@ -1,4 +1,4 @@
--- `haqbylur::haqbylur_run` meets its contract: it hands on what Run answers and leaves, and each value fits 32 bits.
+-- `haqbylur::haqbylur_run` meets its contract: it answers and leaves what Run does, and each value fits 32 bits.
 use native.Mathlib.Omega.{arith}
 use borrow.Author.Needs.{needs}
 use Rattle.haqbylur.proofs.StatusLaws.{ran-marked, ran-refused}

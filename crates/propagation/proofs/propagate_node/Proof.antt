@@ -2,34 +2,31 @@
 use native.Mathlib.Omega.{arith}
 use borrow.Author.Needs.{needs}
 use Rattle.nodes.proofs.NodeLaws.{node-pushable}
-use Rattle.propagation.proofs.PropagationLaws.{node-rank, node-passed, step-beside, step-ancestor}
+use Rattle.propagation.proofs.PropagateNodeLaws.{node-rank, node-passed, step-beside, step-ancestor}
 use Rattle.propagation.proofs.propagate_node.Statement.{statement}
 use Rattle.propagation.proofs.propagate_node.Tie as tie
 
-mul-rank : tie.Need-mul-rank
-mul-rank c = search needs
+mul-symbol-rank : tie.Need-mul-symbol-rank
+mul-symbol-rank c = search needs
 
-shared-slice-read-rank : tie.Need-shared-slice-read-rank
-shared-slice-read-rank c = search needs
+shared-slice-read-symbol-rank : tie.Need-shared-slice-read-symbol-rank
+shared-slice-read-symbol-rank c = search needs
 
-cast-rank : tie.Need-cast-rank
-cast-rank c = search needs
-
-rank-requires : tie.Need-rank-requires
-rank-requires c κs = search needs
+symbol-rank-requires : tie.Need-symbol-rank-requires
+symbol-rank-requires c κs = search needs
 
 push-node-requires : tie.Need-push-node-requires
 push-node-requires c κs =
     let k = c .before .before in
     node-pushable
     (k .before .before .before .before .before .before .before .before .before .before .before .before .before .before .pre .at)
-    _ (k .rank .ensures) _ (omega arith)
+    _ (k .symbol-rank .ensures) _ (omega arith)
 
-sub-t29 : tie.Need-sub-t29
-sub-t29 c = search needs
+sub-t27 : tie.Need-sub-t27
+sub-t27 c = search needs
 
-add-t30 : tie.Need-add-t30
-add-t30 c = search needs
+add-t28 : tie.Need-add-t28
+add-t28 c = search needs
 
 same-length : tie.Need-same-length
 same-length c = search needs
@@ -41,8 +38,8 @@ returns c =
     let g =
     c .before .before .before .before .before .before .before .before .before .before .before .before .before .before .before .before
     .before .before .before .pre .at in (
-      step-beside _ _ _ _ _ _ _ (node-rank g _ (k .rank .ensures)) (c .before .before .before .before .if1 .taken),
-      node-passed g _ (k .rank .ensures) (p .push-node .ensures .0) (p .push-node .ensures .1),
+      step-beside _ _ _ _ _ _ _ (node-rank g _ (k .symbol-rank .ensures)) (c .before .before .before .before .if1 .taken),
+      node-passed g _ (k .symbol-rank .ensures) (p .push-node .ensures .0) (p .push-node .ensures .1),
     )
 
 recompute-requires : tie.Need-recompute-requires
@@ -94,7 +91,7 @@ returns-2 c =
           (node-rank
           (c .before .before .before .before .before .before .before .before .before .before .before .before .before .before .before .before
           .before .before .before .before .before .before .before .before .before .before .before .before .before .before .before .before
-          .before .before .before .before .before .before .before .before .pre .at) _ (k .rank .ensures))
+          .before .before .before .before .before .before .before .before .pre .at) _ (k .symbol-rank .ensures))
           (c .before .before .before .before .before .before .before .before .before .before .before .before .before .before .before .before
           .before .before .before .before .before .before .before .before .before .if1 .left) _ (r .recompute .ensures .0),
       r .recompute .ensures .1,
@@ -104,13 +101,12 @@ pub propagate-node-spec : {M : Type 1} → statement M
 propagate-node-spec =
     tie.close
     (tie.spec
-    mul-rank
-    shared-slice-read-rank
-    cast-rank
-    rank-requires
+    mul-symbol-rank
+    shared-slice-read-symbol-rank
+    symbol-rank-requires
     push-node-requires
-    sub-t29
-    add-t30
+    sub-t27
+    add-t28
     same-length
     returns
     recompute-requires

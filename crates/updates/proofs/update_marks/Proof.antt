@@ -1,5 +1,5 @@
--- `updates::update_marks` meets its contract: the index of the table, the stack of the nodes before the replacement, the
--- replacement's nodes up to its root, and the loop over the root and the ancestors.
+-- `updates::update_marks` meets its contract: the index of the table, the stack of the nodes before `start`, the nodes up to `root`,
+-- and the loop over node `root` and its ancestors.
 use borrow.Author.Needs.{needs}
 use Rattle.updates.proofs.UpdateLaws.{nodes-index, nodes-stack, nodes-marks, nodes-propagate, nodes-updated}
 use Rattle.updates.proofs.update_marks.Statement.{statement}

@@ -6,7 +6,7 @@ use borrow.Author.Needs.{needs}
 use Rattle.words.specs.Word.{symbolKind}
 use Rattle.words.specs.declared.word.Kind.the-variants.{Symbol}
 use Rattle.words.proofs.DecodedLaws.{told-number, left-number}
-use Rattle.compiler.proofs.StateLaws.{port-every, port-constant, port-empty, symbol-known}
+use Rattle.compiler.proofs.StateLaws.{word-port-every, word-port-constant, word-port-empty, symbol-known}
 use Rattle.compiler.proofs.states.word_port.Statement.{statement}
 use Rattle.compiler.proofs.states.word_port.Tie as tie
 
@@ -19,7 +19,7 @@ port-of-requires c κs = search needs
 returns : tie.Need-returns
 returns c =
     let p = c .before .before .before .before .pre in
-    port-every _ _ _ _ (p .low) (sym (c .before .before .has-entries .ensures) ∙ c .before .if1 .taken) (c .port-of .ensures)
+    word-port-every _ _ _ _ (p .low) (sym (c .before .before .has-entries .ensures) ∙ c .before .if1 .taken) (c .port-of .ensures)
 
 kind-of-requires : tie.Need-kind-of-requires
 kind-of-requires c κs = search needs
@@ -43,14 +43,14 @@ returns-2 c =
     let m = c .before .before .before in
     let p = m .before .before .before .before .pre in
     let number = told-number _ _ (m .kind-of .ensures) Symbol (c .before .enum-told .given .1) (omega arith) in
-    port-constant _ _ _ _ (p .low) (p .symbols) (symbol-known _ _ (p .word) number)
+    word-port-constant _ _ _ _ (p .low) (p .symbols) (symbol-known _ _ (p .word) number)
     (sym (m .before .before .has-entries .ensures) ∙ m .before .if1 .left) number (c .port-of2 .ensures)
 
 returns-3 : tie.Need-returns-3
 returns-3 c =
     let m = c .before .before in
     let p = m .before .before .before .before .pre in
-    port-empty _ _ _ _ (p .low) (sym (m .before .before .has-entries .ensures) ∙ m .before .if1 .left)
+    word-port-empty _ _ _ _ (p .low) (sym (m .before .before .has-entries .ensures) ∙ m .before .if1 .left)
     (left-number _ (m .kind-of .result) (m .kind-of .ensures) (Symbol ∷ []) (c .before .match .keys2) symbolKind refl)
     (c .port-of3 .ensures)
 

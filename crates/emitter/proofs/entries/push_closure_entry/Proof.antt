@@ -1,7 +1,7 @@
 -- `emitter::entries::push_closure_entry` meets its contract: at c the exit stands behind the children's entries.
 use Prim.Native.Nat.{_+_}
 use borrow.Author.Needs.{needs}
-use Rattle.emitter.proofs.TargetLaws.{closure-here, closure-other}
+use Rattle.emitter.proofs.ChildTargetLaws.{closure-here, closure-other}
 use Rattle.emitter.proofs.entries.push_closure_entry.Statement.{statement}
 use Rattle.emitter.proofs.entries.push_closure_entry.Tie as tie
 

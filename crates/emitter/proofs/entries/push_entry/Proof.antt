@@ -4,7 +4,7 @@ use native.Mathlib.Omega.{arith}
 use borrow.Author.Needs.{needs}
 use Rattle.words.specs.Limits.{rankMost}
 use Rattle.emitter.specs.Emission.{entryWordsMost}
-use Rattle.emitter.proofs.TargetLaws.{targetable-said, targets-said}
+use Rattle.emitter.proofs.ChildTargetLaws.{targetable-said, targets-said}
 use Rattle.emitter.proofs.entries.push_entry.Statement.{statement}
 use Rattle.emitter.proofs.entries.push_entry.Tie as tie
 

@@ -1,7 +1,7 @@
 -- `emitter::entries::push_product_entry` meets its contract: the children from the second on stand behind the first port.
 use Prim.Native.Nat.{_+_}
 use borrow.Author.Needs.{needs}
-use Rattle.emitter.proofs.TargetLaws.{emittable-behind, product-here, product-other}
+use Rattle.emitter.proofs.ChildTargetLaws.{emittable-behind, product-here, product-other}
 use Rattle.emitter.proofs.entries.push_product_entry.Statement.{statement}
 use Rattle.emitter.proofs.entries.push_product_entry.Tie as tie
 

@@ -5,29 +5,26 @@ use Rattle.nodes.proofs.NodeLaws.{node-height, node-few, node-pushable,
 use Rattle.nodes.proofs.marking.mark_node.Statement.{statement}
 use Rattle.nodes.proofs.marking.mark_node.Tie as tie
 
-abbrev start : tie.After-rank → tie.Start
+abbrev start : tie.After-symbol-rank → tie.Start
 start n = n .before .before .before .before .before .before .before .before .before .before .before .before .before .before
 
-abbrev ranked : tie.After-mark-next → tie.After-rank
+abbrev ranked : tie.After-mark-next → tie.After-symbol-rank
 ranked m = m .before .before .before .before .before .before .before .before .before .before
 
-mul-symbol : tie.Need-mul-symbol
-mul-symbol c = search needs
+mul-w : tie.Need-mul-w
+mul-w c = search needs
 
-shared-slice-read-symbol : tie.Need-shared-slice-read-symbol
-shared-slice-read-symbol c = search needs
+shared-slice-read-w : tie.Need-shared-slice-read-w
+shared-slice-read-w c = search needs
 
-cast-rank : tie.Need-cast-rank
-cast-rank c = search needs
-
-rank-requires : tie.Need-rank-requires
-rank-requires c κs = search needs
+symbol-rank-requires : tie.Need-symbol-rank-requires
+symbol-rank-requires c κs = search needs
 
 sub-mark-next : tie.Need-sub-mark-next
 sub-mark-next c = search needs
 
 mul-mark-next : tie.Need-mul-mark-next
-mul-mark-next c = let n = c .before in let l = node-few (start n .pre) _ (n .rank .ensures) in omega arith
+mul-mark-next c = let n = c .before in let l = node-few (start n .pre) _ (n .symbol-rank .ensures) in omega arith
 
 sub-mark-next-2 : tie.Need-sub-mark-next-2
 sub-mark-next-2 c = search needs
@@ -36,16 +33,16 @@ part-mark-next-start : tie.Need-part-mark-next-start
 part-mark-next-start c = search needs
 
 part-mark-next-end : tie.Need-part-mark-next-end
-part-mark-next-end c = let n = c .before .before in let l = node-height (start n .pre) _ (n .rank .ensures) in omega arith
+part-mark-next-end c = let n = c .before .before in let l = node-height (start n .pre) _ (n .symbol-rank .ensures) in omega arith
 
 mark-next-requires : tie.Need-mark-next-requires
 mark-next-requires c κs =
-    let n = c .before .before .before .before .before .before .before .before .before in node-next (start n .pre) _ (n .rank .ensures)
+    let n = c .before .before .before .before .before .before .before .before .before in node-next (start n .pre) _ (n .symbol-rank .ensures)
 
 push-node-requires : tie.Need-push-node-requires
 push-node-requires c κs =
     let m = c .before .before .before .before .before .before .before .before .before .before .before .before .before .before .before in
-    let n = ranked m in node-pushable (start n .pre) _ (n .rank .ensures) _ (m .mark-next .ensures .new .low)
+    let n = ranked m in node-pushable (start n .pre) _ (n .symbol-rank .ensures) _ (m .mark-next .ensures .new .low)
 
 same-length : tie.Need-same-length
 same-length c = search needs
@@ -77,18 +74,17 @@ returns c =
     let m =
     p .before .before .before .before .before .before .before .before .before .before .before .before .before .before .before .before in
     let n = ranked m in (
-      node-words (start n .pre) _ (n .rank .ensures) (m .mark-next .ensures),
-      node-kept (start n .pre) _ (n .rank .ensures) (m .mark-next .ensures) (p .push-node .ensures .0) (p .push-node .ensures .1),
+      node-words (start n .pre) _ (n .symbol-rank .ensures) (m .mark-next .ensures),
+      node-kept (start n .pre) _ (n .symbol-rank .ensures) (m .mark-next .ensures) (p .push-node .ensures .0) (p .push-node .ensures .1),
     )
 
 pub mark-node-spec : {M : Type 1} → statement M
 mark-node-spec =
     tie.close
     (tie.spec
-    mul-symbol
-    shared-slice-read-symbol
-    cast-rank
-    rank-requires
+    mul-w
+    shared-slice-read-w
+    symbol-rank-requires
     sub-mark-next
     mul-mark-next
     sub-mark-next-2

@@ -4,7 +4,7 @@ use mathlib.Core.Path.{sym, _∙_}
 use Prim.Native.Nat.{_-_}
 use native.Mathlib.Omega.{arith}
 use borrow.Author.Needs.{needs}
-use Rattle.nodes.proofs.NodesLaws.{NodesMarking, marking-none, marking-at, marking-more, marking-end}
+use Rattle.nodes.proofs.NodeLoopLaws.{NodesMarking, marking-none, marking-at, marking-more, marking-end}
 use Rattle.nodes.proofs.marking.mark_nodes.Statement.{statement}
 use Rattle.nodes.proofs.marking.mark_nodes.Tie as tie
 

@@ -23,22 +23,19 @@ inside t = omega (arith, t .loop-test .taken, start t .pre .within)
 loop-holds : tie.Need-loop-holds Inv-loop μ-loop
 loop-holds c = stacking-none (c .before .before .before .pre)
 
-mul-rank : tie.Need-mul-rank Inv-loop μ-loop
-mul-rank c = omega (arith, inside c)
+mul-symbol-rank : tie.Need-mul-symbol-rank Inv-loop μ-loop
+mul-symbol-rank c = omega (arith, inside c)
 
-shared-slice-read-rank : tie.Need-shared-slice-read-rank Inv-loop μ-loop
-shared-slice-read-rank c = inside (c .before)
+shared-slice-read-symbol-rank : tie.Need-shared-slice-read-symbol-rank Inv-loop μ-loop
+shared-slice-read-symbol-rank c = inside (c .before)
 
-cast-rank : tie.Need-cast-rank Inv-loop μ-loop
-cast-rank c = search needs
-
-rank-requires : tie.Need-rank-requires Inv-loop μ-loop
-rank-requires c κs = search needs
+symbol-rank-requires : tie.Need-symbol-rank-requires Inv-loop μ-loop
+symbol-rank-requires c κs = search needs
 
 push-node-requires : tie.Need-push-node-requires Inv-loop μ-loop
 push-node-requires c κs =
     let t = c .before .before .before in
-    stacking-pushable (start t .pre) (t .before .loop .inv) (t .loop-test .taken) _ (c .before .rank .ensures)
+    stacking-pushable (start t .pre) (t .before .loop .inv) (t .loop-test .taken) _ (c .before .symbol-rank .ensures)
 
 add-i : tie.Need-add-i Inv-loop μ-loop
 add-i c = search needs
@@ -50,7 +47,7 @@ loop-again : tie.Need-loop-again Inv-loop μ-loop
 loop-again c =
     let p = c .before .before in
     let t = p .before .before .before .before in
-    stacking-more (start t .pre) (t .before .loop .inv) (t .loop-test .taken) _ (p .before .before .rank .ensures) _ _
+    stacking-more (start t .pre) (t .before .loop .inv) (t .loop-test .taken) _ (p .before .before .symbol-rank .ensures) _ _
     (p .push-node .ensures .0) (p .push-node .ensures .1)
 
 same-length : tie.Need-same-length Inv-loop μ-loop
@@ -66,10 +63,9 @@ stack-nodes-spec =
     Inv-loop
     μ-loop
     loop-holds
-    mul-rank
-    shared-slice-read-rank
-    cast-rank
-    rank-requires
+    mul-symbol-rank
+    shared-slice-read-symbol-rank
+    symbol-rank-requires
     push-node-requires
     add-i
     loop-less

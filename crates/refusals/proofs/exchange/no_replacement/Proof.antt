@@ -2,7 +2,7 @@
 use mathlib.Core.Path.{refl, sym, _∙_}
 use borrow.Author.Needs.{needs}
 use Rattle.words.specs.Chapter.{treeRefusals}
-use Rattle.words.proofs.TestLaws.{or-none}
+use Rattle.words.proofs.TestLaws.{or-right}
 use Rattle.words.proofs.RefusalLaws.{refused-some}
 use Rattle.operations.specs.Exchange.{noReplacement}
 use Rattle.refusals.proofs.exchange.no_replacement.Statement.{statement}
@@ -23,7 +23,7 @@ unfolding noReplacement
 returns-2 c =
     let d = c .before in
     refused-some (treeRefusals _ _) refl (c .tree-fault .ensures)
-    ∙ simp or-none (sym (simp (sym (d .before .wrong-count .ensures) ∙ d .if1 .left)))
+    ∙ sym (or-right _ _ (sym (d .before .wrong-count .ensures) ∙ d .if1 .left))
 
 pub no-replacement-spec : {M : Type 1} → statement M
 no-replacement-spec = tie.close (tie.spec wrong-count-requires returns tree-fault-requires returns-2)

@@ -36,11 +36,8 @@ returns c =
     found-refusal (treeRefusals _ _)
     (judged-no-node (t .before .loop .inv) (t .loop-test .taken) (sym (c .before .is-node .ensures) ∙ not-true _ (c .if1 .taken)))
 
-cast-rank : tie.Need-cast-rank Inv-loop μ-loop
-cast-rank c = search needs
-
-rank-requires : tie.Need-rank-requires Inv-loop μ-loop
-rank-requires c κs = search needs
+symbol-rank-requires : tie.Need-symbol-rank-requires Inv-loop μ-loop
+symbol-rank-requires c κs = search needs
 
 mul-nodes-only : tie.Need-mul-nodes-only Inv-loop μ-loop
 mul-nodes-only c = search needs
@@ -69,7 +66,7 @@ returns-3 c =
     let t = n .before .before .before in
     found-refusal (treeRefusals _ _)
     (judged-lacks (t .before .loop .inv) (t .loop-test .taken) (sym (n .before .is-node .ensures) ∙ not-false _ (n .if1 .left)) _
-    (l .before .rank .ensures) (l .if2 .taken) _ (c .before .nodes-only .ensures) (not-false _ (c .if3 .left)))
+    (l .before .symbol-rank .ensures) (l .if2 .taken) _ (c .before .nodes-only .ensures) (not-false _ (c .if3 .left)))
 
 add-made : tie.Need-add-made Inv-loop μ-loop
 add-made c = search needs
@@ -85,7 +82,7 @@ loop-again c =
     let n = c .before .before in
     let t = n .before .before .before in
     judged-more (t .before .loop .inv) (t .loop-test .taken) (sym (n .before .is-node .ensures) ∙ not-false _ (n .if1 .left)) _
-    (c .before .rank .ensures) (c .if2 .left)
+    (c .before .symbol-rank .ensures) (c .if2 .left)
 
 returns-4 : tie.Need-returns-4 Inv-loop μ-loop
 returns-4 c =
@@ -106,8 +103,7 @@ tree-fault-spec =
     shared-slice-read-w
     is-node-requires
     returns
-    cast-rank
-    rank-requires
+    symbol-rank-requires
     mul-nodes-only
     sub-nodes-only
     part-nodes-only-start

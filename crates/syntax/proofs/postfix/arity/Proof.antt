@@ -29,11 +29,8 @@ kind-of-requires c κs = search needs
 enum-told : tie.Need-enum-told
 enum-told c = search needs
 
-cast-rank : tie.Need-cast-rank
-cast-rank c = search needs
-
-rank-requires : tie.Need-rank-requires
-rank-requires c κs = search needs
+symbol-rank-requires : tie.Need-symbol-rank-requires
+symbol-rank-requires c κs = search needs
 
 enum-told-2 : tie.Need-enum-told-2
 enum-told-2 c = search needs
@@ -47,16 +44,13 @@ enum-told-4 c = search needs
 enum-told-5 : tie.Need-enum-told-5
 enum-told-5 c = search needs
 
-cast-rank-2 : tie.Need-cast-rank-2
-cast-rank-2 c = search needs
-
-rank-requires-2 : tie.Need-rank-requires-2
-rank-requires-2 c κs = search needs
+symbol-rank-requires-2 : tie.Need-symbol-rank-requires-2
+symbol-rank-requires-2 c κs = search needs
 
 returns : tie.Need-returns
 returns c =
     let t = c .before in
-    c .rank .ensures ∙ sym (arity-kind _ _ _ (told-kind _ _ (t .before .before .kind-of .ensures) _ (t .enum-told .given .1)))
+    c .symbol-rank .ensures ∙ sym (arity-kind _ _ _ (told-kind _ _ (t .before .before .kind-of .ensures) _ (t .enum-told .given .1)))
 
 returns-2 : tie.Need-returns-2
 returns-2 c = sym (arity-kind _ _ _ (told-kind _ _ (c .before .before .kind-of .ensures) _ (c .enum-told2 .given .1)))
@@ -70,7 +64,7 @@ returns-4 c = sym (arity-kind _ _ _ (told-kind _ _ (c .before .before .kind-of .
 returns-5 : tie.Need-returns-5
 returns-5 c =
     let t = c .before in
-    c .rank2 .ensures ∙ sym (arity-kind _ _ _ (told-kind _ _ (t .before .before .kind-of .ensures) _ (t .enum-told5 .given .1)))
+    c .symbol-rank2 .ensures ∙ sym (arity-kind _ _ _ (told-kind _ _ (t .before .before .kind-of .ensures) _ (t .enum-told5 .given .1)))
 
 returns-6 : tie.Need-returns-6
 returns-6 c = sym (none-taken _ _ (c .before .kind-of .result) (c .before .kind-of .ensures) (c .match .keys6))
@@ -81,14 +75,12 @@ arity-spec =
     (tie.spec
     kind-of-requires
     enum-told
-    cast-rank
-    rank-requires
+    symbol-rank-requires
     enum-told-2
     enum-told-3
     enum-told-4
     enum-told-5
-    cast-rank-2
-    rank-requires-2
+    symbol-rank-requires-2
     returns
     returns-2
     returns-3
