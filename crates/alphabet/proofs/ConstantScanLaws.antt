@@ -21,7 +21,7 @@ cond-append true x l k = refl
 cond-append false x l k = refl
 
 -- the constants of two parts of an alphabet
-pub constantsFrom-append : (s : ℕ) (l k : List ℕ) → constantsFrom s (l ++ k) ≡ constantsFrom s l ++ constantsFrom (s + length l) k
+constantsFrom-append : (s : ℕ) (l k : List ℕ) → constantsFrom s (l ++ k) ≡ constantsFrom s l ++ constantsFrom (s + length l) k
 unfolding constantsFrom
 constantsFrom-append s [] k = rw (add-zero s)
 constantsFrom-append s (w ∷ l) k =
@@ -48,10 +48,10 @@ module _ (a : List ℕ) (i : ℕ) where
       (zero-add (length (take i a)) ∙ length-take-le i a (omega arith))
       ∙ rw (isConstant-rank h)
 
-  pub constants-more : isConstant a i ≡ true → constantsOf (take (i + 1) a) ≡ constantsOf (take i a) ++ i ∷ []
+  constants-more : isConstant a i ≡ true → constantsOf (take (i + 1) a) ≡ constantsOf (take i a) ++ i ∷ []
   constants-more e = constants-step (isConstant-symbol e) ∙ rw e
 
-  pub constants-skip : isConstant a i ≡ false → constantsOf (take (i + 1) a) ≡ constantsOf (take i a)
+  constants-skip : isConstant a i ≡ false → constantsOf (take (i + 1) a) ≡ constantsOf (take i a)
   constants-skip e = go (tested (ltb i (length a)))
     where
       go : Tested (ltb i (length a)) → constantsOf (take (i + 1) a) ≡ constantsOf (take i a)
@@ -80,7 +80,7 @@ module _ {a : List ℕ} {n i : ℕ} (c : Counted a n i) where
   pub counted-end : length a ≤ i → n ≡ length (constantsOf a)
   counted-end h = c .count ∙ ap (λ (l : List ℕ). length (constantsOf l)) (take-all i a h)
 
--- ---- writing: the n constants of the first i entries, of which there are at most as many as an alphabet can have, are stored from the first word on
+-- ---- writing: the n constants of the first i entries, at most as many as an alphabet can have, are stored from the first word on
 
 pub record Written (a list₀ list : List ℕ) (n i : ℕ) : Type 0 where
   pub counted : Counted a n i

@@ -37,7 +37,7 @@ pub fn is_constant(alphabet: &[u32], symbol: usize) -> bool
     ensures { λ r. ⌜ r ≡ isConstant (now (alphabet .entry)) symbol ⌝ }
 {
     if symbol < alphabet.len() {
-        return alphabet[symbol] % SYMBOL_RANGE == 0;
+        return rank(alphabet, symbol) == 0;
     }
     false
 }

@@ -67,13 +67,13 @@ module _ (a : List ℕ) (h : AcceptedAlphabet a) where
 -- T table words, B branching words, S states, n words, of which i have entries and l do not, and k constants
 few-words : (T B S n i l k : ℕ) → T + B ≤ S + (n + i) → S ≡ i * suc k + l → i + l ≡ n → n ≤ expressionMost → 1 ≤ l → l ≤ 1 + 3 * B
     → k ≤ constantsMost → S ≤ statesMost → T ≤ compiledMost
-few-words T B S n i l k t s c n≤ l≥ l≤ k≤ S≤ = go (decLe k 15)
+few-words T B S n i l k t s c n≤ l≥ l≤ k≤ S≤ = go (decLe (suc k) constantsMost)
   where
-    go : Dec (k ≤ 15) → T ≤ compiledMost
-    go (yes h) = let p : i * suc k ≤ i * 16 = mul-le-mul-left i (omega arith) in omega arith
+    go : Dec (suc k ≤ constantsMost) → T ≤ compiledMost
+    go (yes h) = let p : i * suc k ≤ i * constantsMost = mul-le-mul-left i h in omega arith
     go (no h) =
         let e : k ≡ constantsMost = omega arith in
-        let s′ : S ≡ i * 17 + l = rw e at s in
+        let s′ : S ≡ i * suc constantsMost + l = rw e at s in
         omega arith
 
 -- "No compiled table takes more than 1,147 words."

@@ -3,7 +3,7 @@ use mathlib.Core.Path.{_≡_, refl, ap, ap₂, _∙_, sym}
 use mathlib.Core.Logic.{_⊎_, inl, inr}
 use mathlib.Core.Bool.{Bool, true, _&&_, _||_, or-true as or-right}
 use mathlib.Core.List.{List, [], _∷_, _++_}
-use Prim.Native.Nat.{ℕ, zero, suc, _+_, _<_, _≤_}
+use Prim.Native.Nat.{ℕ, zero, suc, _<_, _≤_}
 use native.Mathlib.Omega.{arith}
 use lib.ListN.{length}
 use lib.Dec.{ltb}
@@ -13,6 +13,7 @@ use Rattle.words.specs.Word.{fieldRange, wordOf, symbolAbove, stateAbove, state
 use Rattle.words.specs.Alphabet.{isSymbol, rankOf}
 use Rattle.words.specs.Lists.{AllBelow}
 use Rattle.words.specs.Limits.{statesMost}
+use Rattle.words.proofs.ListLaws.{length-none}
 use Rattle.words.proofs.TestLaws.{and-true, true-and, or-true}
 use Rattle.words.proofs.KindLaws.{isOf-facts, isOf-wordOf}
 use Rattle.automaton.specs.Transition.{Transition, onSymbol, epsilon, sourceWords, transitionsWords}
@@ -45,10 +46,6 @@ module _ (a : List ℕ) (n : ℕ) where
   abbrev epsilonTest : ℕ → Bool
   epsilonTest w = isOf epsilonKind w && ltb (stateAbove w) n && ltb (stateBelow w) n
 
-  no-sources : (ps : List ℕ) → length ps ≡ 0 → ps ≡ []
-  no-sources [] e = refl
-  no-sources (p ∷ ps) e = absurd (omega arith)
-
   -- ---- words that pass are the words of transitions
 
   parsed-symbol : (w : ℕ) (ws : List ℕ) → symbolTest w ≡ true → Parsed a n (rankOf a (symbolAbove w)) ws → Parsed a n 0 (w ∷ ws)
@@ -69,7 +66,7 @@ module _ (a : List ℕ) (n : ℕ) where
       let b = and-true (isOf epsilonKind w && ltb (stateAbove w) n) (ltb (stateBelow w) n) h in
       let c = and-true (isOf epsilonKind w) (ltb (stateAbove w) n) (b .0) in
       let e : sourceWords (i .sources) ++ transitionsWords (i .transitions) ≡ transitionsWords (i .transitions) =
-      rw (no-sources (i .sources) (i .number)) in
+      rw (length-none (i .sources) (i .number)) in
       record {
         sources = [];
         transitions = epsilon (stateAbove w) (stateBelow w) ∷ i .transitions;
@@ -132,7 +129,7 @@ module _ (a : List ℕ) (n : ℕ) where
   transitions-parsed ws h =
       let i = parsed ws 0 h in
       let e : sourceWords (i .sources) ++ transitionsWords (i .transitions) ≡ transitionsWords (i .transitions) =
-      rw (no-sources (i .sources) (i .number)) in
+      rw (length-none (i .sources) (i .number)) in
       record { transitions = i .transitions; words = sym e ∙ i .words; over = i .over }
 
   -- ---- the words of transitions pass

@@ -1,6 +1,6 @@
 -- Bottom-up tree automata with epsilon transitions, and their words (document 01's table, kinds 8 to 11): the encoder and
 -- the decoder.
-use Prim.Native.Nat.{ℕ, _+_}
+use Prim.Native.Nat.{ℕ}
 use mathlib.Core.List.{List, [], _∷_, _++_, map}
 use mathlib.Core.Bool.{cond}
 use lib.ListN.{getD, drop}

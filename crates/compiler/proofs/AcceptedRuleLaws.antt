@@ -1,7 +1,7 @@
 -- What refusals 1 to 6 leave of an alphabet and a rule: its constants, and the states of its words.
 use mathlib.Core.Path.{_≡_, ap, _∙_, sym}
-use mathlib.Core.List.{List, [], _∷_}
-use Prim.Native.Nat.{ℕ, zero, suc, _*_, _≤_}
+use mathlib.Core.List.{List}
+use Prim.Native.Nat.{ℕ, _*_, _≤_}
 use native.Mathlib.Omega.{arith}
 use lib.ListN.{length, take, length-append}
 use lib.Seq.{sets, take-all}
@@ -9,7 +9,7 @@ use Rattle.words.specs.Lists.{writtenOver}
 use Rattle.words.specs.Limits.{alphabetMost, constantsMost, expressionMost}
 use Rattle.words.specs.Refusal.{refusal}
 use Rattle.words.specs.Alphabet.{constantsOf}
-use Rattle.words.proofs.ListLaws.{take-over, sets-whole}
+use Rattle.words.proofs.ListLaws.{length-take-most, take-over, sets-whole}
 use Rattle.words.proofs.AcceptedAlphabet.{AcceptedAlphabet, alphabet-accepted}
 use Rattle.words.proofs.AcceptedExpression.{AcceptedExpression, expression-passed}
 use Rattle.operations.specs.Compile.{ruleRefusals}
@@ -25,11 +25,6 @@ accepted-expression a e h = expression-passed a e (rule-accepted a e h .expressi
 -- the states of a word can be counted by the number of the constants
 pub states-countable : (a : List ℕ) (count : ℕ) → AcceptedAlphabet a → count ≡ length (constantsOf a) → StatesCountable a count
 states-countable a count h e = let few = h .constants .few in record { constants = e; few = omega arith }
-
-pub length-take-most : (e : List ℕ) (n : ℕ) → length (take n e) ≤ length e
-length-take-most e zero = omega arith
-length-take-most [] (suc n) = omega arith
-length-take-most (w ∷ e) (suc n) = omega (arith, length-take-most e n)
 
 -- the states of a rule's first words are few
 pub states-few : (e : List ℕ) (n x : ℕ) → length e ≤ expressionMost → x ≤ wordStatesMost * length (take n e)

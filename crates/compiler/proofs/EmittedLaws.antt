@@ -43,12 +43,12 @@ module _ (cs : List ℕ) where
   stack-pushed f k = ap reverse (map-append (portIn cs) f k) ∙ reverseAux-append (portsIn cs f) (portsIn cs k) []
 
 -- the first h members are those below index b and the part from b to h
-pub first-parts : (l : List ℕ) (b h : ℕ) → b ≤ h → take h l ≡ take b l ++ take (h - b) (drop b l)
+first-parts : (l : List ℕ) (b h : ℕ) → b ≤ h → take h l ≡ take b l ++ take (h - b) (drop b l)
 first-parts l b h le =
     let e : b + (h - b) ≡ h = omega arith in
     ap (λ (n : ℕ). take n l) (sym e) ∙ take-add b (h - b) l
 
-pub length-part : (l : List ℕ) (b h : ℕ) → b ≤ h → h ≤ length l → length (take (h - b) (drop b l)) ≡ h - b
+length-part : (l : List ℕ) (b h : ℕ) → b ≤ h → h ≤ length l → length (take (h - b) (drop b l)) ≡ h - b
 length-part l b h le few = length-take-le (h - b) (drop b l) (rw (length-drop b l) (omega arith))
 
 -- ---- one word more
@@ -63,7 +63,7 @@ module _ (a cs : List ℕ) (known : cs ≡ constantsOf a) where
       ap (λ (E : Port). ownTransitions w E (portsIn cs (p ∷ ps)))
       (port-full a w n (entries-some a w (length ps) (sym r)) ∙ ap (λ (ds : List ℕ). fullPort ds n) (sym known))
 
-  pub transitions-more : (n w : ℕ) (ws f k : List ℕ) (p : ℕ) → length k ≡ arity a w → portIn cs p ≡ portOf a n w
+  transitions-more : (n w : ℕ) (ws f k : List ℕ) (p : ℕ) → length k ≡ arity a w → portIn cs p ≡ portOf a n w
       → transitionsFrom a n (w ∷ ws) (stackIn cs (f ++ k))
       ≡ ownTransitions w (fullPort cs n) (portsIn cs k) ++ transitionsFrom a (n + statesOf a w) ws (stackIn cs (f ++ p ∷ []))
   unfolding transitionsFrom

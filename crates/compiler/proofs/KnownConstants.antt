@@ -13,7 +13,7 @@ use Rattle.words.specs.Word.{unionKind, productKind, closureKind, lowByte, symb
 use Rattle.words.specs.Alphabet.{isConstant, constantsOf}
 use Rattle.words.specs.Postfix.{arity}
 use Rattle.words.specs.ExpressionWords.{isExpressionWord}
-use Rattle.words.proofs.Ascending.{Ascending, end, next, ascending-le}
+use Rattle.words.proofs.Ascending.{Ascending, end, next, ascending-at}
 use Rattle.words.proofs.AlphabetLaws.{constantsOf-isConstant}
 use Rattle.words.proofs.ConstantLaws.{constants-ascending}
 use Rattle.words.proofs.WordLaws.{arity-kind, isExpressionWord-facts}
@@ -28,12 +28,7 @@ lookup-behind n c h (end l) = refl
 lookup-behind n c h (next {x = x} l s) = rw (ne-eqb x c (λ e. omega arith)) (lookup-behind (suc n) c (omega arith) s)
 
 -- the member at an index lies in the range
-pub ascending-at : {lo hi : ℕ} {cs : List ℕ} (k : ℕ) → k < length cs → Ascending lo hi cs → (lo ≤ getD cs k 0) × (getD cs k 0 < hi)
-ascending-at k h (end l) = absurd (omega arith)
-ascending-at zero h (next {x = x} {xs = xs} l s) = (l, ascending-le s)
-ascending-at (suc k) h (next {x = x} {xs = xs} l s) = let p = ascending-at k (omega arith) s in (omega (arith, p .0), p .1)
-
-pub ascending-once : {lo hi : ℕ} {cs : List ℕ} → Ascending lo hi cs → EachOnce cs
+ascending-once : {lo hi : ℕ} {cs : List ℕ} → Ascending lo hi cs → EachOnce cs
 ascending-once (end l) n k h = absurd (omega arith)
 ascending-once (next {x = x} {xs = xs} l s) n zero h =
     rw (eq-eqb x x refl, lookup-behind (suc n) x (le-refl (suc x)) s, add-zero n)

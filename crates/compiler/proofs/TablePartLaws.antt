@@ -26,7 +26,7 @@ use Rattle.compiler.specs.Compiling.{allOwnWordsMost, compiledWordsMost}
 -- ---- the last word
 
 -- a list that is not empty is its members before the last and the last
-pub before-last : (e : List ℕ) → 0 < length e → e ≡ take (length e - 1) e ++ getD e (length e - 1) 0 ∷ []
+before-last : (e : List ℕ) → 0 < length e → e ≡ take (length e - 1) e ++ getD e (length e - 1) 0 ∷ []
 before-last e h =
     let n : suc (length e - 1) ≡ length e = omega arith in
     sym (take-all (length e) e (omega arith)) ∙ ap (λ (k : ℕ). take k e) (sym n) ∙ take-suc e (length e - 1) 0 (omega arith)
@@ -47,7 +47,7 @@ module _ (a : List ℕ) where
     pub states-last : statesAfter a 0 e ≡ statesAfter a 0 front + statesOf a last
     states-last = ap (statesAfter a 0) (before-last e some) ∙ states-snoc front 0 last
 
-    pub lastPort-last : lastPort a e ≡ portOf a (statesAfter a 0 front) last
+    lastPort-last : lastPort a e ≡ portOf a (statesAfter a 0 front) last
     lastPort-last = ap (lastPort a) (before-last e some) ∙ lastPort-snoc a front last
 
     -- the last word is a rule word
@@ -59,7 +59,7 @@ module _ (a : List ℕ) where
 
 -- ---- the table in three parts
 
-pub table-parts : (a e : List ℕ)
+table-parts : (a e : List ℕ)
     → wordOf headKind (aboveState (statesAfter a 0 e) (lastPort a e .exit))
     ∷ (transitionsWords (constantTransitions (lastPort a e .entries)) ++ transitionsWords (transitionsFrom a 0 e []))
     ≡ compiledTable a e

@@ -19,7 +19,7 @@ abbrev pub entryEpsilonWords : ℕ → List ℕ → (ℕ → List ℕ) → List 
 entryEpsilonWords x cs targets = transitionsWords (entryEpsilons (numbered (suc x) cs) targets)
 
 -- one constant more
-pub entryEpsilonWords-more : (x : ℕ) (cs : List ℕ) (targets : ℕ → List ℕ) (k : ℕ) → k < length cs
+entryEpsilonWords-more : (x : ℕ) (cs : List ℕ) (targets : ℕ → List ℕ) (k : ℕ) → k < length cs
     → entryEpsilonWords x (take (k + 1) cs) targets
     ≡ entryEpsilonWords x (take k cs) targets ++ transitionsWords (epsilons (x + 1 + k) (targets (getD cs k 0)))
 entryEpsilonWords-more x cs targets k h =

@@ -52,7 +52,7 @@ unfolding flatMap
 flatMap-append f [] k = refl
 flatMap-append f (x ∷ l) k = ap (λ (t : List ℕ). f x ++ t) (flatMap-append f l k) ∙ sym (append-assoc (f x) (flatMap f l) (flatMap f k))
 
-pub children-entries : (cs ps : List ℕ) (b i : ℕ) → i < length ps
+children-entries : (cs ps : List ℕ) (b i : ℕ) → i < length ps
     → symbolTargets (portsIn cs (take (suc i) ps)) b ≡ symbolTargets (portsIn cs (take i ps)) b ++ entryFor (childIn cs ps i) b
 unfolding flatMap
 children-entries cs ps b i h =

@@ -10,6 +10,7 @@ use Rattle.words.specs.Word.{Kind, kindOf, lowByte, closureKind, productKind, s
 use Rattle.words.specs.Decoded.{kindIn}
 use Rattle.words.specs.declared.word.Kind.{Kind as Case}
 use Rattle.words.specs.declared.word.Kind.the-variants.{Symbol, Union, Product, Closure}
+use Rattle.words.proofs.ListLaws.{length-none}
 use Rattle.words.proofs.DecodedLaws.{Left, left-all}
 use Rattle.automaton.specs.Transition.{Transition, transitionsWords}
 use Rattle.automaton.specs.Numbering.{Port, symbolTransitions, unionTransitions, productTransitions, closureTransitions}
@@ -19,10 +20,6 @@ use Rattle.ports.specs.Ports.{portIn, portsIn, childIn}
 use Rattle.emitter.specs.Writing.{WordsWritten}
 use Rattle.emitter.proofs.WritingLaws.{words-written-none, words-written-same}
 use Rattle.emitter.proofs.ChildTargetLaws.{both, single}
-
-no-members : (ts : List Transition) → length ts ≡ 0 → ts ≡ []
-no-members [] h = refl
-no-members (t ∷ ts) h = absurd (omega arith)
 
 module _ (w : ℕ) (E : Port) (cs : List ℕ) where
   abbrev own : List ℕ → List Transition
@@ -56,7 +53,7 @@ module _ (w : ℕ) (E : Port) (cs : List ℕ) where
       let P = portIn cs p in
       let Ps = portsIn cs ps in
       own-kind w (kindIn k) E P Ps (sym decoded)
-      ∙ no-members (ownAt (kindIn k) (lowByte w) E P Ps)
+      ∙ length-none (ownAt (kindIn k) (lowByte w) E P Ps)
       (eqb-true (length (ownAt (kindIn k) (lowByte w) E P Ps)) 0
       (left-all (Symbol ∷ Union ∷ Product ∷ Closure ∷ []) k left (λ (j : Kind). eqb (length (ownAt j (lowByte w) E P Ps)) 0) refl))
 

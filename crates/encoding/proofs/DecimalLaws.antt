@@ -2,8 +2,11 @@
 use mathlib.Core.Path.{_≡_, refl, ap, _∙_, sym}
 use mathlib.Core.Bool.{Bool, true, false, cond}
 use mathlib.Core.List.{List, [], _∷_, _++_}
-use Prim.Native.Nat.{ℕ, zero, suc, _/_, _%_, _<_, _≤_}
+use Prim.Native.Nat.{ℕ, zero, suc, _*_, _/_, _%_, _^_, _<_, _≤_}
 use native.Mathlib.Omega.{arith}
+use native.Mathlib.Decide.{decLe}
+use native.Mathlib.Nat.{pow-suc}
+use lib.ListN.{length, length-append}
 use lib.Dec.{ltb}
 use borrow.Author.Tests.{lt-ltb, le-ltb, ltb-false}
 use Rattle.encoding.specs.ByteWriting.{BytesWritten}
@@ -49,3 +52,16 @@ module _ (n at : ℕ) (out : List ℕ) where
       → BytesWritten next (digit (n % 10) ∷ []) out′ out″ r → BytesWritten at (decimal n) out out″ r
   number-several out′ next out″ r h w v =
       bytes-written-same (bytes-written-more w v) (sym (decimal-several n h))
+
+-- ---- how many digits a number has
+
+pub decimal-most : (k n : ℕ) → n < 10 ^ suc k → length (decimal n) ≤ suc k
+decimal-most zero n h = rw (decimal-one n h) (omega arith)
+decimal-most (suc k) n h = go (decLe 10 n) (decimal-most k (n / 10))
+  where
+    go : Dec (10 ≤ n) → (n / 10 < 10 ^ suc k → length (decimal (n / 10)) ≤ suc k) → length (decimal n) ≤ suc (suc k)
+    go (yes l) ih =
+        let p : 10 ^ suc (suc k) ≡ 10 ^ suc k * 10 = pow-suc 10 (suc k) in
+        let i = ih (omega arith) in
+        rw (decimal-several n l, length-append) (omega arith)
+    go (no l) ih = rw (decimal-one n (omega arith)) (omega arith)

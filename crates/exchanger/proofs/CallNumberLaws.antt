@@ -8,13 +8,12 @@ use native.Mathlib.Nat.{add-mul, one-mul}
 use lib.ListN.{length, take}
 use lib.Seq.{slice, length-take-le}
 use Rattle.words.specs.Postfix.{arity, startOf}
-use Rattle.words.proofs.PostfixLaws.{start-le}
+use Rattle.words.proofs.PostfixLaws.{start-le, splice-count}
 use Rattle.operations.specs.Marks.{sizeOf, refit}
 use Rattle.operations.specs.ExchangeCall.{ExchangeCall}
 use Rattle.operations.specs.Exchange.{used, fault, newTree}
 use Rattle.operations.proofs.AcceptedLaws.{CallAccepted, call-accepted}
 use Rattle.operations.proofs.ResultLaws.{result-accepted}
-use Rattle.refusals.proofs.ReplacementRefusalLaws.{result-length}
 use Rattle.nodes.specs.Nodes.{Workable}
 use Rattle.nodes.proofs.WorkableLaws.{workable-long, run-workable}
 use Rattle.exchanger.specs.Tail.{TailMovable}
@@ -75,7 +74,7 @@ module _ (c : ExchangeCall) (ok : fault c ≡ 0) where
         let k = restCount c in
         let total : s + m + k ≡ length (newTree c) =
         ap (λ (i : ℕ). s + m + (i - c .element - 1)) (sym length-used)
-        ∙ result-length (c .alphabet) (used c) (c .element) s (c .replacement) (rw length-used inside) qs in
+        ∙ splice-count (arity (c .alphabet)) (used c) (c .element) s (c .replacement) (rw length-used inside) qs in
         let some = g .change .replacement .counted .some in
         let split : c .count ≡ c .element + 1 + k = omega arith in
         let split-new : s + m + k ≡ s + m - 1 + 1 + k = omega arith in

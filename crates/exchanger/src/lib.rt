@@ -6,8 +6,8 @@ ghost use Rattle.exchanger.specs.ExchangeAnswer.{answerInExchanged};
 use refusals::exchange::exchange_fault;
 use subtree::replace_subtree;
 
-mod replace;
 mod subtree;
+mod tail;
 
 // The answer: the new element count and the number of nodes worked out, or document 01's number of a refusal.
 pub enum Exchanged {

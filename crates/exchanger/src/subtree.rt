@@ -5,7 +5,7 @@ ghost use Rattle.operations.specs.ExchangeCall.{exchangeCall};
 ghost use Rattle.operations.specs.Exchange.{fault as Exchange·fault, exchangeAnswer, exchangeChapter, exchangeMarks};
 ghost use Rattle.exchanger.specs.ExchangeAnswer.{answerInExchanged};
 use super::Exchanged;
-use super::replace::move_tail;
+use super::tail::move_tail;
 use slices::moves::copy_words;
 use syntax::postfix::subtree_start;
 use tables::head::set_size;

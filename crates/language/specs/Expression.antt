@@ -32,11 +32,11 @@ abbrev mutual
 
   pub syntaxTrees : Expressions → Trees
   syntaxTrees noneᵉ = none
-  syntaxTrees (moreᵉ e es) = more (syntaxTree e) (syntaxTrees es)
+  syntaxTrees (moreᵉ E Es) = more (syntaxTree E) (syntaxTrees Es)
 
 -- the words of an expression
 abbrev pub expressionWords : Expression → List ℕ
-expressionWords e = postfix (syntaxTree e)
+expressionWords E = postfix (syntaxTree E)
 
 -- the words of a subject tree (document 01's chapter), whose nodes carry symbols
 abbrev pub treeWords : Tree → List ℕ
@@ -53,7 +53,7 @@ abbrev mutual
 
 abbrev pub numberᵉ : Expressions → ℕ
 numberᵉ noneᵉ = 0
-numberᵉ (moreᵉ e es) = suc (numberᵉ es)
+numberᵉ (moreᵉ E Es) = suc (numberᵉ Es)
 
 -- an expression over the alphabet: each symbol as in a tree, and "c must be one", a constant
 abbrev mutual
@@ -66,7 +66,7 @@ abbrev mutual
 
   pub ExpressionsOver : List ℕ → Expressions → Type 0
   ExpressionsOver a noneᵉ = Unit {0}
-  ExpressionsOver a (moreᵉ e es) = ExpressionOver a e × ExpressionsOver a es
+  ExpressionsOver a (moreᵉ E Es) = ExpressionOver a E × ExpressionsOver a Es
 
 -- an expression over the alphabet whose words these are
 pub record ExpressionOf (a ws : List ℕ) (E : Expression) : Type 0 where

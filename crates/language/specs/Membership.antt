@@ -62,5 +62,5 @@ abbrev mutual
   pub Members : Expressions → Trees → Type 0
   Members noneᵉ none = Unit {0}
   Members noneᵉ (more t ts) = ⊥
-  Members (moreᵉ e es) none = ⊥
-  Members (moreᵉ e es) (more t ts) = Member e t × Members es ts
+  Members (moreᵉ E Es) none = ⊥
+  Members (moreᵉ E Es) (more t ts) = Member E t × Members Es ts

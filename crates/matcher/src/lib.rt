@@ -3,10 +3,10 @@ ghost use mathlib.Core.Path.{_≡_};
 ghost use Rattle.operations.specs.Run.{runAnswer, runExit};
 ghost use Rattle.operations.specs.Listing.{listAnswer, listExit};
 ghost use Rattle.matcher.specs.MatcherAnswers.{answerInRan, answerInListed};
-use matches::list_accepted;
+use matches::write_matches;
 use refusals::list::list_fault;
 use refusals::run::run_fault;
-use tree::run_accepted;
+use tree::mark_chapter;
 
 mod matches;
 mod tree;
@@ -36,7 +36,7 @@ pub fn run(alphabet: &[u32], table: &[u32], chapter: &[u32], marks: &mut [u32]) 
     if fault != 0 {
         return Ran::Refused(fault);
     }
-    let cells = run_accepted(alphabet, table, chapter, marks);
+    let cells = mark_chapter(alphabet, table, chapter, marks);
     Ran::Marked(chapter.len(), cells)
 }
 
@@ -60,5 +60,5 @@ pub fn list(
     if fault != 0 {
         return Listed::Refused(fault);
     }
-    Listed::Matches(list_accepted(alphabet, table, count, marks, list))
+    Listed::Matches(write_matches(alphabet, table, count, marks, list))
 }

@@ -26,7 +26,7 @@ fn list_node(set: &[u32], last: usize, node: usize, list: &mut [u32], found: usi
 }
 
 // Writes the numbers of the matches of a call that is not refused, and answers how many there are.
-pub(crate) fn list_accepted(
+pub(crate) fn write_matches(
     alphabet: &[u32],
     table: &[u32],
     count: usize,

@@ -9,7 +9,7 @@ use tables::head::set_size;
 use updates::update_marks;
 
 // Marks the chapter of a call that is not refused, and answers the number of ones.
-pub(crate) fn run_accepted(
+pub(crate) fn mark_chapter(
     alphabet: &[u32],
     table: &[u32],
     chapter: &[u32],

@@ -9,6 +9,7 @@ use super::SLOTS_MOST;
 use words::limits::NODES_MOST;
 use words::limits::RANK_MOST;
 use words::word::SYMBOL_RANGE;
+use words::word::WORD_RANGE;
 
 // A digit is a child's number and 1, so that each list has a number of its own, whatever its length.
 const DIGIT_RANGE: u64 = 2 * NODES_MOST as u64;
@@ -20,9 +21,7 @@ const LAST_DIGIT_RANGE: u64 = 2 * SYMBOL_RANGE as u64;
 
 const SLOTS: u64 = SLOTS_MOST as u64;
 
-// The factors of the key's halves together are below HALF, so that the sum of the products fits.
-const HALF: u64 = 4294967296;
-
+// A key has two halves of 32 bits. Their factors together are below WORD_RANGE, so that the sum of the products fits.
 const LOW_FACTOR: u64 = 1640531527;
 
 const HIGH_FACTOR: u64 = 2246822519;
@@ -56,5 +55,5 @@ pub(crate) fn step_key(symbol: u32, four: &[u32], rank: usize) -> u64
 pub(crate) fn slot_of(key: u64) -> usize
     ensures { λ r. ⌜ r < slotsMost ⌝ }
 {
-    ((key % HALF * LOW_FACTOR + key / HALF * HIGH_FACTOR) / MIXED % SLOTS) as usize
+    ((key % WORD_RANGE * LOW_FACTOR + key / WORD_RANGE * HIGH_FACTOR) / MIXED % SLOTS) as usize
 }

@@ -17,7 +17,7 @@ use Rattle.words.specs.Postfix.{splice}
 use Rattle.words.proofs.TestLaws.{or-false}
 use Rattle.words.proofs.LimitLaws.{Within, not-outside, is-within}
 use Rattle.words.proofs.RefusalLaws.{none, next, found-refusal, refusal-found, conditionOf, none-applies, none-refusal}
-use Rattle.words.proofs.RefusalLaws.{passed, part-passes, part-behind}
+use Rattle.words.proofs.RefusalLaws.{passes, part-passes, part-behind}
 use Rattle.words.proofs.AcceptedTree.{AcceptedTree, tree-accepted}
 use Rattle.automaton.specs.Table.{isTable, noTable}
 use Rattle.automaton.specs.Numbering.{compiled}
@@ -74,7 +74,7 @@ pub record TableAccepted (a table : List ℕ) : Type 0 where
   pub automaton : isTable a table ≡ true
 
 module _ (a table : List ℕ) where
-  pub table-accepted : refusal (tableRefusals a table) ≡ 0 → TableAccepted a table
+  table-accepted : refusal (tableRefusals a table) ≡ 0 → TableAccepted a table
   unfolding noTable
   table-accepted h =
       let rs = tableRefusals a table in
@@ -86,7 +86,9 @@ module _ (a table : List ℕ) where
   pub accepted-table : TableAccepted a table → refusal (tableRefusals a table) ≡ 0
   unfolding noTable
   accepted-table g =
-      sym (found-refusal (tableRefusals a table) (passed (alphabetRefusals a) refl (g .alphabet) (next (ap not (g .automaton)) none)))
+      sym
+      (found-refusal (tableRefusals a table)
+      (passes (alphabetRefusals a) refl (sym (g .alphabet)) refl (next (ap not (g .automaton)) none)))
 
 -- ---- how many elements there are
 
@@ -128,7 +130,7 @@ pub record MarkedAccepted (a table : List ℕ) (n : ℕ) (ch : List ℕ) (marksL
   pub marks : n * sizeOf table ≤ marksLength
 
 module _ (a table : List ℕ) (n : ℕ) (ch : List ℕ) (marksLength : ℕ) where
-  pub marked-accepted : refusal (markedRefusals a table n ch marksLength) ≡ 0 → MarkedAccepted a table n ch marksLength
+  marked-accepted : refusal (markedRefusals a table n ch marksLength) ≡ 0 → MarkedAccepted a table n ch marksLength
   marked-accepted h =
       let rs = markedRefusals a table n ch marksLength in
       record {
@@ -136,11 +138,11 @@ module _ (a table : List ℕ) (n : ℕ) (ch : List ℕ) (marksLength : ℕ) wher
         marks = marks-fit table n marksLength (none-applies rs refl h 12);
       }
 
-  pub accepted-marked : MarkedAccepted a table n ch marksLength → refusal (markedRefusals a table n ch marksLength) ≡ 0
+  accepted-marked : MarkedAccepted a table n ch marksLength → refusal (markedRefusals a table n ch marksLength) ≡ 0
   accepted-marked g =
       sym
       (found-refusal (markedRefusals a table n ch marksLength)
-      (passed (treeRefusals a ch) refl (g .tree) (next (fit-marks table n marksLength (g .marks)) none)))
+      (passes (treeRefusals a ch) refl (sym (g .tree)) refl (next (fit-marks table n marksLength (g .marks)) none)))
 
 -- ---- a change
 
@@ -220,7 +222,7 @@ module _ (a table p : List ℕ) (marksLength : ℕ) where
   accepted-run g =
       sym
       (found-refusal (runRefusals a table p marksLength)
-      (passed (tableRefusals a table) refl (accepted-table a table (g .checked))
+      (passes (tableRefusals a table) refl (sym (accepted-table a table (g .checked))) refl
       (next (right-count (length p) (g .counted))
       (refusal-found (markedRefusals a table (length p) p marksLength)
       (sym (accepted-marked a table (length p) p marksLength (g .marked)))))))
@@ -255,7 +257,7 @@ module _ (a table : List ℕ) (n marksLength listLength : ℕ) where
   accepted-list g =
       sym
       (found-refusal (listRefusals a table n marksLength listLength)
-      (passed (tableRefusals a table) refl (accepted-table a table (g .checked))
+      (passes (tableRefusals a table) refl (sym (accepted-table a table (g .checked))) refl
       (next (right-count n (g .counted))
       (next (fit-marks table n marksLength (g .marks)) (next (le-ltb listLength n (g .list)) none)))))
 

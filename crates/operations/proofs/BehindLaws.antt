@@ -32,11 +32,11 @@ module _ (stored : ℕ → StateSet) (above : ℕ → Bool) where
   Chosen j on [] = Unit {0}
   Chosen j on (o ∷ os) = (o ≡ chosen j on o) × Chosen (suc j) (on && not (endsAt j o)) os
 
-  pub chosen-kept : (n j : ℕ) → Chosen j false (keptFrom stored j n)
+  chosen-kept : (n j : ℕ) → Chosen j false (keptFrom stored j n)
   chosen-kept zero j = tt
   chosen-kept (suc n) j = (refl, chosen-kept n (suc j))
 
-  pub chosen-propagate : (a table ws : List ℕ) (j : ℕ) (stack : List StateSet) → Chosen j true (propagate a table stored above j ws stack)
+  chosen-propagate : (a table ws : List ℕ) (j : ℕ) (stack : List StateSet) → Chosen j true (propagate a table stored above j ws stack)
   unfolding propagate
   chosen-propagate a table [] j stack = tt
   chosen-propagate a table (w ∷ ws) j stack =

@@ -31,7 +31,7 @@ use Rattle.operations.specs.Compile.{compiledTable}
 use Rattle.operations.specs.Marks.{finalOf, nodeSets}
 use Rattle.operations.specs.Run.{runFault, runMarks, runAnswer, runExit, cellsIn}
 use Rattle.operations.specs.Listing.{listFault, matchesIn, matchesOf, listAnswer, listExit}
-use Rattle.operations.specs.Demands.{Calls, namesOf, AllAccepted, Named, Demand2}
+use Rattle.operations.specs.Demands.{ThreeCalls, namesOf, AllAccepted, Named, Demand2}
 use Rattle.operations.proofs.AcceptedLaws.{RunAccepted, run-accepted}
 use Rattle.operations.proofs.CompileLaws.{CompileResult, compile-result}
 use Rattle.operations.proofs.MarksLaws.{length-nodeSets}
@@ -106,7 +106,7 @@ module _ (a table ch marks slice : List ℕ) (n cells hits : ℕ)
 
 -- ---- the three calls
 
-module _ (c : Calls) (h : AllAccepted c) where
+module _ (c : ThreeCalls) (h : AllAccepted c) where
   abbrev a : List ℕ
   a = c .alphabet
 
@@ -157,7 +157,7 @@ pub demand2 : Demand2
 demand2 c h = named-members c h
 
 -- the same of any expression whose words the rule is
-pub demand2-of : (c : Calls) (h : AllAccepted c) (E : Expression) → ExpressionOf (c .alphabet) (c .rule) E
+pub demand2-of : (c : ThreeCalls) (h : AllAccepted c) (E : Expression) → ExpressionOf (c .alphabet) (c .rule) E
     → (i : ℕ) (l : i < length (c .chapter))
     → List·Memᴰ i (namesOf c) ↔ Member E (demand2 c h .subtrees i l .the)
 demand2-of c h E x i l =

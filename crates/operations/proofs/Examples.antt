@@ -28,7 +28,7 @@ use Rattle.operations.specs.Compile.{compiledTable, compileFault, tooMan
 use Rattle.operations.specs.Marks.{sizeOf, finalOf, nodeSet, nodeSets, storedSet, sameWords, refit}
 use Rattle.operations.specs.Run.{wrongCount, marksTooShort, runFault, runMarks, cellsIn, runAnswer, runExit}
 use Rattle.operations.specs.Listing.{matchesIn, matchesOf}
-use Rattle.operations.specs.Demands.{Calls, AllAccepted, namesOf}
+use Rattle.operations.specs.Demands.{ThreeCalls, AllAccepted, namesOf}
 use Rattle.operations.specs.ExchangeCall.{exchangeCall}
 use Rattle.operations.specs.Exchange.{wrongUsedCount, noElement, noReplacement, resultTooLong, recomputedIn}
 use Rattle.operations.specs.Exchange.{propagate, rootSet, outcomesBehind, outcomesAfter, fault, newTree}
@@ -90,7 +90,7 @@ pub record ExchangeRow (rl slice stored : List ℕ) (n i : ℕ) (xs : List ℕ) 
 -- whose subtrees have the property
 abbrev pub Names : List ℕ → (Tree → Type 0) → Type 0
 Names e P =
-    (q : Calls) → q .alphabet ≡ alphabet → q .rule ≡ e → (h : AllAccepted q)
+    (q : ThreeCalls) → q .alphabet ≡ alphabet → q .rule ≡ e → (h : AllAccepted q)
     → (i : ℕ) (l : i < length (q .chapter)) → List·Memᴰ i (namesOf q) ↔ P (demand2 q h .subtrees i l .the)
 
 -- a row of the table

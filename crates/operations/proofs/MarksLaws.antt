@@ -69,7 +69,7 @@ module _ (size : ℕ) where
       ∙ ap (λ (l : List ℕ). take size (drop (i * size) l)) (drop-at r rest size h)
 
   -- what stands one behind the other is read back, all of it and each
-  pub storedSets-flatten : (rs : List StateSet) (rest : List ℕ) → Sized size rs
+  storedSets-flatten : (rs : List StateSet) (rest : List ℕ) → Sized size rs
       → listFrom (storedSet size (flatten rs ++ rest)) 0 (length rs) ≡ rs
   unfolding flatten
   storedSets-flatten [] rest h = refl

@@ -6,7 +6,7 @@ use mathlib.Core.List.{List, [], _∷_, List·Memᴰ, List·Memᴰ·head, List·
 use native.Mathlib.Omega.{arith}
 use native.Mathlib.Nat.{add-zero, add-suc, suc-add}
 use lib.ListN.{length, getD}
-use Rattle.words.specs.Lists.{listFrom}
+use Rattle.words.specs.Lists.{AllBelow, listFrom}
 use Rattle.words.proofs.ListLaws.{length-listFrom}
 use Rattle.automaton.specs.StateSet.{StateSet, contains}
 use Rattle.operations.specs.Marks.{sizeOf, finalOf, storedSet}
@@ -63,3 +63,14 @@ matchesOf-few table marks n =
     let stored = storedSet (sizeOf table) marks in
     let k = length-listFrom stored n 0 in
     omega (arith, matches-few (finalOf table) (listFrom stored 0 n) 0)
+
+-- each is the number of a state set
+pub matches-below : (final : ℕ) (rs : List StateSet) (i n : ℕ) → i + length rs ≤ n → AllBelow n (matchesIn final i rs)
+unfolding matchesIn
+matches-below final [] i n h = tt
+matches-below final (r ∷ rs) i n h = go (contains r final) (matches-below final rs (suc i) n (omega arith))
+  where
+    go : (b : Bool) → AllBelow n (matchesIn final (suc i) rs)
+        → AllBelow n (cond b (i ∷ matchesIn final (suc i) rs) (matchesIn final (suc i) rs))
+    go true k = (omega arith, k)
+    go false k = k

@@ -105,7 +105,7 @@ module _ (a table : List ℕ) (stored : ℕ → StateSet) (used : List ℕ) (ele
       getD-replaced (r ∷ rs) zero l = refl
       getD-replaced (r ∷ rs) (suc k) l = getD-replaced rs k (omega arith)
 
-  pub outcome-behind : (k : ℕ) → outcomeAt os (start + length xs + k) ≡ outcomeAt rest k
+  outcome-behind : (k : ℕ) → outcomeAt os (start + length xs + k) ≡ outcomeAt rest k
   unfolding outcomesAfter
   outcome-behind k =
       ap (outcomeAt os) (add-assoc start (length xs) k)

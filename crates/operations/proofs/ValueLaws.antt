@@ -1,11 +1,11 @@
 -- Every value of an accepted call fits 32 bits.
 use mathlib.Core.Path.{_≡_, sym}
 use mathlib.Core.List.{List, [], _∷_, flatten, head-eq-of-cons-eq}
-use Prim.Native.Nat.{ℕ, _*_, _<_, _≤_}
+use Prim.Native.Nat.{ℕ, _*_, _/_, _<_, _≤_}
 use native.Mathlib.Omega.{arith}
 use native.Mathlib.Nat.{le-trans, mul-le-mul-left, mul-le-mul-right}
 use lib.ListN.{length}
-use Rattle.words.specs.Word.{wordRange}
+use Rattle.words.specs.Word.{wordRange, countRange}
 use Rattle.words.specs.Limits.{nodesMost}
 use Rattle.words.specs.Answer.{accepted}
 use Rattle.words.proofs.AnswerLaws.{accepted-values}
@@ -29,11 +29,15 @@ compile-value a e slice {k} h =
     let g = compile-result a e slice k (sym h) in
     omega (arith, g .count, g .most)
 
--- the words of all state sets, whatever the head says of the states
-pub words-most : (table : List ℕ) (n : ℕ) → n ≤ nodesMost → n * sizeOf table ≤ 262144
+-- the most words of a state set, whatever count a head says
+abbrev pub sizeMost : ℕ
+sizeMost = countRange / 32
+
+-- the words of all state sets
+pub words-most : (table : List ℕ) (n : ℕ) → n ≤ nodesMost → n * sizeOf table ≤ nodesMost * sizeMost
 unfolding sizeOf sizeFor automatonOf
 words-most table n h =
-    let few : sizeOf table ≤ 64 = omega arith in
+    let few : sizeOf table ≤ sizeMost = omega arith in
     le-trans (mul-le-mul-right (sizeOf table) h) (mul-le-mul-left nodesMost few)
 
 -- Run: at most 4,096 elements, and at most 32 ones in a word
@@ -50,7 +54,8 @@ run-values a table ch marks {n} {cells} h =
     (omega arith, omega arith)
 
 -- List: at most as many hits as elements
-pub list-value : (a table : List ℕ) (n : ℕ) (marks list : List ℕ) {k : ℕ} → accepted (k ∷ []) ≡ listAnswer a table n marks list → k < wordRange
+pub list-value : (a table : List ℕ) (n : ℕ) (marks list : List ℕ) {k : ℕ} → accepted (k ∷ []) ≡ listAnswer a table n marks list
+    → k < wordRange
 unfolding listAnswer
 list-value a table n marks list {k} h =
     let v = accepted-values (listFault a table n (length marks) (length list)) (length (matchesOf table n marks) ∷ []) (k ∷ []) (sym h) in

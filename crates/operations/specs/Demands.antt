@@ -65,7 +65,7 @@ pub record Demand1 : Type 0 where
 -- closure without automata."
 
 -- the three calls, one after the other: what is lent, and what each accepted call answers
-pub record Calls : Type 0 where
+pub record ThreeCalls : Type 0 where
   pub alphabet : List ℕ
   pub rule : List ℕ
   pub tableSlice : List ℕ
@@ -79,21 +79,21 @@ pub record Calls : Type 0 where
   pub hits : ℕ
 
 -- the table that Compile wrote, the marks that Run left, the numbers that List wrote
-abbrev pub tableOf : Calls → List ℕ
+abbrev pub tableOf : ThreeCalls → List ℕ
 tableOf c = take (c .words) (compileExit (c .alphabet) (c .rule) (c .tableSlice))
 
-abbrev pub marksOf : Calls → List ℕ
+abbrev pub marksOf : ThreeCalls → List ℕ
 marksOf c = runExit (c .alphabet) (tableOf c) (c .chapter) (c .marksSlice)
 
-abbrev pub namesOf : Calls → List ℕ
+abbrev pub namesOf : ThreeCalls → List ℕ
 namesOf c = take (c .hits) (listExit (c .alphabet) (tableOf c) (c .elements) (marksOf c) (c .listSlice))
 
-pub record AllAccepted (c : Calls) : Type 0 where
+pub record AllAccepted (c : ThreeCalls) : Type 0 where
   pub compiles : compileAnswer (c .alphabet) (c .rule) (c .tableSlice) ≡ accepted (c .words ∷ [])
   pub runs : runAnswer (c .alphabet) (tableOf c) (c .chapter) (c .marksSlice) ≡ accepted (c .elements ∷ c .cells ∷ [])
   pub lists : listAnswer (c .alphabet) (tableOf c) (c .elements) (marksOf c) (c .listSlice) ≡ accepted (c .hits ∷ [])
 
-pub record Named (c : Calls) : Type 0 where
+pub record Named (c : ThreeCalls) : Type 0 where
   -- "exactly the numbered Thompson tree automaton of the rules"
   pub automaton : tableOf c ≡ compiledTable (c .alphabet) (c .rule)
   -- the rule is the words of exactly one expression, which is the one that they are read as
@@ -107,7 +107,7 @@ pub record Named (c : Calls) : Type 0 where
   pub names : (i : ℕ) (l : i < length (c .chapter)) → List·Memᴰ i (namesOf c) ↔ Member (expression .the) (subtrees i l .the)
 
 abbrev pub Demand2 : Type 0
-Demand2 = (c : Calls) → AllAccepted c → Named c
+Demand2 = (c : ThreeCalls) → AllAccepted c → Named c
 
 -- ---- Demand 3 (Demand3): "Take any accepted Run and any list of Exchange calls after it, accepted and refused, at whatever
 -- elements and with whatever replacements."

@@ -1,4 +1,4 @@
--- Laws of the loop over the replacement's root and the nodes behind it: one node, and the loop's invariant.
+-- Laws of one node in the loop over the replacement's root and the nodes behind it.
 use mathlib.Core.Path.{_≡_, refl, ap, ap₂, _∙_, sym, subst}
 use mathlib.Core.Bool.{Bool, true, false, not, cond}
 use mathlib.Core.List.{List, _++_}

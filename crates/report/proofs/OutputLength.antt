@@ -2,48 +2,31 @@
 use mathlib.Core.Path.{_≡_, refl}
 use mathlib.Core.Bool.{Bool, true, false, cond}
 use mathlib.Core.List.{List, [], _∷_, _++_}
-use Prim.Native.Nat.{ℕ, zero, suc, _+_, _-_, _*_, _/_, _^_, _<_, _≤_}
+use Prim.Native.Nat.{ℕ, _+_, _-_, _*_, _<_, _≤_}
 use native.Mathlib.Omega.{arith}
-use native.Mathlib.Decide.{decLe}
-use native.Mathlib.Nat.{pow-suc}
 use lib.ListN.{length, getD, length-append}
 use lib.Dec.{eqb}
-use borrow.Author.Tests.{ltb-false, eqb-true}
+use borrow.Author.Tests.{eqb-true}
 use Rattle.words.specs.Limits.{statesMost}
 use Rattle.words.specs.Chapter.{symbolOf}
 use Rattle.words.specs.Postfix.{startOf}
 use Rattle.words.specs.Lists.{AllBelow}
-use Rattle.words.proofs.LimitLaws.{not-outside}
-use Rattle.words.proofs.RefusalLaws.{none-applies, refusal-most}
-use Rattle.automaton.specs.StateSet.{StateSet, contains}
+use Rattle.words.proofs.LimitLaws.{Within, not-outside}
+use Rattle.words.proofs.RefusalLaws.{none-applies, part-passes, refusal-most}
 use Rattle.automaton.specs.Numbering.{compiled}
-use Rattle.operations.specs.Compile.{compiledTable, tooManyStates}
+use Rattle.operations.specs.Compile.{compiledTable, ruleRefusals}
 use Rattle.operations.specs.Marks.{nodeSets}
-use Rattle.operations.specs.Listing.{matchesIn}
-use Rattle.operations.proofs.MatchLaws.{matches-few}
+use Rattle.operations.proofs.AcceptedLaws.{RuleAccepted, rule-accepted}
+use Rattle.operations.proofs.MatchLaws.{matches-few, matches-below}
 use Rattle.operations.proofs.MarksLaws.{length-nodeSets}
-use Rattle.encoding.specs.Decimal.{decimal}
-use Rattle.encoding.proofs.DecimalLaws.{decimal-one, decimal-several}
+use Rattle.encoding.proofs.DecimalLaws.{decimal-most}
 use Rattle.lines.specs.Line.{refusedLine, headLine, hitLine, hitLines}
 use Rattle.report.specs.Stages.{bufferLength}
 use Rattle.report.specs.Output.{chapterMost, wrongChapter, marklistRefusals, marklistFault, hitsOf, marklistOutput, outputOf}
 
--- ---- how many digits a number has
-
-pub decimal-most : (k n : ℕ) → n < 10 ^ suc k → length (decimal n) ≤ suc k
-decimal-most zero n h = rw (decimal-one n h) (omega arith)
-decimal-most (suc k) n h = go (decLe 10 n) (decimal-most k (n / 10))
-  where
-    go : Dec (10 ≤ n) → (n / 10 < 10 ^ suc k → length (decimal (n / 10)) ≤ suc k) → length (decimal n) ≤ suc (suc k)
-    go (yes l) ih =
-        let p : 10 ^ suc (suc k) ≡ 10 ^ suc k * 10 = pow-suc 10 (suc k) in
-        let i = ih (omega arith) in
-        rw (decimal-several n l, length-append) (omega arith)
-    go (no l) ih = rw (decimal-one n (omega arith)) (omega arith)
-
 -- ---- how long a line is
 
-pub refused-short : (n : ℕ) → n < 100 → length (refusedLine n) ≤ 11
+refused-short : (n : ℕ) → n < 100 → length (refusedLine n) ≤ 11
 unfolding refusedLine
 refused-short n h = let d = decimal-most 1 n h in simp length-append (omega arith)
 
@@ -72,18 +55,6 @@ hits-short a ch (i ∷ is) h =
     let y = hits-short a ch is (h .1) in
     simp length-append (omega arith)
 
--- ---- the hits are nodes, each named once
-
-matches-below : (final : ℕ) (rs : List StateSet) (i n : ℕ) → i + length rs ≤ n → AllBelow n (matchesIn final i rs)
-unfolding matchesIn
-matches-below final [] i n h = tt
-matches-below final (r ∷ rs) i n h = go (contains r final) (matches-below final rs (suc i) n (omega arith))
-  where
-    go : (b : Bool) → AllBelow n (matchesIn final (suc i) rs)
-        → AllBelow n (cond b (i ∷ matchesIn final (suc i) rs) (matchesIn final (suc i) rs))
-    go true k = (omega arith, k)
-    go false k = k
-
 -- ---- the whole output
 
 hits-few : (a e ch : List ℕ) → length (hitsOf a e ch) ≤ length ch
@@ -98,15 +69,21 @@ hits-below a e ch h =
     let n = length-nodeSets a (compiledTable a e) ch in
     matches-below (compiled a e .final) (nodeSets a (compiledTable a e) ch) 0 chapterMost (omega arith)
 
--- an accepted chapter has at most 256 elements
-pub accepted-few : (a e ch : List ℕ) → marklistFault a e ch ≡ 0 → length ch ≤ chapterMost
-unfolding wrongChapter
-accepted-few a e ch f =
-    not-outside chapterMost (length ch) (none-applies (marklistRefusals a e ch) refl f 9) .few
+-- what is known where the program refuses nothing
+record MarklistAccepted (a e ch : List ℕ) : Type 0 where
+  -- 1 to 6
+  rule : RuleAccepted a e
+  -- 9
+  counted : Within chapterMost (length ch)
 
-accepted-states : (a e ch : List ℕ) → marklistFault a e ch ≡ 0 → compiled a e .states ≤ statesMost
-unfolding tooManyStates
-accepted-states a e ch f = ltb-false statesMost (compiled a e .states) (none-applies (marklistRefusals a e ch) refl f 6)
+marklist-accepted : (a e ch : List ℕ) → marklistFault a e ch ≡ 0 → MarklistAccepted a e ch
+unfolding wrongChapter
+marklist-accepted a e ch f =
+    let rs = marklistRefusals a e ch in
+    record {
+      rule = rule-accepted a e (part-passes rs refl f (ruleRefusals a e) refl);
+      counted = not-outside chapterMost (length ch) (none-applies rs refl f 9);
+    }
 
 marklist-short : (a e ch : List ℕ) → length (marklistOutput a e ch) ≤ bufferLength
 unfolding marklistOutput
@@ -119,9 +96,10 @@ marklist-short a e ch = go (eqb (marklistFault a e ch) 0) refl
         ≤ bufferLength
     go true q =
         let f = eqb-true (marklistFault a e ch) 0 q in
-        let few = accepted-few a e ch f in
+        let g = marklist-accepted a e ch f in
+        let few = g .counted .few in
         let n = hits-few a e ch in
-        let x = head-short (length ch) (compiled a e .states) (length (hitsOf a e ch)) few (accepted-states a e ch f) (omega arith) in
+        let x = head-short (length ch) (compiled a e .states) (length (hitsOf a e ch)) few (g .rule .states) (omega arith) in
         let y = hits-short a ch (hitsOf a e ch) (hits-below a e ch few) in
         simp length-append (omega arith)
     go false q =

@@ -14,7 +14,7 @@ use Rattle.words.specs.Answer.{refused, accepted}
 use Rattle.words.proofs.TestLaws.{false-or}
 use Rattle.words.proofs.ListLaws.{take-over}
 use Rattle.words.proofs.LimitLaws.{over-outside}
-use Rattle.words.proofs.RefusalLaws.{Found, none, here, next, found-refusal, refusal-found, refuses, passed, none-behind, behind}
+use Rattle.words.proofs.RefusalLaws.{Found, none, here, next, found-refusal, refusal-found, refuses, passes, none-behind, behindNumber}
 use Rattle.words.proofs.AnswerLaws.{refused-number, accepted-values}
 use Rattle.automaton.specs.Transition.{Automaton, automatonOf}
 use Rattle.automaton.specs.Numbering.{compiled}
@@ -51,7 +51,9 @@ module _ (a e : List ℕ) where
       go (suc n) h =
           sym (found-refusal (compileRefusals a e tableMost) (refuses (ruleRefusals a e) _ refl (λ z. omega arith)))
       go zero h =
-          sym (found-refusal (compileRefusals a e tableMost) (passed (ruleRefusals a e) refl h (next (table-enough h) none))) ∙ sym h
+          sym
+          (found-refusal (compileRefusals a e tableMost) (passes (ruleRefusals a e) refl (sym h) refl (next (table-enough h) none)))
+          ∙ sym h
 
   -- a refused Compile: its number is printed
   pub compile-refused : (ch slice : List ℕ) (n : ℕ) → length slice ≡ tableMost → refused n ≡ compileAnswer a e slice
@@ -79,10 +81,11 @@ module _ (a e : List ℕ) where
     known = compile-result a e slice k (sym h)
 
     -- the refusals that are left
-    pub left-fault : marklistFault a e ch ≡ refusal (chapterRefusals a ch)
+    left-fault : marklistFault a e ch ≡ refusal (chapterRefusals a ch)
     left-fault =
         sym
-        (found-refusal (marklistRefusals a e ch) (passed (ruleRefusals a e) refl rule-none (refusal-found (chapterRefusals a ch) refl)))
+        (found-refusal (marklistRefusals a e ch)
+        (passes (ruleRefusals a e) refl (sym rule-none) refl (refusal-found (chapterRefusals a ch) refl)))
 
     -- "Over 256 elements it says 9"
     pub chapter-over : chapterMost < length ch → marklistOutput a e ch ≡ refusedLine 9
@@ -114,15 +117,16 @@ module _ (a e : List ℕ) where
           let T = compiledTable a e in
           sym
           (found-refusal asked
-          (passed (tableRefusals a T) refl (accepted-table a T (record { alphabet = rule .alphabet; automaton = known .checked }))
+          (passes (tableRefusals a T) refl
+          (sym (accepted-table a T (record { alphabet = rule .alphabet; automaton = known .checked }))) refl
           (go (refusal-found (chapterRefusals a ch) left-fault))))
         where
           asked : Refusals
           asked = runRefusals a (compiledTable a e) ch marksLength
 
-          go : {f : ℕ} → Found (chapterRefusals a ch) f → Found (behind 8 asked) f
+          go : {f : ℕ} → Found (chapterRefusals a ch) f → Found (behindNumber 8 asked) f
           go (here b) = here (same-count ∙ b)
-          go (next b r) = next (same-count ∙ b) (none-behind r (behind 11 asked) (false-or _ false marks-enough refl))
+          go (next b r) = next (same-count ∙ b) (none-behind r (behindNumber 11 asked) (false-or _ false marks-enough refl))
 
       -- a refused Run: its number is printed
       pub run-refusal : (marks : List ℕ) (n : ℕ) → length marks ≡ marksLength → refused n ≡ runAnswer a (compiledTable a e) ch marks

@@ -3,12 +3,13 @@ ghost use mathlib.Core.Path.{_≡_};
 ghost use Prim.Native.Nat.{_^_, _<_};
 ghost use Rattle.words.specs.Word.{countRange};
 ghost use Rattle.automaton.specs.StateSet.{sizeFor, contains as StateSet·contains, insert as StateSet·insert};
+use words::limits::STATES_MOST;
 
 // The states of one word of a set.
 const WORD_BITS: usize = 32;
 
 // The most words of a set.
-pub const SET_MOST: usize = 32;
+pub const SET_MOST: usize = STATES_MOST / WORD_BITS;
 
 // The word with bit b alone, for each b.
 const MASKS: [u32; 32] = [

@@ -12,6 +12,7 @@ ghost use Rattle.sets.specs.Joined.{joined};
 ghost use Rattle.sets.specs.Size.{marksMost};
 use super::state::SET_MOST;
 use slices::moves::copy_words;
+use words::word::WORD_RANGE;
 
 // Puts the states of another set into a set.
 pub fn join(set: &mut [u32], other: &[u32])
@@ -68,9 +69,6 @@ pub fn same_words(left: &[u32], right: &[u32]) -> bool
     }
     true
 }
-
-// A word of 32 bits is below this.
-const WORD_RANGE: u64 = 4294967296;
 
 // The ones of two words.
 fn count_pair(low: u32, high: u32) -> usize

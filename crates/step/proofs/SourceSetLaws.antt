@@ -1,5 +1,5 @@
 -- The part states behind a symbol transition, against the children's state sets from left to right.
-use mathlib.Core.Path.{_≡_, refl, ap, ap₂, _∙_, sym}
+use mathlib.Core.Path.{_≡_, ap, ap₂, _∙_, sym}
 use mathlib.Core.Bool.{Bool, true, false, cond, _&&_}
 use mathlib.Core.List.{List, [], _∷_}
 use Prim.Native.Nat.{ℕ, _+_, _-_, _*_, _<_, _≤_}
@@ -7,6 +7,7 @@ use native.Mathlib.Omega.{arith}
 use native.Mathlib.Decide.{decLt}
 use lib.ListN.{length, getD, take, drop, drop-of-length-le}
 use Rattle.words.specs.Word.{sourceKind, hasKind, stateBelow}
+use Rattle.words.proofs.ListLaws.{length-none}
 use Rattle.words.proofs.TestLaws.{Tested, holds, fails, tested}
 use Rattle.words.proofs.ScanLaws.{drop-step}
 use Rattle.automaton.specs.Transition.{sourcesAt}
@@ -62,12 +63,8 @@ module _ {table : List ℕ} {at size : ℕ} {marks children : List ℕ} {k : ℕ
   sources-held-end h =
       let few = s .few in
       sym (s .rest
-      ∙ ap₂ allContained (none (sourcesAt (drop (at + k) table)) (omega (arith, s .left)))
+      ∙ ap₂ allContained (length-none (sourcesAt (drop (at + k) table)) (omega (arith, s .left)))
       (ap (childSets size marks) (drop-of-length-le children h)))
-    where
-      none : (l : List ℕ) → length l ≡ 0 → l ≡ []
-      none [] e = refl
-      none (x ∷ l) e = absurd (omega arith)
 
   module _ (h : k < length children) where
     some : 0 < length (sourcesAt (drop (at + k) table))

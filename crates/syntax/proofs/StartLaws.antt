@@ -5,7 +5,7 @@ use mathlib.Core.List.{List}
 use Prim.Native.Nat.{ℕ, zero, suc, _+_, _-_, _<_, _≤_}
 use native.Mathlib.Omega.{arith}
 use lib.ListN.{length, getD, List·getD-eq-default}
-use Rattle.words.specs.Word.{kindOf, kindAt, lowByte}
+use Rattle.words.specs.Word.{kindOf, kindAt, lowByte, symbolRange}
 use Rattle.words.specs.Alphabet.{rankOf}
 use Rattle.words.specs.Postfix.{arity}
 use Rattle.words.specs.Shape.{startFromBy, startOfBy}
@@ -15,9 +15,11 @@ use Rattle.words.proofs.PostfixLaws.{startFrom-none, startFrom-more, start-part
 -- ---- arities
 
 -- a rank is a byte
-pub arity-byte : (a : List ℕ) (w r : ℕ) → r ≡ arity a w → r ≤ 255
+pub arity-byte : (a : List ℕ) (w r : ℕ) → r ≡ arity a w → r < symbolRange
 unfolding arity rankOf
-arity-byte a w r e = rw e (arityAt-most 255 (rankOf a (lowByte w)) (kindOf w) (omega arith) (omega arith))
+arity-byte a w r e =
+    let l = arityAt-most (symbolRange - 1) (rankOf a (lowByte w)) (kindOf w) (omega arith) (omega arith) in
+    rw e (omega arith)
 
 -- a missing word takes no children
 pub arity-missing : (a : List ℕ) → arity a 0 ≡ 0
@@ -27,7 +29,7 @@ arity-missing a = refl
 -- ---- where subtrees begin
 
 -- where there are not more words than trees asked for, the words go to their beginning
-pub startFrom-short : (arity : ℕ → ℕ) (ws : List ℕ) (j n : ℕ) → j ≤ n → startFromBy arity ws j n ≡ 0
+startFrom-short : (arity : ℕ → ℕ) (ws : List ℕ) (j n : ℕ) → j ≤ n → startFromBy arity ws j n ≡ 0
 unfolding startFromBy
 startFrom-short arity ws zero n h = refl
 startFrom-short arity ws (suc j) zero h = absurd (omega arith)

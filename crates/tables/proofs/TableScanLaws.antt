@@ -8,10 +8,10 @@ use lib.ListN.{length, getD, drop}
 use lib.Dec.{leb, eqb}
 use borrow.Author.Tests.{le-leb, leb-true}
 use Rattle.words.specs.Limits.{outside, tableMost}
-use Rattle.words.specs.Word.{countAbove}
 use Rattle.words.proofs.ScanLaws.{drop-step, drop-end}
 use Rattle.words.proofs.LimitLaws.{Within, is-within}
 use Rattle.words.proofs.TestLaws.{Tested, holds, fails, tested}
+use Rattle.automaton.specs.Transition.{automatonOf}
 use Rattle.automaton.specs.Table.{isTable, isHead, isTableWord, sourcesLeft, areTransitions}
 use Rattle.tables.proofs.CheckLaws.{Next}
 
@@ -70,8 +70,9 @@ module _ (a : List ℕ) where
   table-no-head [] g e = refl
   table-no-head (x ∷ ws) g e = sym (rw (le-leb (length (x ∷ ws)) tableMost (g .few), e))
 
-  pub table-value : (table : List ℕ) → Within tableMost (length table) → isHead (getD table 0 0) ≡ true → (r : Bool)
-      → r ≡ areTransitions a (countAbove (getD table 0 0)) 0 (drop 1 table) → r ≡ isTable a table
-  unfolding isTable
-  table-value [] g e r h = absurd (omega (arith, g .some))
-  table-value (x ∷ ws) g e r h = h ∙ sym (rw (le-leb (length (x ∷ ws)) tableMost (g .few), e))
+  pub table-value : (table : List ℕ) → Within tableMost (length table) → isHead (getD table 0 0) ≡ true → (states : ℕ)
+      → states ≡ automatonOf table .states → (r : Bool) → r ≡ areTransitions a states 0 (drop 1 table) → r ≡ isTable a table
+  unfolding isTable automatonOf
+  table-value [] g e n q r h = absurd (omega (arith, g .some))
+  table-value (x ∷ ws) g e n q r h =
+      h ∙ ap (λ (k : ℕ). areTransitions a k 0 ws) q ∙ sym (rw (le-leb (length (x ∷ ws)) tableMost (g .few), e))

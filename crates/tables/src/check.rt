@@ -4,6 +4,7 @@ ghost use mathlib.Core.Path.{_≡_};
 ghost use Prim.Native.Nat.{_+_};
 ghost use lib.ListN.{drop};
 ghost use Rattle.automaton.specs.Table.{isHead, isTableWord, sourcesLeft, areTransitions, isTable};
+use super::head::state_count;
 use alphabet::rank;
 use words::limits::STATES_MOST;
 use words::limits::TABLE_MOST;
@@ -93,9 +94,8 @@ pub fn is_table(alphabet: &[u32], table: &[u32]) -> bool
     if is_outside(TABLE_MOST, table.len()) {
         return false;
     }
-    let head = table[0];
-    if !is_head(head) {
+    if !is_head(table[0]) {
         return false;
     }
-    are_transitions(alphabet, (head / STATE_RANGE % COUNT_RANGE) as usize, table)
+    are_transitions(alphabet, state_count(table), table)
 }

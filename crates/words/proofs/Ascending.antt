@@ -1,10 +1,11 @@
 -- Ascending lists of numbers: each number is greater than the one before it, and all lie in a range.
-use Prim.Native.Nat.{ℕ, suc, _+_, _<_, _≤_}
+use Prim.Native.Nat.{ℕ, zero, suc, _+_, _<_, _≤_}
 use mathlib.Core.Path.{_≡_, refl}
 use mathlib.Core.Bool.{Bool, true, false, cond}
 use mathlib.Core.List.{List, [], _∷_, _++_}
 use native.Mathlib.Omega.{arith}
 use native.Mathlib.Nat.{le-trans}
+use lib.ListN.{length, getD}
 use Rattle.words.specs.Lists.{count}
 
 -- from lo on and below hi
@@ -15,6 +16,12 @@ pub data Ascending : ℕ → ℕ → List ℕ → Type 0 where
 pub ascending-le : {lo hi : ℕ} {xs : List ℕ} → Ascending lo hi xs → lo ≤ hi
 ascending-le (end h) = h
 ascending-le (next h a) = omega (arith, ascending-le a)
+
+-- each member lies between the bounds
+pub ascending-at : {lo hi : ℕ} {cs : List ℕ} (k : ℕ) → k < length cs → Ascending lo hi cs → (lo ≤ getD cs k 0) × (getD cs k 0 < hi)
+ascending-at k h (end l) = absurd (omega arith)
+ascending-at zero h (next {x = x} {xs = xs} l s) = (l, ascending-le s)
+ascending-at (suc k) h (next {x = x} {xs = xs} l s) = let p = ascending-at k (omega arith) s in (omega (arith, p .0), p .1)
 
 pub ascending-from : {lo lo′ hi : ℕ} {xs : List ℕ} → lo′ ≤ lo → Ascending lo hi xs → Ascending lo′ hi xs
 ascending-from l (end h) = end (le-trans l h)

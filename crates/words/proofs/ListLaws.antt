@@ -10,6 +10,15 @@ use lib.ListN.{length, getD, take, drop, length-append, length-drop, length-reve
 use lib.Seq.{sets, sets-eq, take-at, drop-at}
 use Rattle.words.specs.Lists.{all, count, listFrom, writtenOver}
 
+pub length-none : {A : Type 0} (l : List A) → length l ≡ 0 → l ≡ []
+length-none [] e = refl
+length-none (x ∷ l) e = absurd (omega arith)
+
+pub length-take-most : (l : List ℕ) (n : ℕ) → length (take n l) ≤ length l
+length-take-most l zero = omega arith
+length-take-most [] (suc n) = omega arith
+length-take-most (x ∷ l) (suc n) = omega (arith, length-take-most l n)
+
 -- ---- map
 
 module _ {A B : Type 0} (f : A → B) where

@@ -6,7 +6,7 @@ use Prim.Native.Nat.{ℕ, zero, suc, _+_, _-_, _<_, _≤_}
 use native.Mathlib.Omega.{arith}
 use native.Mathlib.Numerals.{add-one}
 use native.Mathlib.Nat.{zero-add, suc-add}
-use lib.ListN.{length, getD, take, drop, length-append, take-append-drop}
+use lib.ListN.{length, getD, take, drop, length-append, length-drop, take-append-drop}
 use lib.Seq.{slice, take-suc, drop-append-le, length-take-le, slice-empty, take-take}
 use lib.Dec.{leb, eqb}
 use borrow.Author.Tests.{le-leb, leb-true, eq-eqb, eqb-true}
@@ -183,3 +183,10 @@ length-splice arity ch i x hi =
     let le = start-le arity ch i in
     length-append (take (startOfBy arity ch i) ch) (x ++ drop (i + 1) ch)
     ∙ ap₂ (λ (j k : ℕ). j + k) (length-take-le (startOfBy arity ch i) ch (omega arith)) (length-append x (drop (i + 1) ch))
+
+-- the same by counts: the words before the subtree, the new ones, and those behind
+pub splice-count : (arity : ℕ → ℕ) (ch : List ℕ) (i s : ℕ) (x : List ℕ) → i < length ch → s ≡ startOfBy arity ch i
+    → s + length x + (length ch - i - 1) ≡ length (spliceBy arity ch i x)
+splice-count arity ch i s x h q =
+    let n = length-drop (i + 1) ch in
+    ap (λ (k : ℕ). k + length x + (length ch - i - 1)) q ∙ omega (arith, length-splice arity ch i x h)

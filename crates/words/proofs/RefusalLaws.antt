@@ -2,7 +2,7 @@
 -- `Found` is the evidence; the laws of `First` and of `NoneHolds`, of which the claims speak, follow from it. `NoneHolds` is passed
 -- on.
 use mathlib.Core.Path.{_≡_, refl, _∙_, sym, subst}
-use mathlib.Core.Bool.{Bool, true, false, not, cond, _&&_, _||_}
+use mathlib.Core.Bool.{Bool, true, false, not, cond, _&&_}
 use mathlib.Core.List.{[], _∷_, _++_}
 use Prim.Native.Nat.{ℕ, zero, suc, _<_, _≤_}
 use native.Mathlib.Omega.{arith}
@@ -125,9 +125,6 @@ passes rs {ks} {g = g} p e h r = go rs (refusal-none rs p (sym e ∙ h))
     go [] n = r
     go (q ∷ rs) n = next (first-fails q rs n) (go rs (rest-fails q rs n))
 
-pub passed : (rs : Refusals) {ks : Refusals} {g : ℕ} → positive rs ≡ true → refusal rs ≡ 0 → Found ks g → Found (rs ++ ks) g
-passed rs p z r = passes rs p (sym z) refl r
-
 -- conditions that fail make no difference behind it
 pub none-behind : {rs : Refusals} {f : ℕ} → Found rs f → (ks : Refusals) → NoneHolds ks → Found (rs ++ ks) f
 none-behind none ks h = none-found ks h
@@ -137,9 +134,9 @@ none-behind (next e r) ks h = next e (none-behind r ks h)
 -- ---- parts of a list that does not refuse
 
 -- what stands behind number n
-abbrev pub behind : ℕ → Refusals → Refusals
-behind n [] = []
-behind n (r ∷ rs) = let rest = behind n rs in cond (eqb (r .0) n) rs rest
+abbrev pub behindNumber : ℕ → Refusals → Refusals
+behindNumber n [] = []
+behindNumber n (r ∷ rs) = let rest = behindNumber n rs in cond (eqb (r .0) n) rs rest
 
 holds-taken : (k : ℕ) (rs : Refusals) → NoneHolds rs → NoneHolds (take k rs)
 holds-taken zero rs h = refl
@@ -147,11 +144,11 @@ holds-taken (suc k) [] h = refl
 holds-taken (suc k) (r ∷ rs) h =
     false-or (r .1) (someHolds (take k rs)) (first-fails r rs h) (holds-taken k rs (rest-fails r rs h))
 
-holds-behind : (n : ℕ) (rs : Refusals) → NoneHolds rs → NoneHolds (behind n rs)
+holds-behind : (n : ℕ) (rs : Refusals) → NoneHolds rs → NoneHolds (behindNumber n rs)
 holds-behind n [] h = refl
 holds-behind n (r ∷ rs) h = go (eqb (r .0) n) (holds-behind n rs (rest-fails r rs h))
   where
-    go : (b : Bool) → NoneHolds (behind n rs) → NoneHolds (cond b rs (behind n rs))
+    go : (b : Bool) → NoneHolds (behindNumber n rs) → NoneHolds (cond b rs (behindNumber n rs))
     go true i = rest-fails r rs h
     go false i = i
 
@@ -161,9 +158,9 @@ module _ (whole : Refusals) (p : positive whole ≡ true) (h : refusal whole ≡
   pub part-passes : (rs : Refusals) → take (length rs) whole ≡ rs → refusal rs ≡ 0
   part-passes rs e = none-refusal rs (subst NoneHolds e (holds-taken (length rs) whole (refusal-none whole p h)))
 
-  pub part-behind : (n : ℕ) (rs : Refusals) → take (length rs) (behind n whole) ≡ rs → refusal rs ≡ 0
+  pub part-behind : (n : ℕ) (rs : Refusals) → take (length rs) (behindNumber n whole) ≡ rs → refusal rs ≡ 0
   part-behind n rs e =
-      none-refusal rs (subst NoneHolds e (holds-taken (length rs) (behind n whole) (holds-behind n whole (refusal-none whole p h))))
+      none-refusal rs (subst NoneHolds e (holds-taken (length rs) (behindNumber n whole) (holds-behind n whole (refusal-none whole p h))))
 
 -- the first number of the list that applies, or n
 abbrev pub refusalOr : Refusals → ℕ → ℕ

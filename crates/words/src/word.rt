@@ -3,6 +3,9 @@ ghost use mathlib.Core.Path.{_≡_};
 ghost use Rattle.words.specs.Word.{kindOf, fieldRange, spareBitsClear};
 ghost use Rattle.words.specs.Decoded.{kindIn};
 
+// A word of 32 bits is below this.
+pub const WORD_RANGE: u64 = 0x1_0000_0000;
+
 // Bits 31..28 of a word are its kind.
 pub const KIND_UNIT: u32 = 0x1000_0000;
 

@@ -1,4 +1,4 @@
--- `matcher::list` meets its contract: a refused call leaves the list, and an accepted one is that of `list_accepted`.
+-- `matcher::list` meets its contract: a refused call leaves the list, and an accepted one is that of `write_matches`.
 use mathlib.Core.Path.{sym, _∙_}
 use borrow.Author.Needs.{needs}
 use Rattle.matcher.proofs.ListingLaws.{list-refused, list-accepts}
@@ -11,8 +11,8 @@ list-fault-requires c κs = search needs
 returns : tie.Need-returns
 returns c = list-refused _ _ _ _ _ _ (c .before .list-fault .ensures) (c .if1 .taken)
 
-list-accepted-requires : tie.Need-list-accepted-requires
-list-accepted-requires c κs = sym (c .before .before .list-fault .ensures) ∙ c .before .if1 .left
+write-matches-requires : tie.Need-write-matches-requires
+write-matches-requires c κs = sym (c .before .before .list-fault .ensures) ∙ c .before .if1 .left
 
 same-length : tie.Need-same-length
 same-length c = search needs
@@ -20,9 +20,9 @@ same-length c = search needs
 returns-2 : tie.Need-returns-2
 returns-2 c =
     let left = c .before .before .before .before in
-    let done = c .before .before .list-accepted .ensures in
+    let done = c .before .before .write-matches .ensures in
     list-accepts _ _ _ _ _ _ (left .before .list-fault .ensures) (left .if1 .left) _ _ (done .0) (done .1)
 
 pub list-spec : {M : Type 1} → statement M
 list-spec =
-    tie.close (tie.spec list-fault-requires returns list-accepted-requires same-length returns-2)
+    tie.close (tie.spec list-fault-requires returns write-matches-requires same-length returns-2)

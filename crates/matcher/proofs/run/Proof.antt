@@ -1,4 +1,4 @@
--- `matcher::run` meets its contract: a refused call leaves the marks, and an accepted one is that of `run_accepted`.
+-- `matcher::run` meets its contract: a refused call leaves the marks, and an accepted one is that of `mark_chapter`.
 use mathlib.Core.Path.{sym, _∙_}
 use borrow.Author.Needs.{needs}
 use Rattle.matcher.proofs.RunCallLaws.{run-refused, run-accepts}
@@ -11,8 +11,8 @@ run-fault-requires c κs = search needs
 returns : tie.Need-returns
 returns c = run-refused _ _ _ _ _ (c .before .run-fault .ensures) (c .if1 .taken)
 
-run-accepted-requires : tie.Need-run-accepted-requires
-run-accepted-requires c κs = sym (c .before .before .run-fault .ensures) ∙ c .before .if1 .left
+mark-chapter-requires : tie.Need-mark-chapter-requires
+mark-chapter-requires c κs = sym (c .before .before .run-fault .ensures) ∙ c .before .if1 .left
 
 same-length : tie.Need-same-length
 same-length c = search needs
@@ -20,9 +20,9 @@ same-length c = search needs
 returns-2 : tie.Need-returns-2
 returns-2 c =
     let left = c .before .before .before .before in
-    let done = c .before .before .run-accepted .ensures in
+    let done = c .before .before .mark-chapter .ensures in
     run-accepts _ _ _ _ _ (left .before .run-fault .ensures) (left .if1 .left) _ _ (done .0) (done .1)
 
 pub run-spec : {M : Type 1} → statement M
 run-spec =
-    tie.close (tie.spec run-fault-requires returns run-accepted-requires same-length returns-2)
+    tie.close (tie.spec run-fault-requires returns mark-chapter-requires same-length returns-2)

@@ -6,11 +6,11 @@ use lib.ListN.{length}
 use lib.Seq.{length-take-le}
 use borrow.Author.Needs.{needs}
 use Rattle.words.specs.Limits.{expressionMost}
+use Rattle.words.proofs.ListLaws.{length-take-most}
 use Rattle.emitter.proofs.WritingLaws.{words-written-next}
 use Rattle.compiler.specs.Compiling.{wordStatesMost}
 use Rattle.compiler.proofs.KnownConstants.{constants-symbols}
-use Rattle.compiler.proofs.AcceptedRuleLaws.{accepted-alphabet, accepted-expression, states-countable}
-use Rattle.compiler.proofs.AcceptedRuleLaws.{length-take-most, states-few}
+use Rattle.compiler.proofs.AcceptedRuleLaws.{accepted-alphabet, accepted-expression, states-countable, states-few}
 use Rattle.compiler.proofs.TablePartLaws.{word-last, table-written}
 use Rattle.compiler.proofs.table.write_parts.Statement.{statement}
 use Rattle.compiler.proofs.table.write_parts.Tie as tie

@@ -37,7 +37,8 @@ part-mark-next-end c = let n = c .before .before in let l = node-height (start n
 
 mark-next-requires : tie.Need-mark-next-requires
 mark-next-requires c κs =
-    let n = c .before .before .before .before .before .before .before .before .before in node-next (start n .pre) _ (n .symbol-rank .ensures)
+    let n = c .before .before .before .before .before .before .before .before .before in
+    node-next (start n .pre) _ (n .symbol-rank .ensures)
 
 push-node-requires : tie.Need-push-node-requires
 push-node-requires c κs =

@@ -9,10 +9,10 @@ use borrow.Author.Tests.{lt-ltb, le-ltb}
 use Rattle.words.specs.Refusal.{Refusals}
 use Rattle.words.specs.Postfix.{arity}
 use Rattle.words.proofs.RefusalLaws.{none, here, next, found-refusal}
-use Rattle.words.proofs.PostfixLaws.{start-le}
+use Rattle.words.proofs.PostfixLaws.{start-le, splice-count}
 use Rattle.operations.specs.Exchange.{noElement, changeRefusals}
 use Rattle.operations.proofs.AcceptedLaws.{replacement-right}
-use Rattle.refusals.proofs.ReplacementRefusalLaws.{result-length, judged-length}
+use Rattle.refusals.proofs.ReplacementRefusalLaws.{judged-length}
 use Rattle.refusals.proofs.exchange.change_fault.Statement.{statement}
 use Rattle.refusals.proofs.exchange.change_fault.Tie as tie
 
@@ -68,7 +68,7 @@ unfolding noElement
 returns-3 c =
     let c₂ = c .before .before .before in
     let c₁ = c₂ .before .before in
-    let length-is = result-length _ _ _ _ _ (c₁ .if1 .left) (c .before .before .subtree-start .ensures) in
+    let length-is = splice-count _ _ _ _ _ (c₁ .if1 .left) (c .before .before .subtree-start .ensures) in
     found-refusal (asked (c₁ .before .before .before .before .before))
     (next (ap not (lt-ltb _ _ (c₁ .if1 .left)))
     (next (sym (c₂ .before .no-replacement .ensures) ∙ c₂ .if2 .left)
@@ -79,7 +79,7 @@ unfolding noElement
 returns-4 c =
     let c₂ = c .before .before .before in
     let c₁ = c₂ .before .before in
-    let length-is = result-length _ _ _ _ _ (c₁ .if1 .left) (c .before .before .subtree-start .ensures) in
+    let length-is = splice-count _ _ _ _ _ (c₁ .if1 .left) (c .before .before .subtree-start .ensures) in
     found-refusal (asked (c₁ .before .before .before .before .before))
     (next (ap not (lt-ltb _ _ (c₁ .if1 .left)))
     (next (sym (c₂ .before .no-replacement .ensures) ∙ c₂ .if2 .left)

@@ -19,8 +19,8 @@ is-outside-requires c κs = search needs
 returns : tie.Need-returns
 returns c = table-outside _ _ (sym (c .before .is-outside .ensures) ∙ c .if1 .taken)
 
-shared-slice-read-head : tie.Need-shared-slice-read-head
-shared-slice-read-head c = within (c .before) .some
+shared-slice-read-is-head : tie.Need-shared-slice-read-is-head
+shared-slice-read-is-head c = within (c .before) .some
 
 is-head-requires : tie.Need-is-head-requires
 is-head-requires c κs = search needs
@@ -28,17 +28,17 @@ is-head-requires c κs = search needs
 returns-2 : tie.Need-returns-2
 returns-2 c = table-no-head _ _ (within (c .before .before .before)) (sym (c .before .is-head .ensures) ∙ not-true _ (c .if2 .taken))
 
-cast-are-transitions : tie.Need-cast-are-transitions
-cast-are-transitions c = search needs
+state-count-requires : tie.Need-state-count-requires
+state-count-requires c κs = search needs
 
 are-transitions-requires : tie.Need-are-transitions-requires
 are-transitions-requires c κs = search needs
 
 returns-3 : tie.Need-returns-3
 returns-3 c =
-    let head = c .before in
+    let head = c .before .before in
     table-value _ _ (within (head .before .before .before)) (sym (head .before .is-head .ensures) ∙ not-false _ (head .if2 .left)) _
-    (c .are-transitions .ensures)
+    (c .before .state-count .ensures) _ (c .are-transitions .ensures)
 
 pub is-table-spec : {M : Type 1} → statement M
 is-table-spec =
@@ -46,9 +46,9 @@ is-table-spec =
     (tie.spec
     is-outside-requires
     returns
-    shared-slice-read-head
+    shared-slice-read-is-head
     is-head-requires
     returns-2
-    cast-are-transitions
+    state-count-requires
     are-transitions-requires
     returns-3)

@@ -1,8 +1,8 @@
--- `exchanger::replace::move_tail` meets its contract: the two steps leave what the definition of a slice with other words in use says.
+-- `exchanger::tail::move_tail` meets its contract: the two steps leave what the definition of a slice with other words in use says.
 use borrow.Author.Needs.{needs}
 use Rattle.exchanger.proofs.TailLaws.{tail-moved}
-use Rattle.exchanger.proofs.replace.move_tail.Statement.{statement}
-use Rattle.exchanger.proofs.replace.move_tail.Tie as tie
+use Rattle.exchanger.proofs.tail.move_tail.Statement.{statement}
+use Rattle.exchanger.proofs.tail.move_tail.Tie as tie
 
 sub-count : tie.Need-sub-count
 sub-count c = search needs

@@ -1,10 +1,10 @@
--- `matcher::tree::run_accepted` meets its contract: the nodes marked one after the other leave the state sets of the tree.
+-- `matcher::tree::mark_chapter` meets its contract: the nodes marked one after the other leave the state sets of the tree.
 use mathlib.Core.Path.{sym}
 use native.Mathlib.Omega.{arith}
 use borrow.Author.Needs.{needs}
 use Rattle.matcher.proofs.RunCallLaws.{workable, tree-updatable, run-left, run-fits, run-few, run-part, run-cells}
-use Rattle.matcher.proofs.tree.run_accepted.Statement.{statement}
-use Rattle.matcher.proofs.tree.run_accepted.Tie as tie
+use Rattle.matcher.proofs.tree.mark_chapter.Statement.{statement}
+use Rattle.matcher.proofs.tree.mark_chapter.Tie as tie
 
 abbrev start : tie.After-update-marks → tie.Start
 start n = n .before .before .before .before .before .before
@@ -49,8 +49,8 @@ returns c =
       run-left _ _ _ _ (start n .pre) _ _ (n .update-marks .ensures),
     )
 
-pub run-accepted-spec : {M : Type 1} → statement M
-run-accepted-spec =
+pub mark-chapter-spec : {M : Type 1} → statement M
+mark-chapter-spec =
     tie.close
     (tie.spec
     update-marks-requires

@@ -1,4 +1,4 @@
--- `matcher::matches::list_accepted` meets its contract: the loop keeps that the matches among the first i nodes are written.
+-- `matcher::matches::write_matches` meets its contract: the loop keeps that the matches among the first i nodes are written.
 use Prim.Native.Nat.{_+_, _-_, _*_, _≤_}
 use native.Mathlib.Omega.{arith}
 use lib.ListN.{length}
@@ -7,8 +7,8 @@ use Rattle.operations.proofs.AcceptedLaws.{list-accepted}
 use Rattle.operations.proofs.MatchLaws.{matchesOf-few}
 use Rattle.matcher.proofs.AcceptedCallLaws.{list-row}
 use Rattle.matcher.proofs.ListingLaws.{FoundMatches, found-none, found-more, found-end, part-set}
-use Rattle.matcher.proofs.matches.list_accepted.Statement.{statement}
-use Rattle.matcher.proofs.matches.list_accepted.Tie as tie
+use Rattle.matcher.proofs.matches.write_matches.Statement.{statement}
+use Rattle.matcher.proofs.matches.write_matches.Tie as tie
 
 abbrev Inv-loop : tie.InvT-loop
 Inv-loop alphabet table count marks list₀ size last found₀ i₀ list found i = (i ≤ count) × FoundMatches table marks list₀ list found i
@@ -87,8 +87,8 @@ returns c =
     let end = found-end _ _ _ _ _ _ _ (inv .1) (inv .0) (c .loop-test .left) in
     (end .count, end .words)
 
-pub list-accepted-spec : {M : Type 1} → statement M
-list-accepted-spec =
+pub write-matches-spec : {M : Type 1} → statement M
+write-matches-spec =
     tie.close
     (tie.spec
     Inv-loop
