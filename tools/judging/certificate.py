@@ -35,7 +35,7 @@ def with_laws():
     laws = (Path(__file__).parent / 'laws.txt').read_text(encoding='utf-8')
     used = {}
     for module, names in re.findall(r'^use (\S+)\.\{(.*)\}\n', laws, re.MULTILINE):
-        used[module] = names.split(', ')
+        used[module] = used.get(module, []) + names.split(', ')
     for module, names in checker.unfoldable().items():
         used[module] = used.get(module, []) + names
     uses = ''.join(f'use {module}.{{{", ".join(names)}}}\n' for module, names in used.items())

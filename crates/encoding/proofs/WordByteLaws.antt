@@ -13,7 +13,7 @@ use lib.Dec.{ltb}
 use borrow.Author.Tests.{lt-ltb}
 use Rattle.words.proofs.ListLaws.{sets-append, sets-whole, length-listFrom, getD-listFrom}
 use Rattle.words.proofs.TestLaws.{true-and}
-use Rattle.encoding.specs.Words.{areBytes, wordAt, wordsIn}
+use Rattle.encoding.specs.Words.{wordBytes, areBytes, wordAt, wordsIn}
 
 -- ---- words in bytes
 
@@ -51,7 +51,7 @@ sets-take vs l at n h = go (decLe n (length vs))
 
 pub record Keeping (words₀ : List ℕ) (at : ℕ) (bytes : List ℕ) (count : ℕ) (words : List ℕ) (i : ℕ) : Type 0 where
   pub few : i ≤ count
-  pub whole : 4 * count ≤ length bytes
+  pub whole : wordBytes * count ≤ length bytes
   pub fits : at + count ≤ length words₀
   pub long : length words ≡ length words₀
   pub same : words ≡ sets words₀ at (take i (wordsIn bytes))
@@ -61,7 +61,7 @@ module _ (words₀ : List ℕ) (at : ℕ) (bytes : List ℕ) (count : ℕ) where
   keeping-none h e = record { few = omega arith; whole = omega arith; fits = omega arith; long = refl; same = refl }
 
   -- the bytes of the next word are there
-  pub keeping-inside : (words : List ℕ) (i : ℕ) → Keeping words₀ at bytes count words i → i < count → 4 * i + 4 ≤ length bytes
+  pub keeping-inside : (words : List ℕ) (i : ℕ) → Keeping words₀ at bytes count words i → i < count → wordBytes * i + 4 ≤ length bytes
   keeping-inside words i k h = let whole = k .whole in omega arith
 
   pub keeping-more : (words : List ℕ) (i w : ℕ) → Keeping words₀ at bytes count words i → i < count → w ≡ wordAt bytes i
@@ -100,28 +100,28 @@ module _ (words₀ : List ℕ) (at : ℕ) (bytes : List ℕ) (count : ℕ) where
 
 -- ---- the words of bytes behind bytes
 
-module _ (xs ys : List ℕ) (n : ℕ) (whole : length xs ≡ 4 * n) where
+module _ (xs ys : List ℕ) (n : ℕ) (whole : length xs ≡ wordBytes * n) where
   first-word : (i : ℕ) → i < n → wordAt (xs ++ ys) i ≡ wordAt xs i
   unfolding wordAt
   first-word i h =
       rw (
-        List·getD-append xs ys 0 (4 * i) (omega arith),
-        List·getD-append xs ys 0 (4 * i + 1) (omega arith),
-        List·getD-append xs ys 0 (4 * i + 2) (omega arith),
-        List·getD-append xs ys 0 (4 * i + 3) (omega arith),
+        List·getD-append xs ys 0 (wordBytes * i) (omega arith),
+        List·getD-append xs ys 0 (wordBytes * i + 1) (omega arith),
+        List·getD-append xs ys 0 (wordBytes * i + 2) (omega arith),
+        List·getD-append xs ys 0 (wordBytes * i + 3) (omega arith),
       )
 
-  behind : (i j : ℕ) → j ≡ 4 * n + i → getD (xs ++ ys) j 0 ≡ getD ys i 0
+  behind : (i j : ℕ) → j ≡ wordBytes * n + i → getD (xs ++ ys) j 0 ≡ getD ys i 0
   behind i j e = ap (λ (k : ℕ). getD (xs ++ ys) k 0) (e ∙ ap (λ (k : ℕ). k + i) (sym whole)) ∙ getD-append-add xs ys i 0
 
   second-word : (i : ℕ) → wordAt (xs ++ ys) (n + i) ≡ wordAt ys i
   unfolding wordAt
   second-word i =
       rw (
-        behind (4 * i) (4 * (n + i)) (omega arith),
-        behind (4 * i + 1) (4 * (n + i) + 1) (omega arith),
-        behind (4 * i + 2) (4 * (n + i) + 2) (omega arith),
-        behind (4 * i + 3) (4 * (n + i) + 3) (omega arith),
+        behind (wordBytes * i) (wordBytes * (n + i)) (omega arith),
+        behind (wordBytes * i + 1) (wordBytes * (n + i) + 1) (omega arith),
+        behind (wordBytes * i + 2) (wordBytes * (n + i) + 2) (omega arith),
+        behind (wordBytes * i + 3) (wordBytes * (n + i) + 3) (omega arith),
       )
 
   count-first : length (wordsIn xs) ≡ n

@@ -6,15 +6,23 @@ use lib.ListN.{length, getD}
 use lib.Dec.{ltb}
 use Rattle.words.specs.Lists.{all, listFrom}
 
--- bytes are numbers below 256
+-- a byte is a number below 256
+abbrev pub isByte : ℕ → Bool
+isByte b = ltb b 256
+
 abbrev pub areBytes : List ℕ → Bool
-areBytes bytes = all (λ b. ltb b 256) bytes
+areBytes bytes = all isByte bytes
+
+-- the bytes of a word
+abbrev pub wordBytes : ℕ
+wordBytes = 4
 
 -- word i: "four bytes each, low byte first"
 unfoldable pub wordAt : List ℕ → ℕ → ℕ
 wordAt bytes i =
-    getD bytes (4 * i) 0 + 256 * getD bytes (4 * i + 1) 0 + 65536 * getD bytes (4 * i + 2) 0 + 16777216 * getD bytes (4 * i + 3) 0
+    let first = wordBytes * i in
+    getD bytes first 0 + 256 * getD bytes (first + 1) 0 + 65536 * getD bytes (first + 2) 0 + 16777216 * getD bytes (first + 3) 0
 
 -- the whole words of some bytes
 unfoldable pub wordsIn : List ℕ → List ℕ
-wordsIn bytes = listFrom (wordAt bytes) 0 (length bytes / 4)
+wordsIn bytes = listFrom (wordAt bytes) 0 (length bytes / wordBytes)

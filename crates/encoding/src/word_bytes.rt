@@ -4,7 +4,7 @@ ghost use Prim.Native.Nat.{_+_, _*_, _≤_, min};
 ghost use lib.ListN.{length};
 ghost use lib.Seq.{sets};
 ghost use mathlib.Core.Bool.{true};
-ghost use Rattle.encoding.specs.Words.{areBytes, wordAt, wordsIn};
+ghost use Rattle.encoding.specs.Words.{wordBytes, areBytes, wordAt, wordsIn};
 
 // The bytes of a word.
 pub const WORD_BYTES: usize = 4;
@@ -17,7 +17,7 @@ fn word_of(first: u8, second: u8, third: u8, fourth: u8) -> u32
 
 // Word i of the bytes.
 fn word_at(bytes: &[u8], i: usize) -> u32
-    requires { ⌜ 4 * i + 4 ≤ length (now bytes) ⌝ }
+    requires { ⌜ wordBytes * i + wordBytes ≤ length (now bytes) ⌝ }
     ensures { λ r. ⌜ r ≡ wordAt (now (bytes .entry)) i ⌝ }
 {
     let first = WORD_BYTES * i;

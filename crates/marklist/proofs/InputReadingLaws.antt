@@ -5,13 +5,12 @@ use Prim.Native.Nat.{ℕ, _+_, _*_, _-_, _/_, _<_, _≤_, min}
 use native.Mathlib.Omega.{arith}
 use lib.ListN.{length, take, drop, length-append}
 use lib.Seq.{sets, length-sets, length-front, length-take-le}
-use lib.Dec.{ltb}
 use mathlib.Core.Bool.{true}
 use Rattle.words.proofs.TestLaws.{all-append}
-use Rattle.encoding.specs.Words.{areBytes, wordsIn}
+use Rattle.encoding.specs.Words.{isByte, areBytes, wordBytes, wordsIn}
 use Rattle.encoding.proofs.WordByteLaws.{kept-parts}
 use Rattle.report.specs.Stages.{bufferWords}
-use Rattle.marklist.specs.InputReading.{Stored}
+use Rattle.marklist.specs.InputReading.{InputStored}
 
 -- a part of the buffer that was lent and came back is as long as before
 module _ (buffer back : List ℕ) (n : ℕ) (fits : n ≤ length buffer) (long : length back ≡ length (take n buffer)) where
@@ -25,7 +24,7 @@ module _ (buffer back : List ℕ) (n : ℕ) (fits : n ≤ length buffer) (long :
 pub record SoFar (count : ℕ) (words₀ words : List ℕ) (seen : ℕ) : Type 0 where
   pub few : seen ≤ count
   pub long : length words ≡ length words₀
-  pub stored : Stored seen words₀ words
+  pub stored : InputStored seen words₀ words
 
 module _ (count : ℕ) (words₀ : List ℕ) where
   pub so-far-none : SoFar count words₀ words₀ 0
@@ -34,7 +33,7 @@ module _ (count : ℕ) (words₀ : List ℕ) where
 
   -- the next part, of which there are as many bytes as asked for
   pub so-far-more : (words : List ℕ) (seen : ℕ) → SoFar count words₀ words seen → seen < count
-      → (part words′ : List ℕ) (n : ℕ) → n ≡ 4 * min (count - seen) bufferWords → n ≡ length part → words′ ≡ sets words seen (wordsIn part)
+      → (part words′ : List ℕ) (n : ℕ) → n ≡ wordBytes * min (count - seen) bufferWords → n ≡ length part → words′ ≡ sets words seen (wordsIn part)
       → areBytes part ≡ true
       → SoFar count words₀ words′ (seen + n / 4)
   so-far-more words seen s h part words′ n e l q b =
@@ -44,13 +43,13 @@ module _ (count : ℕ) (words₀ : List ℕ) where
         long = ap length q ∙ length-sets words seen (wordsIn part) ∙ s .long;
         stored = record {
           bytes = t .bytes ++ part;
-          small = all-append (λ x. ltb x 256) (t .bytes) part (t .small) b;
+          small = all-append isByte (t .bytes) part (t .small) b;
           whole = length-append (t .bytes) part ∙ (let w = t .whole in omega arith);
           same = q ∙ ap (λ (ws : List ℕ). sets ws seen (wordsIn part)) (t .same) ∙ kept-parts (t .bytes) part seen (t .whole) words₀;
         };
       }
 
-  pub so-far-end : (words : List ℕ) (seen : ℕ) → SoFar count words₀ words seen → count ≤ seen → Stored count words₀ words
+  pub so-far-end : (words : List ℕ) (seen : ℕ) → SoFar count words₀ words seen → count ≤ seen → InputStored count words₀ words
   so-far-end words seen s h =
       let few = s .few in
       let e : seen ≡ count = omega arith in

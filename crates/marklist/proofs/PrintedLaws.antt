@@ -6,9 +6,8 @@ use Prim.Native.Nat.{ℕ, _≤_, min}
 use native.Mathlib.Omega.{arith}
 use lib.ListN.{length, getD, take, drop}
 use lib.Seq.{length-sets, take-all, length-take-le}
-use lib.Dec.{ltb}
 use Rattle.words.proofs.TestLaws.{all-append}
-use Rattle.encoding.specs.Words.{areBytes, wordsIn}
+use Rattle.encoding.specs.Words.{isByte, areBytes, wordsIn}
 use Rattle.encoding.proofs.WordByteLaws.{length-wordsIn, wordsIn-append, kept-words}
 use Rattle.lines.specs.Line.{refusedLine}
 use Rattle.report.specs.Stages.{alphabetKept, ruleKept, chapterKept, bufferLength}
@@ -18,11 +17,11 @@ use Rattle.report.proofs.OutputLength.{output-short}
 use Rattle.report.proofs.KeptLaws.{early-output}
 use Rattle.report.proofs.ReportLaws.{zeros, many}
 use Rattle.report.proofs.ProgramLaws.{program-early, program-complete}
-use Rattle.marklist.specs.InputReading.{Stored, ReadAll, Printed}
+use Rattle.marklist.specs.InputReading.{InputStored, ReadAll, Printed}
 
 -- ---- words that are stored
 
-module _ {count : ℕ} {before after : List ℕ} (s : Stored count before after) where
+module _ {count : ℕ} {before after : List ℕ} (s : InputStored count before after) where
   count-words : length (wordsIn (s .bytes)) ≡ count
   count-words = let l = length-wordsIn (s .bytes) in let w = s .whole in omega arith
 
@@ -47,7 +46,7 @@ three (x ∷ y ∷ z ∷ []) h = refl
 three (x ∷ y ∷ z ∷ w ∷ l) h = absurd (omega arith)
 
 -- three counts fill their slice
-counts-are : {before after : List ℕ} (s : Stored 3 before after) → length before ≡ 3 → after ≡ wordsIn (s .bytes)
+counts-are : {before after : List ℕ} (s : InputStored 3 before after) → length before ≡ 3 → after ≡ wordsIn (s .bytes)
 counts-are {before} {after} s e =
     let l : length after ≡ 3 = ap length (s .same) ∙ length-sets before 0 (wordsIn (s .bytes)) ∙ e in
     let n = count-words s in
@@ -60,15 +59,15 @@ counts-are {before} {after} s e =
 module _ (counts₀ counts alphabet₀ alphabet rule₀ rule chapter₀ chapter : List ℕ)
     (few : length counts₀ ≡ 3) (symbols : length alphabet₀ ≡ alphabetKept) (words : length rule₀ ≡ ruleKept)
     (nodes : length chapter₀ ≡ chapterKept)
-    (c : Stored 3 counts₀ counts) (s : Stored (getD counts 0 0) alphabet₀ alphabet) (t : Stored (getD counts 1 0) rule₀ rule)
-    (u : Stored (getD counts 2 0) chapter₀ chapter) where
+    (c : InputStored 3 counts₀ counts) (s : InputStored (getD counts 0 0) alphabet₀ alphabet) (t : InputStored (getD counts 1 0) rule₀ rule)
+    (u : InputStored (getD counts 2 0) chapter₀ chapter) where
   -- the bytes that were read
   abbrev allBytes : List ℕ
   allBytes = c .bytes ++ (s .bytes ++ (t .bytes ++ u .bytes))
 
   all-bytes : areBytes allBytes ≡ true
   all-bytes =
-      let join = all-append (λ x. ltb x 256) in
+      let join = all-append isByte in
       join (c .bytes) (s .bytes ++ (t .bytes ++ u .bytes)) (c .small)
       (join (s .bytes) (t .bytes ++ u .bytes) (s .small) (join (t .bytes) (u .bytes) (t .small) (u .small)))
 
@@ -92,7 +91,7 @@ module _ (counts₀ counts alphabet₀ alphabet rule₀ rule chapter₀ chapter 
       all-words (count-words s) (count-words t) (count-words u)
       ∙ sym (rw (lent s symbols, lent t words, lent u nodes))
     where
-      lent : {count sliceLength : ℕ} {before after : List ℕ} (s : Stored count before after) → length before ≡ sliceLength
+      lent : {count sliceLength : ℕ} {before after : List ℕ} (s : InputStored count before after) → length before ≡ sliceLength
           → take (min count sliceLength) after ≡ take sliceLength (wordsIn (s .bytes))
       lent {count} {before = before} {after = after} s e =
           ap (λ (n : ℕ). take (min count n) after) (sym e) ∙ lent-words s ∙ ap (λ (n : ℕ). take n (wordsIn (s .bytes))) e

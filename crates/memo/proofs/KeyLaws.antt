@@ -8,9 +8,9 @@ use Rattle.words.specs.Lists.{AllBelow}
 use Rattle.words.specs.Limits.{nodesMost, rankMost}
 use Rattle.words.specs.Word.{symbolRange}
 use Rattle.words.proofs.AllLaws.{each-drop}
-use Rattle.memo.specs.Key.{packed, stepKey, Packable, Keyable, digitRange, lastDigitRange}
+use Rattle.memo.specs.Key.{digitBits, packed, stepKey, Packable, Keyable, digitRange, lastDigitRange}
 
--- four digits of 13 bits
+-- four digits
 packed-few : (cs : List ℕ) → length cs ≤ rankMost → AllBelow nodesMost cs → packed cs < digitRange ^ rankMost
 packed-few [] l h = omega arith
 packed-few (a ∷ []) l h = let x = h .0 in omega arith
@@ -81,7 +81,7 @@ fourDigits a b c d = (((d + 1) * digitRange + (c + 1)) * digitRange + (b + 1)) *
 
 -- the digits of the others are shifted out
 shifted : (a b c d : ℕ) → a < nodesMost → b < nodesMost → c < nodesMost → d < nodesMost → (k : ℕ) → k ≤ rankMost
-    → fourDigits a b c d / 2 ^ (k * 13) ≡ packed (drop k (a ∷ b ∷ c ∷ d ∷ []))
+    → fourDigits a b c d / 2 ^ (k * digitBits) ≡ packed (drop k (a ∷ b ∷ c ∷ d ∷ []))
 shifted a b c d x y z u zero h = omega arith
 shifted a b c d x y z u (suc zero) h = omega arith
 shifted a b c d x y z u (suc (suc zero)) h = omega arith
@@ -90,12 +90,12 @@ shifted a b c d x y z u (suc (suc (suc (suc zero)))) h = omega arith
 shifted a b c d x y z u (suc (suc (suc (suc (suc k))))) h = absurd (omega arith)
 
 pub pack-is : {four : List ℕ} {rank : ℕ} → Packable four rank
-    → fourDigits (getD four 0 0) (getD four 1 0) (getD four 2 0) (getD four 3 0) / 2 ^ ((rankMost - rank) * 13)
+    → fourDigits (getD four 0 0) (getD four 1 0) (getD four 2 0) (getD four 3 0) / 2 ^ ((rankMost - rank) * digitBits)
     ≡ packed (drop (rankMost - rank) four)
 pack-is {four} {rank} g = go four (g .length-is) (g .below)
   where
     go : (l : List ℕ) → length l ≡ rankMost → AllBelow nodesMost l
-        → fourDigits (getD l 0 0) (getD l 1 0) (getD l 2 0) (getD l 3 0) / 2 ^ ((rankMost - rank) * 13)
+        → fourDigits (getD l 0 0) (getD l 1 0) (getD l 2 0) (getD l 3 0) / 2 ^ ((rankMost - rank) * digitBits)
         ≡ packed (drop (rankMost - rank) l)
     go [] e h = absurd (omega arith)
     go (a ∷ []) e h = absurd (omega arith)

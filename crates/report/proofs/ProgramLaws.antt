@@ -8,7 +8,7 @@ use native.Mathlib.Omega.{arith}
 use lib.ListN.{length, take, drop, length-append}
 use lib.Seq.{drop-drop, take-at, drop-at}
 use borrow.Author.Tests.{le-leb, lt-leb}
-use Rattle.encoding.specs.Words.{wordsIn}
+use Rattle.encoding.specs.Words.{wordBytes, wordsIn}
 use Rattle.encoding.proofs.WordByteLaws.{length-wordsIn}
 use Rattle.lines.specs.Line.{refusedLine}
 use Rattle.report.specs.Output.{marklistOutput, outputOf}
@@ -20,7 +20,7 @@ use Rattle.report.proofs.KeptLaws.{kept-output}
 
 module _ (input : List ℕ) where
   -- "input that ends early is number 0": a part of the announced words is missing
-  pub program-early : (j : ℕ) → j ≤ announced input → length input < 4 * j → programOutput input ≡ refusedLine 0
+  pub program-early : (j : ℕ) → j ≤ announced input → length input < wordBytes * j → programOutput input ≡ refusedLine 0
   unfolding programOutput outputOf complete
   program-early j h l =
       let e = length-wordsIn input in

@@ -8,6 +8,7 @@ use Rattle.words.specs.Answer.{accepted}
 use Rattle.operations.specs.Compile.{compiledTable, compileAnswer}
 use Rattle.operations.specs.Run.{runAnswer, runExit}
 use Rattle.sets.specs.Size.{setMost}
+use Rattle.encoding.specs.Words.{wordBytes}
 use Rattle.report.specs.Output.{chapterMost}
 
 -- how many words are kept of what is read: one more than the most that is accepted
@@ -25,7 +26,7 @@ abbrev pub bufferLength : ℕ
 bufferLength = 4096
 
 abbrev pub bufferWords : ℕ
-bufferWords = bufferLength / 4
+bufferWords = bufferLength / wordBytes
 
 -- the words of the marks slice
 abbrev pub marksLength : ℕ

@@ -1,6 +1,7 @@
 // How the words of the input are read: part after part, and no more of them than are kept.
 ghost use mathlib.Core.Path.{_≡_};
 ghost use Prim.Native.Nat.{_*_, min};
+ghost use Rattle.encoding.specs.Words.{wordBytes};
 ghost use Rattle.report.specs.Stages.{bufferWords};
 use encoding::word_bytes::WORD_BYTES;
 use encoding::word_bytes::least;
@@ -10,7 +11,7 @@ const BUFFER_WORDS: usize = 1024;
 
 // How many bytes to read next, where `left` words are still to come: whole words, as many as a buffer holds.
 pub fn part_bytes(left: usize) -> usize
-    ensures { λ r. ⌜ r ≡ 4 * min left bufferWords ⌝ }
+    ensures { λ r. ⌜ r ≡ wordBytes * min left bufferWords ⌝ }
 {
     WORD_BYTES * least(left, BUFFER_WORDS)
 }
