@@ -25,7 +25,7 @@ pub fn rank(alphabet: &[u32], symbol: usize) -> usize
     0
 }
 
-// The rank of the symbol that a word names: how many children a node takes.
+// The rank of the symbol in bits 7..0 of a word: how many children a node takes.
 pub fn symbol_rank(alphabet: &[u32], w: u32) -> usize
     ensures { λ r. ⌜ r ≡ rankOf (now (alphabet .entry)) (lowByte w) ⌝ }
 {

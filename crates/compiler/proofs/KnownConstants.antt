@@ -27,7 +27,7 @@ lookup-behind : {lo hi : ℕ} {cs : List ℕ} (n c : ℕ) → c < lo → Ascendi
 lookup-behind n c h (end l) = refl
 lookup-behind n c h (next {x = x} l s) = rw (ne-eqb x c (λ e. omega arith)) (lookup-behind (suc n) c (omega arith) s)
 
--- the member at an index lies in the range
+-- each is found at its own index
 ascending-once : {lo hi : ℕ} {cs : List ℕ} → Ascending lo hi cs → EachOnce cs
 ascending-once (end l) n k h = absurd (omega arith)
 ascending-once (next {x = x} {xs = xs} l s) n zero h =

@@ -21,13 +21,13 @@ pub bytes-are : (l : List ℕ) → ((i : ℕ) → getD l i 0 < 256) → areBytes
 bytes-are [] h = refl
 bytes-are (b ∷ bs) h = true-and (ltb b 256) (areBytes bs) (lt-ltb b 256 (h 0)) (bytes-are bs (λ i. h (suc i)))
 
-pub length-wordsIn : (bytes : List ℕ) → length (wordsIn bytes) ≡ length bytes / 4
+pub length-wordsIn : (bytes : List ℕ) → length (wordsIn bytes) ≡ length bytes / wordBytes
 unfolding wordsIn
-length-wordsIn bytes = length-listFrom (wordAt bytes) (length bytes / 4) 0
+length-wordsIn bytes = length-listFrom (wordAt bytes) (length bytes / wordBytes) 0
 
-getD-wordsIn : (bytes : List ℕ) (i : ℕ) → i < length bytes / 4 → getD (wordsIn bytes) i 0 ≡ wordAt bytes i
+getD-wordsIn : (bytes : List ℕ) (i : ℕ) → i < length bytes / wordBytes → getD (wordsIn bytes) i 0 ≡ wordAt bytes i
 unfolding wordsIn
-getD-wordsIn bytes i h = getD-listFrom (wordAt bytes) 0 (length bytes / 4) 0 i h ∙ ap (wordAt bytes) (zero-add i)
+getD-wordsIn bytes i h = getD-listFrom (wordAt bytes) 0 (length bytes / wordBytes) 0 i h ∙ ap (wordAt bytes) (zero-add i)
 
 -- ---- stores past the end of a list change nothing
 
@@ -57,19 +57,19 @@ pub record Keeping (words₀ : List ℕ) (at : ℕ) (bytes : List ℕ) (count : 
   pub same : words ≡ sets words₀ at (take i (wordsIn bytes))
 
 module _ (words₀ : List ℕ) (at : ℕ) (bytes : List ℕ) (count : ℕ) where
-  pub keeping-none : at < length words₀ → count ≡ min (length bytes / 4) (length words₀ - at) → Keeping words₀ at bytes count words₀ 0
+  pub keeping-none : at < length words₀ → count ≡ min (length bytes / wordBytes) (length words₀ - at) → Keeping words₀ at bytes count words₀ 0
   keeping-none h e = record { few = omega arith; whole = omega arith; fits = omega arith; long = refl; same = refl }
 
   -- the bytes of the next word are there
-  pub keeping-inside : (words : List ℕ) (i : ℕ) → Keeping words₀ at bytes count words i → i < count → wordBytes * i + 4 ≤ length bytes
+  pub keeping-inside : (words : List ℕ) (i : ℕ) → Keeping words₀ at bytes count words i → i < count → wordBytes * i + wordBytes ≤ length bytes
   keeping-inside words i k h = let whole = k .whole in omega arith
 
   pub keeping-more : (words : List ℕ) (i w : ℕ) → Keeping words₀ at bytes count words i → i < count → w ≡ wordAt bytes i
       → Keeping words₀ at bytes count (set words (at + i) w) (i + 1)
   keeping-more words i w k h e =
       let whole = k .whole in
-      let low : i < length bytes / 4 = omega arith in
-      let n : length (wordsIn bytes) ≡ length bytes / 4 = length-wordsIn bytes in
+      let low : i < length bytes / wordBytes = omega arith in
+      let n : length (wordsIn bytes) ≡ length bytes / wordBytes = length-wordsIn bytes in
       let l : length (take i (wordsIn bytes)) ≡ i = length-take-le i (wordsIn bytes) (omega arith) in
       record {
         few = omega arith;
@@ -86,14 +86,14 @@ module _ (words₀ : List ℕ) (at : ℕ) (bytes : List ℕ) (count : ℕ) where
       }
 
   pub keeping-end : (words : List ℕ) (i : ℕ) → Keeping words₀ at bytes count words i → count ≤ i → at < length words₀
-      → count ≡ min (length bytes / 4) (length words₀ - at) → words ≡ sets words₀ at (wordsIn bytes)
+      → count ≡ min (length bytes / wordBytes) (length words₀ - at) → words ≡ sets words₀ at (wordsIn bytes)
   keeping-end words i k h low e =
       let few = k .few in
       let q : i ≡ count = omega arith in
-      let n : length (wordsIn bytes) ≡ length bytes / 4 = length-wordsIn bytes in
+      let n : length (wordsIn bytes) ≡ length bytes / wordBytes = length-wordsIn bytes in
       k .same ∙ rw q (go (decLe (length words₀) (at + count)) n)
     where
-      go : Dec (length words₀ ≤ at + count) → length (wordsIn bytes) ≡ length bytes / 4
+      go : Dec (length words₀ ≤ at + count) → length (wordsIn bytes) ≡ length bytes / wordBytes
           → sets words₀ at (take count (wordsIn bytes)) ≡ sets words₀ at (wordsIn bytes)
       go (yes z) n = sets-take (wordsIn bytes) words₀ at count z
       go (no z) n = ap (sets words₀ at) (take-all count (wordsIn bytes) (omega arith))
@@ -130,7 +130,7 @@ module _ (xs ys : List ℕ) (n : ℕ) (whole : length xs ≡ wordBytes * n) wher
   pub wordsIn-append : wordsIn (xs ++ ys) ≡ wordsIn xs ++ wordsIn ys
   wordsIn-append = ext-getD 0 (wordsIn (xs ++ ys)) (wordsIn xs ++ wordsIn ys) same-length same
     where
-      all-words : length (wordsIn (xs ++ ys)) ≡ n + length ys / 4
+      all-words : length (wordsIn (xs ++ ys)) ≡ n + length ys / wordBytes
       all-words = let e = length-wordsIn (xs ++ ys) in let l = length-append xs ys in omega arith
 
       same-length : length (wordsIn (xs ++ ys)) ≡ length (wordsIn xs ++ wordsIn ys)

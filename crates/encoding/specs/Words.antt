@@ -13,11 +13,11 @@ isByte b = ltb b 256
 abbrev pub areBytes : List ℕ → Bool
 areBytes bytes = all isByte bytes
 
--- the bytes of a word
+-- how many bytes a word has: "four bytes each"
 abbrev pub wordBytes : ℕ
 wordBytes = 4
 
--- word i: "four bytes each, low byte first"
+-- word i: "low byte first"
 unfoldable pub wordAt : List ℕ → ℕ → ℕ
 wordAt bytes i =
     let first = wordBytes * i in

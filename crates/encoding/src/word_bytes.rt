@@ -6,7 +6,7 @@ ghost use lib.Seq.{sets};
 ghost use mathlib.Core.Bool.{true};
 ghost use Rattle.encoding.specs.Words.{wordBytes, areBytes, wordAt, wordsIn};
 
-// The bytes of a word.
+// How many bytes a word has.
 pub const WORD_BYTES: usize = 4;
 
 fn word_of(first: u8, second: u8, third: u8, fourth: u8) -> u32

@@ -33,9 +33,10 @@ module _ (count : ℕ) (words₀ : List ℕ) where
 
   -- the next part, of which there are as many bytes as asked for
   pub so-far-more : (words : List ℕ) (seen : ℕ) → SoFar count words₀ words seen → seen < count
-      → (part words′ : List ℕ) (n : ℕ) → n ≡ wordBytes * min (count - seen) bufferWords → n ≡ length part → words′ ≡ sets words seen (wordsIn part)
+      → (part words′ : List ℕ) (n : ℕ) → n ≡ wordBytes * min (count - seen) bufferWords → n ≡ length part
+      → words′ ≡ sets words seen (wordsIn part)
       → areBytes part ≡ true
-      → SoFar count words₀ words′ (seen + n / 4)
+      → SoFar count words₀ words′ (seen + n / wordBytes)
   so-far-more words seen s h part words′ n e l q b =
       let t = s .stored in
       record {

@@ -8,7 +8,11 @@ use Rattle.words.specs.Lists.{AllBelow}
 use Rattle.words.specs.Limits.{nodesMost, rankMost}
 use Rattle.words.specs.Word.{symbolRange}
 use Rattle.words.proofs.AllLaws.{each-drop}
-use Rattle.memo.specs.Key.{digitBits, packed, stepKey, Packable, Keyable, digitRange, lastDigitRange}
+use Rattle.memo.specs.Key.{packed, stepKey, Packable, Keyable, digitRange, lastDigitRange}
+
+-- a digit has so many bits
+abbrev digitBits : ℕ
+digitBits = 13
 
 -- four digits
 packed-few : (cs : List ℕ) → length cs ≤ rankMost → AllBelow nodesMost cs → packed cs < digitRange ^ rankMost

@@ -11,10 +11,6 @@ use Rattle.words.specs.Lists.{AllBelow}
 abbrev pub digitRange : ℕ
 digitRange = 2 * nodesMost
 
--- so many bits has a digit
-abbrev pub digitBits : ℕ
-digitBits = 13
-
 -- the nodes as the digits of one number, the first one lowest; no digit is 0
 abbrev pub packed : List ℕ → ℕ
 packed [] = 0

@@ -30,14 +30,14 @@ compile-value a e slice {k} h =
     omega (arith, g .count, g .most)
 
 -- the most words of a state set, whatever count a head says
-abbrev pub sizeMost : ℕ
-sizeMost = countRange / 32
+abbrev pub headSizeMost : ℕ
+headSizeMost = countRange / 32
 
 -- the words of all state sets
-pub words-most : (table : List ℕ) (n : ℕ) → n ≤ nodesMost → n * sizeOf table ≤ nodesMost * sizeMost
+pub words-most : (table : List ℕ) (n : ℕ) → n ≤ nodesMost → n * sizeOf table ≤ nodesMost * headSizeMost
 unfolding sizeOf sizeFor automatonOf
 words-most table n h =
-    let few : sizeOf table ≤ sizeMost = omega arith in
+    let few : sizeOf table ≤ headSizeMost = omega arith in
     le-trans (mul-le-mul-right (sizeOf table) h) (mul-le-mul-left nodesMost few)
 
 -- Run: at most 4,096 elements, and at most 32 ones in a word

@@ -1,1 +1,1 @@
-pub mod ReplacementRefusalLaws
+pub mod CountRefusalLaws

@@ -1,6 +1,5 @@
 -- Laws of refusals: the number is that of the first condition that holds, and a call that is not refused has none that does.
--- `Found` is the evidence; the laws of `First` and of `NoneHolds`, of which the claims speak, follow from it. `NoneHolds` is passed
--- on.
+-- `Found` is the evidence; the laws of `First` and of `NoneHolds`, of which the claims speak, follow from it.
 use mathlib.Core.Path.{_≡_, refl, _∙_, sym, subst}
 use mathlib.Core.Bool.{Bool, true, false, not, cond, _&&_}
 use mathlib.Core.List.{[], _∷_, _++_}
@@ -9,8 +8,7 @@ use native.Mathlib.Omega.{arith}
 use lib.ListN.{length, take}
 use lib.Dec.{ltb, leb, eqb}
 use borrow.Author.Tests.{ltb-true, leb-true, ne-eqb}
-use Rattle.words.specs.Refusal.{Refusals, refusal, someHolds, First, here as first-here, later}
-pub use Rattle.words.specs.Refusal.{NoneHolds}
+use Rattle.words.specs.Refusal.{Refusals, refusal, someHolds, NoneHolds, First, here as first-here, later}
 use Rattle.words.proofs.TestLaws.{and-true, or-false, false-or}
 
 -- ---- a number and how it is found
@@ -138,15 +136,15 @@ abbrev pub behindNumber : ℕ → Refusals → Refusals
 behindNumber n [] = []
 behindNumber n (r ∷ rs) = let rest = behindNumber n rs in cond (eqb (r .0) n) rs rest
 
-holds-taken : (k : ℕ) (rs : Refusals) → NoneHolds rs → NoneHolds (take k rs)
-holds-taken zero rs h = refl
-holds-taken (suc k) [] h = refl
-holds-taken (suc k) (r ∷ rs) h =
-    false-or (r .1) (someHolds (take k rs)) (first-fails r rs h) (holds-taken k rs (rest-fails r rs h))
+none-taken : (k : ℕ) (rs : Refusals) → NoneHolds rs → NoneHolds (take k rs)
+none-taken zero rs h = refl
+none-taken (suc k) [] h = refl
+none-taken (suc k) (r ∷ rs) h =
+    false-or (r .1) (someHolds (take k rs)) (first-fails r rs h) (none-taken k rs (rest-fails r rs h))
 
-holds-behind : (n : ℕ) (rs : Refusals) → NoneHolds rs → NoneHolds (behindNumber n rs)
-holds-behind n [] h = refl
-holds-behind n (r ∷ rs) h = go (eqb (r .0) n) (holds-behind n rs (rest-fails r rs h))
+none-behind-number : (n : ℕ) (rs : Refusals) → NoneHolds rs → NoneHolds (behindNumber n rs)
+none-behind-number n [] h = refl
+none-behind-number n (r ∷ rs) h = go (eqb (r .0) n) (none-behind-number n rs (rest-fails r rs h))
   where
     go : (b : Bool) → NoneHolds (behindNumber n rs) → NoneHolds (cond b rs (behindNumber n rs))
     go true i = rest-fails r rs h
@@ -156,11 +154,11 @@ holds-behind n (r ∷ rs) h = go (eqb (r .0) n) (holds-behind n rs (rest-fails r
 -- stand there
 module _ (whole : Refusals) (p : positive whole ≡ true) (h : refusal whole ≡ 0) where
   pub part-passes : (rs : Refusals) → take (length rs) whole ≡ rs → refusal rs ≡ 0
-  part-passes rs e = none-refusal rs (subst NoneHolds e (holds-taken (length rs) whole (refusal-none whole p h)))
+  part-passes rs e = none-refusal rs (subst NoneHolds e (none-taken (length rs) whole (refusal-none whole p h)))
 
   pub part-behind : (n : ℕ) (rs : Refusals) → take (length rs) (behindNumber n whole) ≡ rs → refusal rs ≡ 0
   part-behind n rs e =
-      none-refusal rs (subst NoneHolds e (holds-taken (length rs) (behindNumber n whole) (holds-behind n whole (refusal-none whole p h))))
+      none-refusal rs (subst NoneHolds e (none-taken (length rs) (behindNumber n whole) (none-behind-number n whole (refusal-none whole p h))))
 
 -- the first number of the list that applies, or n
 abbrev pub refusalOr : Refusals → ℕ → ℕ

@@ -20,7 +20,7 @@ isNode a w = isOf nodeKind w && isSymbol a (symbolOf w)
 unfoldable pub notNodes : List ℕ → List ℕ → Bool
 notNodes a ch = not (all (isNode a) ch)
 
--- 10 is judged over the whole slice before 11
+-- 10 is judged over the whole slice before 11. 15 asks for these too, of a replacement (`noReplacement`).
 abbrev pub treeRefusals : List ℕ → List ℕ → Refusals
 treeRefusals a ch = (10, notNodes a ch) ∷ (11, notOneTree a ch) ∷ []
 

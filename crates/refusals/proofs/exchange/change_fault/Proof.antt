@@ -12,7 +12,7 @@ use Rattle.words.proofs.RefusalLaws.{none, here, next, found-refusal}
 use Rattle.words.proofs.PostfixLaws.{start-le, splice-count}
 use Rattle.operations.specs.Exchange.{noElement, changeRefusals}
 use Rattle.operations.proofs.AcceptedLaws.{replacement-right}
-use Rattle.refusals.proofs.ReplacementRefusalLaws.{judged-length}
+use Rattle.refusals.proofs.CountRefusalLaws.{judged-length}
 use Rattle.refusals.proofs.exchange.change_fault.Statement.{statement}
 use Rattle.refusals.proofs.exchange.change_fault.Tie as tie
 

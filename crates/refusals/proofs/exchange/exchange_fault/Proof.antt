@@ -10,7 +10,7 @@ use Rattle.words.proofs.RefusalLaws.{here, next, found-refusal, refusal-found, 
 use Rattle.operations.specs.Run.{tableRefusals, markedRefusals}
 use Rattle.operations.specs.Exchange.{changeRefusals, exchangeRefusals}
 use Rattle.operations.proofs.AcceptedLaws.{used-count-right}
-use Rattle.refusals.proofs.ReplacementRefusalLaws.{used-count}
+use Rattle.refusals.proofs.CountRefusalLaws.{used-count}
 use Rattle.refusals.proofs.exchange.exchange_fault.Statement.{statement}
 use Rattle.refusals.proofs.exchange.exchange_fault.Tie as tie
 
