@@ -1,11 +1,12 @@
-// The alphabet: ranks, constants in symbol order, and refusals 1 and 2.
+// The alphabet: ranks, how many children a word takes by them, constants in symbol order, and refusals 1 and 2.
 ghost use mathlib.Core.Path.{_≡_};
 ghost use lib.ListN.{length, take};
 ghost use lib.Seq.{sets};
 ghost use Rattle.words.specs.Lists.{all};
-ghost use Rattle.words.specs.Word.{lowByte};
+ghost use Rattle.words.specs.Word.{nodeKind, kindOf, lowByte};
 ghost use Rattle.words.specs.Limits.{alphabetMost};
 ghost use Rattle.words.specs.Alphabet.{isEntry, isConstant, rankOf, constantsOf, noAlphabet, alphabetFault};
+ghost use Rattle.words.specs.Postfix.{arity};
 use words::limits::ALPHABET_MOST;
 use words::limits::CONSTANTS_MOST;
 use words::limits::RANK_MOST;
@@ -25,11 +26,34 @@ pub fn rank(alphabet: &[u32], symbol: usize) -> usize
     0
 }
 
-// The rank of the symbol in bits 7..0 of a word: how many children a node takes.
-pub fn symbol_rank(alphabet: &[u32], w: u32) -> usize
+// The rank of the symbol in bits 7..0 of a word.
+fn symbol_rank(alphabet: &[u32], w: u32) -> usize
     ensures { λ r. ⌜ r ≡ rankOf (now (alphabet .entry)) (lowByte w) ⌝ }
 {
     rank(alphabet, (w % SYMBOL_RANGE) as usize)
+}
+
+// How many children a node takes. It decodes no kind: those who read a chapter again and again know that its words are nodes.
+pub fn node_arity(alphabet: &[u32], w: u32) -> usize
+    requires { ⌜ kindOf w ≡ nodeKind ⌝ }
+    ensures { λ r. ⌜ r ≡ arity (now (alphabet .entry)) w ⌝ }
+{
+    symbol_rank(alphabet, w)
+}
+
+// How many children a word of a rule or a chapter takes.
+pub fn arity(alphabet: &[u32], w: u32) -> usize
+    ensures { λ r. ⌜ r ≡ arity (now (alphabet .entry)) w ⌝ }
+{
+    let kind = kind_of(w);
+    match kind {
+        Kind::Symbol => symbol_rank(alphabet, w),
+        Kind::Union => 2,
+        Kind::Product => 2,
+        Kind::Closure => 1,
+        Kind::Node => node_arity(alphabet, w),
+        _ => 0,
+    }
 }
 
 // Whether the alphabet has the symbol and its rank is 0.

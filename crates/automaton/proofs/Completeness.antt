@@ -15,7 +15,7 @@ use Rattle.language.specs.Membership.{Language, Assignment, Substitution, Subst
 use Rattle.language.specs.Membership.{atSymbol, atNone, atMore, Product, Step, Member, Members}
 use Rattle.language.proofs.SubstitutionLaws.{assigned, Under, at-constant, constant-under, product-in}
 use Rattle.automaton.specs.Transition.{Transition}
-use Rattle.automaton.specs.Numbering.{numbered, epsilons, entryEpsilons}
+use Rattle.automaton.specs.Numbering.{fullEntries, epsilons, entryEpsilons}
 use Rattle.automaton.specs.Reached.{Reaches, ReachesAll, onNode, onEpsilon, onNone, onMore}
 use Rattle.automaton.proofs.TreeNumbering.{next, nextAll, exitState, entryStates, entry, exits, childEntries, own}
 use Rattle.automaton.proofs.TreeNumbering.{transitionsOf, transitionsOfAll, ConstantsListed, ConstantsListedAll}
@@ -62,7 +62,7 @@ module _ (cs : List ℕ) (ts : List Transition) where
       but-c a = cond (eqb a c) [] (entry cs F n a)
 
       entriesWritten : List Transition
-      entriesWritten = entryEpsilons (numbered (suc (next cs G g)) cs) (λ a. but-c a ++ entry cs G g a)
+      entriesWritten = entryEpsilons (fullEntries cs (next cs G g)) (λ a. but-c a ++ entry cs G g a)
 
       each : (a : ℕ) → List·Memᴰ a cs → AllReachedBy ts (σ a) (but-c a ++ entry cs G g a)
       each =
@@ -93,7 +93,7 @@ module _ (cs : List ℕ) (ts : List Transition) where
       straight a = cond (eqb a c) (x ∷ []) []
 
       entriesWritten : List Transition
-      entriesWritten = entryEpsilons (numbered (suc x) cs) (λ a. entry cs F n a ++ straight a)
+      entriesWritten = entryEpsilons (fullEntries cs x) (λ a. entry cs F n a ++ straight a)
 
       steps : ℕ → Language
       steps k = Under (Step c (Member F) k) σ

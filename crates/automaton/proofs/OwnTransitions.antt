@@ -14,7 +14,7 @@ use Rattle.words.specs.ExpressionWords.{isExpressionWord}
 use Rattle.words.proofs.Ascending.{Ascending}
 use Rattle.words.proofs.ExpressionWordLaws.{ExpressionWord, symbolWord, emptyWord, unionWord, productWord, closureWord, expressionWord}
 use Rattle.automaton.specs.Transition.{Transition}
-use Rattle.automaton.specs.Numbering.{Port, hasEntries, statesOf, portOf, symbolTransitions, unionTransitions}
+use Rattle.automaton.specs.Numbering.{Port, hasEntries, statesOf, exitEntry, portOf, symbolTransitions, unionTransitions}
 use Rattle.automaton.specs.Numbering.{productTransitions, closureTransitions, ownTransitions}
 use Rattle.automaton.proofs.EntryStates.{entries-some, entries-none, port-full, port-leaf, states-full, states-leaf, own-kind}
 use Rattle.automaton.proofs.PortStates.{constantsIn, statesIn, numbered-constants, numbered-states, length-numbered}
@@ -49,7 +49,7 @@ module _ (a : List ℕ) (n w : ℕ) where
   leaf-of : hasEntries a w ≡ false → Leaf hi E
   leaf-of h = rw (port-leaf a w n h, states-leaf a w h) (record { states = add-one n; entries = one (hasKind symbolKind w) })
     where
-      one : (b : Bool) → length (cond {A = List (ℕ × ℕ)} b ((lowByte w, n) ∷ []) []) ≤ 1
+      one : (b : Bool) → length (cond b (exitEntry (lowByte w) n) []) ≤ 1
       one true = omega arith
       one false = omega arith
 

@@ -18,7 +18,7 @@ use Rattle.words.proofs.ConstantLaws.{constants-ascending}
 use Rattle.words.proofs.WordLaws.{arity-kind, isExpressionWord-facts}
 use Rattle.words.proofs.KindLaws.{hasKind-kindOf}
 use Rattle.words.proofs.TestLaws.{Tested, holds, fails, tested}
-use Rattle.automaton.specs.Numbering.{Port, numbered, hasEntries, statesOf, fullPort, portOf}
+use Rattle.automaton.specs.Numbering.{Port, numbered, hasEntries, statesOf, fullEntries, exitEntry, fullPort, portOf}
 use Rattle.automaton.proofs.EntryStates.{none-taken, port-full, port-leaf, states-full, states-leaf}
 
 -- the constants and the states of a word's entries
@@ -30,8 +30,8 @@ statesIn es = map (λ e. e .1) es
 
 -- the entries of a word with exit x: one behind the exit for each constant, or the exit as the only entry, or none
 pub data Entries (a : List ℕ) (x : ℕ) : List (ℕ × ℕ) → Type 0 where
-  every : Entries a x (numbered (suc x) (constantsOf a))
-  own : (c : ℕ) → isConstant a c ≡ true → Entries a x ((c, x) ∷ [])
+  every : Entries a x (fullEntries (constantsOf a) x)
+  own : (c : ℕ) → isConstant a c ≡ true → Entries a x (exitEntry c x)
   missing : Entries a x []
 
 -- a port whose states lie from lo on and below hi
@@ -68,7 +68,7 @@ module _ (a : List ℕ) (n w : ℕ) where
       }
 
   own-in : (b : Bool) → (b ≡ true → isConstant a (lowByte w) ≡ true)
-      → PortIn a n (n + 1) (record { exit = n; entries = cond b ((lowByte w, n) ∷ []) [] })
+      → PortIn a n (n + 1) (record { exit = n; entries = cond b (exitEntry (lowByte w) n) [] })
   own-in true h =
       let c = h refl in
       record {

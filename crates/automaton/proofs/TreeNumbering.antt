@@ -5,7 +5,7 @@ use mathlib.Core.List.{List, [], _∷_, _++_, map, List·Memᴰ}
 use lib.ListN.{length}
 use Rattle.language.specs.Expression.{Expression, Expressions, symbol, empty, union, product, closure, noneᵉ, moreᵉ}
 use Rattle.automaton.specs.Transition.{Transition}
-use Rattle.automaton.specs.Numbering.{Port, numbered, lookup, symbolTargets, symbolTransitions, unionTransitions}
+use Rattle.automaton.specs.Numbering.{Port, fullEntries, exitEntry, lookup, symbolTargets, symbolTransitions, unionTransitions}
 use Rattle.automaton.specs.Numbering.{productTransitions, closureTransitions, constantTransitions}
 
 module _ (cs : List ℕ) where
@@ -37,12 +37,12 @@ module _ (cs : List ℕ) where
   exitState (closure c F) n = next F n
 
   abbrev pub entryStates : Expression → ℕ → List (ℕ × ℕ)
-  entryStates (symbol c noneᵉ) n = (c, n) ∷ []
-  entryStates (symbol f (moreᵉ e es)) n = numbered (suc (exitState (symbol f (moreᵉ e es)) n)) cs
+  entryStates (symbol c noneᵉ) n = exitEntry c n
+  entryStates (symbol f (moreᵉ e es)) n = fullEntries cs (exitState (symbol f (moreᵉ e es)) n)
   entryStates empty n = []
-  entryStates (union F G) n = numbered (suc (exitState (union F G) n)) cs
-  entryStates (product c F G) n = numbered (suc (exitState (product c F G) n)) cs
-  entryStates (closure c F) n = numbered (suc (exitState (closure c F) n)) cs
+  entryStates (union F G) n = fullEntries cs (exitState (union F G) n)
+  entryStates (product c F G) n = fullEntries cs (exitState (product c F G) n)
+  entryStates (closure c F) n = fullEntries cs (exitState (closure c F) n)
 
   abbrev pub port : Expression → ℕ → Port
   port E n = record { exit = exitState E n; entries = entryStates E n }

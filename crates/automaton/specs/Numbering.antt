@@ -29,19 +29,27 @@ hasEntries a w = not (eqb (arity a w) 0)
 unfoldable pub statesOf : List ℕ → ℕ → ℕ
 statesOf a w = suc (cond (hasEntries a w) (length (constantsOf a)) 0)
 
--- "A constant's exit is also its entry for itself; it has no other entry, and the empty word has none."
+-- "its exit, then one entry for each constant": the entries for the constants cs behind exit n
+abbrev pub fullEntries : List ℕ → ℕ → List (ℕ × ℕ)
+fullEntries cs n = numbered (suc n) cs
+
+-- "A constant's exit is also its entry for itself; it has no other entry": exit n of the constant c
+abbrev pub exitEntry : ℕ → ℕ → List (ℕ × ℕ)
+exitEntry c n = (c, n) ∷ []
+
+-- .. "and the empty word has none."
 abbrev pub ownEntry : ℕ → ℕ → List (ℕ × ℕ)
-ownEntry n w = cond (hasKind symbolKind w) ((lowByte w, n) ∷ []) []
+ownEntry n w = cond (hasKind symbolKind w) (exitEntry (lowByte w) n) []
 
 -- the states of a word with an entry for each constant of cs, of which n is the first
 abbrev pub fullPort : List ℕ → ℕ → Port
-fullPort cs n = record { exit = n; entries = numbered (suc n) cs }
+fullPort cs n = record { exit = n; entries = fullEntries cs n }
 
 -- the states of word w, of which n is the first
 unfoldable pub portOf : List ℕ → ℕ → ℕ → Port
 portOf a n w = record {
   exit = n;
-  entries = cond (hasEntries a w) (fullPort (constantsOf a) n .entries) (ownEntry n w);
+  entries = cond (hasEntries a w) (fullEntries (constantsOf a) n) (ownEntry n w);
 }
 
 -- the entry for a constant, or none

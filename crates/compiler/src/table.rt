@@ -10,11 +10,11 @@ ghost use Rattle.compiler.specs.Compiling.{allOwnWordsMost, compiledWord
 use super::states::states_after;
 use super::states::states_of;
 use super::states::word_port;
+use alphabet::arity;
 use alphabet::write_constants;
 use emitter::constants::push_constants;
 use emitter::own::push_own;
 use emitter::writer::push;
-use syntax::postfix::arity;
 use words::limits::CONSTANTS_MOST;
 use words::limits::EXPRESSION_MOST;
 use words::word::HEAD;

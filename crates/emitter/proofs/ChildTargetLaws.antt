@@ -85,11 +85,11 @@ module _ (cs ps : List ℕ) (from b c at : ℕ) (out out′ : List ℕ) (r : ℕ
       words-written-same rankMost entryWordsMost at r _ _ out out′ w (omega arith) (rw (ne-eqb b c n, targets-both cs ps b two))
 
   pub closure-here : length ps ≡ 1 → (x : ℕ) (out″ : List ℕ) (s : ℕ) → b ≡ c → ToEntries ps
-      → WordsWritten 1 r (transitionWords (epsilon from x)) out′ out″ s
+      → {y : ℕ} → y ≡ from → WordsWritten 1 r (transitionWords (epsilon y x)) out′ out″ s
       → WordsWritten entryWordsMost at (epsilonWords from (closureTargets c x F b)) out out″ s
-  closure-here one x out″ s e w v =
+  closure-here one x out″ s e w q v =
       words-written-same entryWordsMost entryWordsMost at s _ _ out out″
-      (words-written-more rankMost 1 at r s _ _ out out′ out″ w v) (omega arith)
+      (words-written-more rankMost 1 at r s _ _ out out′ out″ w (rw q at v)) (omega arith)
       (rw (eq-eqb b c e, targets-single cs ps b one) (sym (epsilonWords-append from (entryFor F b) (x ∷ []))))
 
   pub closure-other : length ps ≡ 1 → (x : ℕ) → (b ≡ c → ⊥) → ToEntries ps

@@ -1,39 +1,37 @@
 -- Laws of the loop over the constants that writes the epsilon transitions from a word's entries.
 use mathlib.Core.Path.{_≡_, refl, ap, _∙_, sym}
 use mathlib.Core.List.{List, [], _∷_, _++_, append-nil}
-use Prim.Native.Nat.{ℕ, suc, _+_, _*_, _<_, _≤_}
+use Prim.Native.Nat.{ℕ, _+_, _*_, _<_, _≤_}
 use native.Mathlib.Omega.{arith}
-use native.Mathlib.Numerals.{add-one}
 use lib.ListN.{length, getD, take}
-use lib.Seq.{take-suc, take-all, length-take-le}
+use lib.Seq.{take-all}
 use Rattle.words.specs.Limits.{constantsMost}
 use Rattle.automaton.specs.Transition.{Transition, transitionsWords}
-use Rattle.automaton.specs.Numbering.{numbered, epsilons, entryEpsilons}
-use Rattle.automaton.proofs.TransitionLaws.{transitionsWords-append, numbered-append, entryEpsilons-append}
+use Rattle.automaton.specs.Numbering.{fullEntries, epsilons, entryEpsilons}
+use Rattle.automaton.proofs.TransitionLaws.{transitionsWords-append, entryEpsilons-append}
+use Rattle.ports.specs.Ports.{entryState}
+use Rattle.ports.proofs.PortLaws.{entries-more}
 use Rattle.emitter.specs.Writing.{WordsWritten, lastIndex}
 use Rattle.emitter.specs.Emission.{entryWordsMost, entriesWordsMost}
 use Rattle.emitter.proofs.WritingLaws.{words-written-none, words-written-more, words-written-same, words-written-next}
 
 -- the words of the transitions from the entries for the constants, where x is the word's exit
 abbrev pub entryEpsilonWords : ℕ → List ℕ → (ℕ → List ℕ) → List ℕ
-entryEpsilonWords x cs targets = transitionsWords (entryEpsilons (numbered (suc x) cs) targets)
+entryEpsilonWords x cs targets = transitionsWords (entryEpsilons (fullEntries cs x) targets)
 
 -- one constant more
 entryEpsilonWords-more : (x : ℕ) (cs : List ℕ) (targets : ℕ → List ℕ) (k : ℕ) → k < length cs
     → entryEpsilonWords x (take (k + 1) cs) targets
-    ≡ entryEpsilonWords x (take k cs) targets ++ transitionsWords (epsilons (x + 1 + k) (targets (getD cs k 0)))
+    ≡ entryEpsilonWords x (take k cs) targets ++ transitionsWords (epsilons (entryState x k) (targets (getD cs k 0)))
 entryEpsilonWords-more x cs targets k h =
     let c = getD cs k 0 in
-    let es = numbered (suc x) (take k cs) in
-    let n : suc x + length (take k cs) ≡ x + 1 + k = rw (length-take-le k cs (omega arith)) (omega arith) in
-    ap (λ (l : List ℕ). entryEpsilonWords x l targets) (ap (λ (i : ℕ). take i cs) (add-one k) ∙ take-suc cs k 0 h)
-    ∙ ap (λ (l : List (ℕ × ℕ)). transitionsWords (entryEpsilons l targets))
-    (numbered-append (suc x) (take k cs) (c ∷ []) ∙ ap (λ (i : ℕ). es ++
-    (c, i) ∷ []) n)
+    let s = entryState x k in
+    let es = fullEntries (take k cs) x in
+    ap (λ (l : List (ℕ × ℕ)). transitionsWords (entryEpsilons l targets)) (entries-more cs x k h)
     ∙ ap transitionsWords
-    (entryEpsilons-append targets es ((c, x + 1 + k) ∷ [])
-    ∙ ap (λ (l : List Transition). entryEpsilons es targets ++ l) (append-nil (epsilons (x + 1 + k) (targets c))))
-    ∙ transitionsWords-append (entryEpsilons es targets) (epsilons (x + 1 + k) (targets c))
+    (entryEpsilons-append targets es ((c, s) ∷ [])
+    ∙ ap (λ (l : List Transition). entryEpsilons es targets ++ l) (append-nil (epsilons s (targets c))))
+    ∙ transitionsWords-append (entryEpsilons es targets) (epsilons s (targets c))
 
 -- the loop after k constants
 pub record EntriesWritten (cs : List ℕ) (targets : ℕ → List ℕ) (x at : ℕ) (out out′ : List ℕ) (next k : ℕ) : Type 0 where
@@ -52,7 +50,7 @@ module _ {cs : List ℕ} {targets : ℕ → List ℕ} {x at : ℕ} {out out′ :
   entriesWritten-fits h few fits = let n = words-written-next _ _ _ _ _ _ (w .written) in omega arith
 
   pub entriesWritten-more : (out″ : List ℕ) (r : ℕ) → k < length cs → length out″ ≡ length out′
-      → WordsWritten entryWordsMost next (transitionsWords (epsilons (x + 1 + k) (targets (getD cs k 0)))) out′ out″ r
+      → WordsWritten entryWordsMost next (transitionsWords (epsilons (entryState x k) (targets (getD cs k 0)))) out′ out″ r
       → EntriesWritten cs targets x at out out″ r (k + 1)
   entriesWritten-more out″ r h l q =
       record {

@@ -1,12 +1,12 @@
 -- Laws of the own transitions of a word by its kind: they are what the writers leave one after the other.
 use mathlib.Core.Path.{_≡_, ap, _∙_, sym}
 use mathlib.Core.List.{List, [], _∷_, _++_, append-assoc}
-use Prim.Native.Nat.{ℕ, suc, _+_, _≤_}
+use Prim.Native.Nat.{ℕ, _+_, _≤_}
 use native.Mathlib.Omega.{arith}
 use lib.ListN.{length, getD}
 use Rattle.words.specs.Limits.{rankMost}
 use Rattle.automaton.specs.Transition.{Transition, onSymbol, epsilon, sourceWords, transitionWords, transitionsWords}
-use Rattle.automaton.specs.Numbering.{Port, numbered, entryFor, epsilons, symbolTargets, unionTargets, productTargets, closureTargets}
+use Rattle.automaton.specs.Numbering.{Port, fullEntries, entryFor, epsilons, symbolTargets, unionTargets, productTargets, closureTargets}
 use Rattle.automaton.specs.Numbering.{symbolTransitions, unionTransitions, productTransitions, closureTransitions, fullPort}
 use Rattle.automaton.proofs.TransitionLaws.{transitionsWords-append, entryEpsilons-same}
 use Rattle.ports.specs.Ports.{exitIn, exitsIn, portsIn, childIn}
@@ -52,7 +52,7 @@ module _ (cs ps : List ℕ) (x at : ℕ) where
       (words-written-more 2 entriesWordsMost at n r _ _ out o₁ o₂ p s) (omega arith)
       (rw (e, d)
       (ap (λ (l : List Transition). transitionsWords (epsilon (F .exit) x ∷ epsilon (G .exit) x ∷ l))
-      (entryEpsilons-same (symbolTargets (portsIn cs ps)) (unionTargets F G) (numbered (suc x) cs) (λ b. targets-both cs ps b h))))
+      (entryEpsilons-same (symbolTargets (portsIn cs ps)) (unionTargets F G) (fullEntries cs x) (λ b. targets-both cs ps b h))))
 
   module _ (out o₁ o₂ o₃ : List ℕ) (n₁ n₂ r : ℕ) where
     -- three writers one after the other

@@ -1,16 +1,17 @@
 // Epsilon transitions from a word's entries, in the order of the constants.
 ghost use mathlib.Core.Path.{_≡_};
-ghost use Prim.Native.Nat.{suc, _+_, _<_};
+ghost use Prim.Native.Nat.{_<_};
 ghost use lib.ListN.{length, getD};
 ghost use Rattle.words.specs.Limits.{rankMost};
 ghost use Rattle.automaton.specs.Transition.{transitionsWords};
-ghost use Rattle.automaton.specs.Numbering.{numbered, epsilons, entryEpsilons, symbolTargets, productTargets, closureTargets};
-ghost use Rattle.ports.specs.Ports.{Low, entryRange, statesOfEntry, portsIn, childIn};
+ghost use Rattle.automaton.specs.Numbering.{fullEntries, epsilons, entryEpsilons, symbolTargets, productTargets, closureTargets};
+ghost use Rattle.ports.specs.Ports.{Low, entryRange, entryState, statesOfEntry, portsIn, childIn};
 ghost use Rattle.emitter.specs.Writing.{WordsWritten, lastIndex};
 ghost use Rattle.emitter.specs.Emission.{entryWordsMost, entriesWordsMost, targetsIn, Targetable, Emittable};
 use super::writer::push_epsilon;
 use ports::port::Entry;
 use ports::port::entry_at;
+use ports::port::entry_state;
 
 // Where a word's entry for a constant leads: to the children's entries for it, in a product over c at c not to the first
 // child's, in a closure over c at c also to the word's own exit.
@@ -44,12 +45,12 @@ fn push_to_children(
     requires { ⌜ k < length (now constants) ⌝ }
     ensures { λ r. ⌜
         WordsWritten rankMost at
-        (transitionsWords (epsilons (exit + 1 + k)
+        (transitionsWords (epsilons (entryState exit k)
         (symbolTargets (portsIn (now (constants .entry)) (now (ports .entry))) (getD (now (constants .entry)) k 0))))
         (now (out .entry)) (now (out .exit)) r
         ⌝ }
 {
-    let from = exit + 1 + k as u32;
+    let from = entry_state(exit, k);
     let mut next = at;
     let mut i = 0;
     while i < ports.len() {
@@ -74,7 +75,7 @@ fn push_product_entry(
     requires { ⌜ (k < length (now constants)) × (length (now ports) ≡ 2) ⌝ }
     ensures { λ r. ⌜
         WordsWritten entryWordsMost at
-        (transitionsWords (epsilons (exit + 1 + k)
+        (transitionsWords (epsilons (entryState exit k)
         (productTargets c (childIn (now (constants .entry)) (now (ports .entry)) 0)
         (childIn (now (constants .entry)) (now (ports .entry)) 1) (getD (now (constants .entry)) k 0))))
         (now (out .entry)) (now (out .exit)) r
@@ -100,14 +101,14 @@ fn push_closure_entry(
     requires { ⌜ (k < length (now constants)) × (length (now ports) ≡ 1) ⌝ }
     ensures { λ r. ⌜
         WordsWritten entryWordsMost at
-        (transitionsWords (epsilons (exit + 1 + k)
+        (transitionsWords (epsilons (entryState exit k)
         (closureTargets c exit (childIn (now (constants .entry)) (now (ports .entry)) 0) (getD (now (constants .entry)) k 0))))
         (now (out .entry)) (now (out .exit)) r
         ⌝ }
 {
     let next = push_to_children(constants, ports, out, at, exit, k);
     if constants[k] == c {
-        return push_epsilon(out, next, exit + 1 + k as u32, exit);
+        return push_epsilon(out, next, entry_state(exit, k), exit);
     }
     next
 }
@@ -126,7 +127,7 @@ fn push_entry(
     requires { ⌜ (k < length (now constants)) × Targetable targets (now ports) ⌝ }
     ensures { λ r. ⌜
         WordsWritten entryWordsMost at
-        (transitionsWords (epsilons (exit + 1 + k)
+        (transitionsWords (epsilons (entryState exit k)
         (targetsIn (now (constants .entry)) (now (ports .entry)) exit targets (getD (now (constants .entry)) k 0))))
         (now (out .entry)) (now (out .exit)) r
         ⌝ }
@@ -151,7 +152,7 @@ pub(crate) fn push_entries(
     requires { ⌜ Targetable targets (now ports) ⌝ }
     ensures { λ r. ⌜
         WordsWritten entriesWordsMost at
-        (transitionsWords (entryEpsilons (numbered (suc exit) (now (constants .entry)))
+        (transitionsWords (entryEpsilons (fullEntries (now (constants .entry)) exit)
         (targetsIn (now (constants .entry)) (now (ports .entry)) exit targets)))
         (now (out .entry)) (now (out .exit)) r
         ⌝ }

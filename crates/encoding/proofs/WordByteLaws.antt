@@ -9,17 +9,16 @@ use native.Mathlib.Numerals.{add-one}
 use native.Mathlib.Decide.{decLe}
 use lib.ListN.{length, getD, take, drop, set, length-set, length-append, length-take, List·getD-append, take-append-drop}
 use lib.Seq.{sets, length-sets, set-out, take-suc, take-all, take-at, length-take-le, getD-append-add, ext-getD}
-use lib.Dec.{ltb}
 use borrow.Author.Tests.{lt-ltb}
 use Rattle.words.proofs.ListLaws.{sets-append, sets-whole, length-listFrom, getD-listFrom}
 use Rattle.words.proofs.TestLaws.{true-and}
-use Rattle.encoding.specs.Words.{wordBytes, areBytes, wordAt, wordsIn}
+use Rattle.encoding.specs.Words.{byteRange, isByte, wordBytes, areBytes, wordAt, wordsIn}
 
 -- ---- words in bytes
 
-pub bytes-are : (l : List ℕ) → ((i : ℕ) → getD l i 0 < 256) → areBytes l ≡ true
+pub bytes-are : (l : List ℕ) → ((i : ℕ) → getD l i 0 < byteRange) → areBytes l ≡ true
 bytes-are [] h = refl
-bytes-are (b ∷ bs) h = true-and (ltb b 256) (areBytes bs) (lt-ltb b 256 (h 0)) (bytes-are bs (λ i. h (suc i)))
+bytes-are (b ∷ bs) h = true-and (isByte b) (areBytes bs) (lt-ltb b byteRange (h 0)) (bytes-are bs (λ i. h (suc i)))
 
 pub length-wordsIn : (bytes : List ℕ) → length (wordsIn bytes) ≡ length bytes / wordBytes
 unfolding wordsIn

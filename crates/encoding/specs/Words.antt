@@ -7,8 +7,11 @@ use lib.Dec.{ltb}
 use Rattle.words.specs.Lists.{all, listFrom}
 
 -- a byte is a number below 256
+abbrev pub byteRange : ℕ
+byteRange = 256
+
 abbrev pub isByte : ℕ → Bool
-isByte b = ltb b 256
+isByte b = ltb b byteRange
 
 abbrev pub areBytes : List ℕ → Bool
 areBytes bytes = all isByte bytes
@@ -17,11 +20,15 @@ areBytes bytes = all isByte bytes
 abbrev pub wordBytes : ℕ
 wordBytes = 4
 
--- word i: "low byte first"
+-- the word of four bytes: "low byte first"
+abbrev pub wordFrom : ℕ → ℕ → ℕ → ℕ → ℕ
+wordFrom first second third fourth = first + byteRange * (second + byteRange * (third + byteRange * fourth))
+
+-- word i
 unfoldable pub wordAt : List ℕ → ℕ → ℕ
 wordAt bytes i =
     let first = wordBytes * i in
-    getD bytes first 0 + 256 * getD bytes (first + 1) 0 + 65536 * getD bytes (first + 2) 0 + 16777216 * getD bytes (first + 3) 0
+    wordFrom (getD bytes first 0) (getD bytes (first + 1) 0) (getD bytes (first + 2) 0) (getD bytes (first + 3) 0)
 
 -- the whole words of some bytes
 unfoldable pub wordsIn : List ℕ → List ℕ

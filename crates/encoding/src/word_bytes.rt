@@ -4,15 +4,20 @@ ghost use Prim.Native.Nat.{_+_, _*_, _≤_, min};
 ghost use lib.ListN.{length};
 ghost use lib.Seq.{sets};
 ghost use mathlib.Core.Bool.{true};
-ghost use Rattle.encoding.specs.Words.{wordBytes, areBytes, wordAt, wordsIn};
+ghost use Rattle.encoding.specs.Words.{wordBytes, areBytes, wordFrom, wordAt, wordsIn};
 
 // How many bytes a word has.
 pub const WORD_BYTES: usize = 4;
 
+// The numbers that a byte can be.
+const BYTE_RANGE: u32 = 256;
+
+// The word of four bytes.
 fn word_of(first: u8, second: u8, third: u8, fourth: u8) -> u32
-    ensures { λ r. ⌜ r ≡ first + 256 * second + 65536 * third + 16777216 * fourth ⌝ }
+    ensures { λ r. ⌜ r ≡ wordFrom first second third fourth ⌝ }
 {
-    first as u32 + 256 * (second as u32) + 65536 * (third as u32) + 16777216 * (fourth as u32)
+    first as u32
+        + BYTE_RANGE * (second as u32 + BYTE_RANGE * (third as u32 + BYTE_RANGE * fourth as u32))
 }
 
 // Word i of the bytes.

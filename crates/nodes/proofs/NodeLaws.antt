@@ -26,12 +26,12 @@ use Rattle.memo.proofs.NodeWritingLaws.{length-setOver}
 use Rattle.memo.proofs.MemoLaws.{stored-kept}
 use Rattle.nodes.specs.Nodes.{Pushable, setFrom, markedAt, BoundedTree, stackBase, stackLength}
 use Rattle.nodes.specs.Marking.{NodeMarkable, Maintained}
-use Rattle.nodes.proofs.WorkableLaws.{node-arity}
+use Rattle.nodes.proofs.WorkableLaws.{node-rank}
 use Rattle.nodes.proofs.RootStackLaws.{nodes-fit, stack-height, stack-pushable, represented-more}
 
 module _ {a table index ch : List ℕ} {i : ℕ} {marks array : List ℕ} {height : ℕ} {keys known places owners rows pending : List ℕ}
     (g : NodeMarkable a table index ch i marks array height keys known places owners rows pending) (r : ℕ)
-    (e : r ≡ rankOf a (symbolOf (getD ch i 0))) where
+    (e : r ≡ arity a (getD ch i 0)) where
   abbrev w : ℕ
   w = getD ch i 0
 
@@ -52,6 +52,9 @@ module _ {a table index ch : List ℕ} {i : ℕ} {marks array : List ℕ} {heigh
 
   few : i < nodesMost
   few = let h = g .inside in omega (arith, g .workable .tree .few)
+
+  rank-is : r ≡ rankOf a (symbolOf (getD ch i 0))
+  rank-is = e ∙ node-rank (g .workable .tree) i (g .inside)
 
   node-low : stackBase ≤ height
   node-low = omega (arith, g .maintained .represented .held .height-is)
@@ -95,7 +98,7 @@ module _ {a table index ch : List ℕ} {i : ℕ} {marks array : List ℕ} {heigh
   part-place =
       let f = fits in
       let most = g .workable .ranks (symbolOf w) in
-      omega (arith, g .maintained .represented .held .height-is, e)
+      omega (arith, g .maintained .represented .held .height-is, rank-is)
 
   part-is : drop (rankMost - r) four ≡ drop (length (g .maintained .represented .nodes) - r) (g .maintained .represented .nodes)
   part-is =
@@ -118,9 +121,7 @@ module _ {a table index ch : List ℕ} {i : ℕ} {marks array : List ℕ} {heigh
       ap (map stored) part-is ∙ map-drop stored (length nodes - r) nodes ∙ ap (drop (length nodes - r)) (g .maintained .represented .same)
       ∙ sym (map-drop stored (length nodes - r) (reverse roots))
       ∙ ap (map stored)
-      (ap₂ (λ (n k : ℕ). drop (n - k) (reverse roots)) (g .maintained .represented .count)
-      (e ∙ sym (node-arity (g .workable .tree) i (g .inside)))
-      ∙ drop-reverse (arity a w) roots)
+      (ap₂ (λ (n k : ℕ). drop (n - k) (reverse roots)) (g .maintained .represented .count) e ∙ drop-reverse (arity a w) roots)
 
   rows-inside : RowsInside (sizeOf table) marks (drop (rankMost - r) four)
   rows-inside k l =
@@ -136,7 +137,7 @@ module _ {a table index ch : List ℕ} {i : ℕ} {marks array : List ℕ} {heigh
       record {
         indexed = record { alphabet = a; short = g .workable .alphabet; checked = g .workable .checked; indexed = g .indexed };
         symbol-below = omega arith;
-        rank = sym e ∙ sym part-length;
+        rank = sym rank-is ∙ sym part-length;
         rows = rows-inside;
       }
 
@@ -156,7 +157,7 @@ module _ {a table index ch : List ℕ} {i : ℕ} {marks array : List ℕ} {heigh
         };
         keyable = record {
           symbol = omega arith;
-          nodes = record { length-is = four-length; below = four-below; few = omega (arith, e, g .workable .ranks (symbolOf w)) };
+          nodes = record { length-is = four-length; below = four-below; few = omega (arith, rank-is, g .workable .ranks (symbolOf w)) };
         };
         below = part-below;
         remembered = k;

@@ -6,8 +6,6 @@ use native.Mathlib.Omega.{arith}
 use native.Mathlib.Numerals.{add-one}
 use lib.ListN.{length, getD, take, drop, set, replicate, length-append, length-drop, length-reverse, length-set}
 use lib.Seq.{length-take-le, take-take, take-suc-set, take-append-add}
-use Rattle.words.specs.Alphabet.{rankOf}
-use Rattle.words.specs.Chapter.{symbolOf}
 use Rattle.words.specs.Shape.{stackGivenBy}
 use Rattle.words.specs.Postfix.{arity, rootsOf}
 use Rattle.words.proofs.ListLaws.{map-append, map-take, take-reverse}
@@ -17,7 +15,6 @@ use Rattle.automaton.specs.StateSet.{StateSet}
 use Rattle.operations.specs.Marks.{sizeOf, storedSet}
 use Rattle.nodes.specs.Nodes.{Held, Pushable, BoundedTree, Stackable, stackBase, stackLength}
 use Rattle.nodes.specs.Marking.{Represented}
-use Rattle.nodes.proofs.WorkableLaws.{node-arity}
 
 -- r nodes are taken and one is put in their place: one store
 held-push : (array : List ℕ) (height : ℕ) (nodes : List ℕ) (r x : ℕ) → Held array height nodes → r ≤ length nodes
@@ -37,18 +34,15 @@ held-push array height nodes r x g fits inside =
     }
 
 module _ (a ch : List ℕ) (tree : BoundedTree a ch) (i : ℕ) (inside : i < length ch) (r : ℕ)
-    (e : r ≡ rankOf a (symbolOf (getD ch i 0))) where
-  arity-is : r ≡ arity a (getD ch i 0)
-  arity-is = e ∙ sym (node-arity tree i inside)
-
+    (e : r ≡ arity a (getD ch i 0)) where
   -- no node lacks children
-  rank-fits : r ≤ length (rootsOf a ch i)
-  rank-fits = omega (arith, arity-is, arity-fits (arity a) ch i (tree .tree) inside)
+  children-fit : r ≤ length (rootsOf a ch i)
+  children-fit = omega (arith, e, arity-fits (arity a) ch i (tree .tree) inside)
 
   -- node i in the place of its children
   roots-next : rootsOf a ch (i + 1) ≡ i ∷ drop r (rootsOf a ch i)
   roots-next =
-      ap (rootsOf a ch) (add-one i) ∙ roots-more (arity a) ch i inside ∙ ap (λ (k : ℕ). i ∷ drop k (rootsOf a ch i)) (sym arity-is)
+      ap (rootsOf a ch) (add-one i) ∙ roots-more (arity a) ch i inside ∙ ap (λ (k : ℕ). i ∷ drop k (rootsOf a ch i)) (sym e)
 
 -- ---- representatives
 
@@ -67,7 +61,7 @@ represent-roots {a} {table} {ch} {marks} {array} {i} l h g =
 
 module _ {a table ch : List ℕ} {i : ℕ} {marks array : List ℕ} {height : ℕ} (g : Represented a table ch i marks array height)
     (tree : BoundedTree a ch)
-    (inside : i < length ch) (r : ℕ) (e : r ≡ rankOf a (symbolOf (getD ch i 0))) where
+    (inside : i < length ch) (r : ℕ) (e : r ≡ arity a (getD ch i 0)) where
   abbrev roots : List ℕ
   roots = rootsOf a ch i
 
@@ -75,7 +69,7 @@ module _ {a table ch : List ℕ} {i : ℕ} {marks array : List ℕ} {height : �
   nodes = g .nodes
 
   pub nodes-fit : r ≤ length (g .nodes)
-  nodes-fit = omega (arith, rank-fits a ch tree i inside r e, g .count)
+  nodes-fit = omega (arith, children-fit a ch tree i inside r e, g .count)
 
   stack-fits : r ≤ height
   stack-fits = let f = nodes-fit in omega (arith, g .held .height-is)
@@ -150,7 +144,7 @@ module _ {a ch : List ℕ} {count : ℕ} {array₀ : List ℕ} (pre : Stackable 
   itself : i ≤ length ch → Represented a ch ch i array array height
   itself h = represent-roots (g .long) h (g .held)
 
-  module _ (l : i < count) (r : ℕ) (e : r ≡ rankOf a (symbolOf (getD ch i 0))) where
+  module _ (l : i < count) (r : ℕ) (e : r ≡ arity a (getD ch i 0)) where
     inside : i < length ch
     inside = omega (arith, pre .within)
 
@@ -164,7 +158,7 @@ module _ {a ch : List ℕ} {count : ℕ} {array₀ : List ℕ} (pre : Stackable 
         let rep = itself (omega (arith, inside)) in
         let pushed =
         held-push array height (reverse roots) r i (g .held)
-        (omega (arith, rank-fits a ch (pre .tree) i inside r e, length-reverse roots))
+        (omega (arith, children-fit a ch (pre .tree) i inside r e, length-reverse roots))
         (stack-height rep (pre .tree) inside r e) in
         let same : take (length (reverse roots) - r) (reverse roots) ++ i ∷ [] ≡ reverse (rootsOf a ch (i + 1))
         = ap (λ (l : List ℕ). l ++ i ∷ []) (ap (λ (k : ℕ). take (k - r) (reverse roots)) (length-reverse roots) ∙ take-reverse r roots)

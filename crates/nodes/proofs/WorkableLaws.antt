@@ -7,6 +7,7 @@ use native.Mathlib.Omega.{arith}
 use lib.ListN.{length, getD, take, drop}
 use lib.Seq.{split-at}
 use Rattle.words.specs.Limits.{tableMost}
+use Rattle.words.specs.Word.{nodeKind, kindOf}
 use Rattle.words.specs.Alphabet.{rankOf}
 use Rattle.words.specs.Lists.{all}
 use Rattle.words.specs.Chapter.{symbolOf, isNode}
@@ -36,9 +37,12 @@ node-word a ch i h l =
     let t = subst (λ (k : List ℕ). all (isNode a) k ≡ true) (split-at ch i 0 l) h in
     and-true (isNode a w) (all (isNode a) (drop (suc i) ch)) (all-right (isNode a) (take i ch) (w ∷ drop (suc i) ch) t) .0
 
--- a node takes as many children as its symbol's rank
-pub node-arity : {a ch : List ℕ} → BoundedTree a ch → (i : ℕ) → i < length ch → arity a (getD ch i 0) ≡ rankOf a (symbolOf (getD ch i 0))
-node-arity {a} {ch} g i l = isNode-facts a (getD ch i 0) (node-word a ch i (g .nodes) l) .arity-rank
+-- its words are nodes, and a node takes as many children as its symbol's rank
+pub node-kind : {a ch : List ℕ} → BoundedTree a ch → (i : ℕ) → i < length ch → kindOf (getD ch i 0) ≡ nodeKind
+node-kind {a} {ch} g i l = isNode-facts a (getD ch i 0) (node-word a ch i (g .nodes) l) .kind
+
+pub node-rank : {a ch : List ℕ} → BoundedTree a ch → (i : ℕ) → i < length ch → arity a (getD ch i 0) ≡ rankOf a (symbolOf (getD ch i 0))
+node-rank {a} {ch} g i l = isNode-facts a (getD ch i 0) (node-word a ch i (g .nodes) l) .arity-rank
 
 -- marks of the same length serve as well
 pub workable-long : {a table ch : List ℕ} {m n : ℕ} → n ≡ m → Workable a table ch m → Workable a table ch n

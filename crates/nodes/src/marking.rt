@@ -6,7 +6,7 @@ ghost use Rattle.nodes.specs.Nodes.{markedAt, markedFrom};
 ghost use Rattle.nodes.specs.Marking.{Maintained, NodeMarkable, NodesMarkable};
 use super::stack::STACK_BASE;
 use super::stack::push_node;
-use alphabet::symbol_rank;
+use alphabet::node_arity;
 use memo::lookup::mark_next;
 use words::word::SYMBOL_RANGE;
 
@@ -41,7 +41,7 @@ pub fn mark_node(
 {
     let w = nodes[i];
     let symbol = w % SYMBOL_RANGE;
-    let children = symbol_rank(alphabet, w);
+    let children = node_arity(alphabet, w);
     let node = mark_next(
         table,
         index,

@@ -6,7 +6,7 @@ ghost use Prim.Native.Nat.{_+_, _-_};
 ghost use lib.ListN.{set};
 ghost use Rattle.words.specs.Postfix.{rootsOf};
 ghost use Rattle.nodes.specs.Nodes.{Held, Pushable, Stackable};
-use alphabet::symbol_rank;
+use alphabet::node_arity;
 use words::limits::NODES_MOST;
 use words::limits::RANK_MOST;
 
@@ -35,7 +35,7 @@ pub fn stack_nodes(alphabet: &[u32], nodes: &[u32], count: usize, stack: &mut [u
     let mut height = STACK_BASE;
     let mut i = 0;
     while i < count {
-        let children = symbol_rank(alphabet, nodes[i]);
+        let children = node_arity(alphabet, nodes[i]);
         height = push_node(stack, height, children, i);
         i += 1;
     }

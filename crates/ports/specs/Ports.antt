@@ -1,5 +1,5 @@
 -- Ports (a word's exit and entries) as numbers, and an entry that may be missing. It serves the inner functions of Compile.
-use Prim.Native.Nat.{ℕ, suc, _+_, _*_, _/_, _%_, _<_}
+use Prim.Native.Nat.{ℕ, _+_, _*_, _/_, _%_, _<_}
 use mathlib.Core.Path.{_≡_}
 use mathlib.Core.List.{List, [], _∷_, map}
 use mathlib.Core.Bool.{cond}
@@ -7,7 +7,7 @@ use lib.ListN.{length, getD}
 use lib.Dec.{eqb}
 use Rattle.words.specs.Limits.{alphabetMost}
 use Rattle.words.specs.Word.{countRange}
-use Rattle.automaton.specs.Numbering.{Port, numbered, lookup, entryFor}
+use Rattle.automaton.specs.Numbering.{Port, numbered, fullEntries, exitEntry, lookup, entryFor}
 use Rattle.ports.specs.declared.port.Entry.{Entry}
 use Rattle.ports.specs.declared.port.Entry.the-variants.{Missing, State}
 
@@ -29,7 +29,7 @@ exitRange = countRange
 
 -- the entries that code t says, for a word with exit x
 unfoldable pub entriesIn : List ℕ → ℕ → ℕ → List (ℕ × ℕ)
-entriesIn cs x t = cond (eqb t everyEntry) (numbered (suc x) cs) (cond (eqb t noEntry) [] ((t, x) ∷ []))
+entriesIn cs x t = cond (eqb t everyEntry) (fullEntries cs x) (cond (eqb t noEntry) [] (exitEntry t x))
 
 abbrev pub exitIn : ℕ → ℕ
 exitIn p = p / exitUnit % exitRange
@@ -50,6 +50,10 @@ portsIn cs ps = map (portIn cs) ps
 -- the port of the child with index i
 abbrev pub childIn : List ℕ → List ℕ → ℕ → Port
 childIn cs ps i = portIn cs (getD ps i 0)
+
+-- where a word with exit x has an entry for each constant: the state of the one for the constant with index k
+abbrev pub entryState : ℕ → ℕ → ℕ
+entryState x k = x + 1 + k
 
 -- each constant is found at its own index: none stands twice
 abbrev pub EachOnce : List ℕ → Type 0

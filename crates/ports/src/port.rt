@@ -3,7 +3,7 @@ ghost use mathlib.Core.Path.{_≡_};
 ghost use Prim.Native.Nat.{_+_, _*_, _≤_, _<_};
 ghost use lib.ListN.{length, getD};
 ghost use Rattle.words.specs.Limits.{constantsMost};
-ghost use Rattle.ports.specs.Ports.{exitUnit, exitRange, exitIn, EachOnce, EntryRead};
+ghost use Rattle.ports.specs.Ports.{exitUnit, exitRange, exitIn, codeIn, entryState, EachOnce, EntryRead};
 use words::limits::ALPHABET_MOST;
 use words::word::COUNT_RANGE;
 
@@ -15,7 +15,7 @@ pub const EVERY_ENTRY: u32 = ALPHABET_MOST as u32;
 pub const NO_ENTRY: u32 = EVERY_ENTRY + 1;
 
 // The exit stands above the code.
-pub const EXIT_UNIT: u32 = 2 * ALPHABET_MOST as u32;
+const EXIT_UNIT: u32 = 2 * ALPHABET_MOST as u32;
 
 // An exit has as many bits as a state count.
 const EXIT_RANGE: u32 = COUNT_RANGE;
@@ -41,15 +41,30 @@ pub fn exit_of(port: u32) -> u32
     port / EXIT_UNIT % EXIT_RANGE
 }
 
+// The code of a port.
+pub fn code_of(port: u32) -> u32
+    ensures { λ r. ⌜ r ≡ codeIn port ⌝ }
+{
+    port % EXIT_UNIT
+}
+
+// Where a word with this exit has an entry for each constant: the state of the one for the constant with index k.
+pub fn entry_state(exit: u32, k: usize) -> u32
+    requires { ⌜ (exit < exitRange) × (k < constantsMost) ⌝ }
+    ensures { λ r. ⌜ r ≡ entryState exit k ⌝ }
+{
+    exit + 1 + k as u32
+}
+
 // The entry for the constant with index k.
 pub fn entry_at(constants: &[u32], port: u32, k: usize) -> Entry
     requires { ⌜ EachOnce (now constants) × ((k < length (now constants)) × (length (now constants) ≤ constantsMost)) ⌝ }
     ensures { λ r. ⌜ EntryRead (now (constants .entry)) port (getD (now (constants .entry)) k 0) r ⌝ }
 {
     let exit = exit_of(port);
-    let code = port % EXIT_UNIT;
+    let code = code_of(port);
     if code == EVERY_ENTRY {
-        return Entry::State(exit + 1 + k as u32);
+        return Entry::State(entry_state(exit, k));
     }
     if code == NO_ENTRY {
         return Entry::Missing;

@@ -8,8 +8,6 @@ use lib.ListN.{length, getD, set, take, drop, length-drop}
 use lib.Seq.{paste, take-take, take-at, length-take-le}
 use lib.Dec.{ltb}
 use borrow.Author.Tests.{lt-ltb, le-ltb}
-use Rattle.words.specs.Alphabet.{rankOf}
-use Rattle.words.specs.Chapter.{symbolOf}
 use Rattle.words.specs.Postfix.{arity}
 use Rattle.automaton.specs.StateSet.{StateSet}
 use Rattle.operations.specs.Marks.{sizeOf, storedSet, sameWords}
@@ -21,7 +19,7 @@ use Rattle.sets.proofs.SizeLaws.{words-few}
 use Rattle.memo.proofs.MemoLaws.{remembered-later}
 use Rattle.nodes.specs.Nodes.{setFrom, markedAt}
 use Rattle.nodes.specs.Marking.{NodeMarkable, Maintained}
-use Rattle.nodes.proofs.WorkableLaws.{workable-size, node-arity}
+use Rattle.nodes.proofs.WorkableLaws.{workable-size}
 use Rattle.nodes.proofs.RootStackLaws.{represented-more}
 use Rattle.nodes.proofs.MarkLaws.{length-setFrom}
 use Rattle.propagation.specs.declared.Progress.{Progress}
@@ -112,10 +110,7 @@ module _ {a table index ch : List ℕ} {i : ℕ} {marks array : List ℕ} {heigh
 
 module _ {a table index ch : List ℕ} {i : ℕ} {marks array : List ℕ} {height : ℕ} {keys known places owners rows pending : List ℕ}
     (g : NodeMarkable a table index ch i marks array height keys known places owners rows pending) (k : ℕ)
-    (e : k ≡ rankOf a (symbolOf (getD ch i 0))) where
-  pub node-rank : k ≡ arity a (getD ch i 0)
-  node-rank = e ∙ sym (node-arity (g .workable .tree) i (g .inside))
-
+    (e : k ≡ arity a (getD ch i 0)) where
   -- the node is put on the stack, and its words stay
   pub node-passed : {array′ : List ℕ} {height′ : ℕ} → height′ ≡ height - k + 1 → array′ ≡ set array (height - k) i
       → Maintained a table ch (i + 1) marks array′ height′ keys known places owners rows pending

@@ -4,7 +4,7 @@ ghost use Prim.Native.Nat.{_+_, _-_};
 ghost use lib.ListN.{length};
 ghost use Rattle.nodes.specs.Marking.{Maintained, NodeMarkable};
 ghost use Rattle.propagation.specs.Propagation.{recomputeAt, propagateStep, propagateFrom, initial, Propagable, PropagationStartable};
-use alphabet::symbol_rank;
+use alphabet::node_arity;
 use nodes::marking::mark_node;
 use nodes::stack::push_node;
 use sets::state::SET_MOST;
@@ -124,7 +124,7 @@ fn propagate_node(
         (now (pending .exit))
         ⌝ }
 {
-    let children = symbol_rank(alphabet, nodes[i]);
+    let children = node_arity(alphabet, nodes[i]);
     let reach = progress.reach;
     let recomputed = progress.recomputed;
     if children < reach {

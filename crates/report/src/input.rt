@@ -6,8 +6,10 @@ ghost use Rattle.report.specs.Stages.{bufferWords};
 use encoding::word_bytes::WORD_BYTES;
 use encoding::word_bytes::least;
 
-// The words that a buffer of 4,096 bytes holds.
-const BUFFER_WORDS: usize = 1024;
+// The bytes of a buffer, and the words that it holds.
+const BUFFER_LENGTH: usize = 4096;
+
+const BUFFER_WORDS: usize = BUFFER_LENGTH / WORD_BYTES;
 
 // How many bytes to read next, where `left` words are still to come: whole words, as many as a buffer holds.
 pub fn part_bytes(left: usize) -> usize

@@ -8,12 +8,10 @@ use lib.ListN.{length, getD, take, drop}
 use lib.Dec.{eqb}
 use borrow.Author.Tests.{eq-eqb, ne-eqb}
 use Rattle.words.specs.Lists.{all}
-use Rattle.words.specs.Alphabet.{rankOf}
 use Rattle.words.specs.Postfix.{arity, trees, notOneTree}
-use Rattle.words.specs.Chapter.{symbolOf, isNode, notNodes, treeRefusals}
+use Rattle.words.specs.Chapter.{isNode, notNodes, treeRefusals}
 use Rattle.words.proofs.ScanLaws.{drop-part, all-fails, all-continues, all-end, trees-lacks, trees-continues, trees-end}
 use Rattle.words.proofs.RefusalLaws.{Found, none, here, next}
-use Rattle.words.proofs.WordLaws.{isNode-facts}
 
 -- the words before word i are nodes and make `made` trees: the words from i on decide
 pub record ChapterJudged (a words : List ℕ) (made i : ℕ) : Type 0 where
@@ -56,16 +54,13 @@ module _ {a words : List ℕ} {made i : ℕ} (s : ChapterJudged a words made i) 
     unfolding notNodes
     judged-no-node e = here (ap not (s .nodes ∙ all-fails (isNode a) words i h e))
 
-    -- word i is a node, and r is its symbol's rank
-    module _ (node : isNode a (getD words i 0) ≡ true) (r : ℕ) (e : r ≡ rankOf a (symbolOf (getD words i 0))) where
-      rank-arity : r ≡ arity a (getD words i 0)
-      rank-arity = e ∙ sym (isNode-facts a (getD words i 0) node .arity-rank)
-
+    -- word i is a node, and r is its arity
+    module _ (node : isNode a (getD words i 0) ≡ true) (r : ℕ) (e : r ≡ arity a (getD words i 0)) where
       pub judged-lacks : made < r → (b : Bool) → b ≡ all (isNode a) (take (length words - i) (drop i words)) → b ≡ true
           → Found (treeRefusals a words) 11
       unfolding notOneTree
       judged-lacks l b eb t =
-          next (rest-decides b eb ∙ ap not t) (here (ap not (s .shape ∙ trees-lacks (arity a) words made i 1 r h rank-arity l)))
+          next (rest-decides b eb ∙ ap not t) (here (ap not (s .shape ∙ trees-lacks (arity a) words made i 1 r h e l)))
 
       pub judged-more : r ≤ made → ChapterJudged a words (made - r + 1) (i + 1)
       judged-more l =
@@ -74,5 +69,5 @@ module _ {a words : List ℕ} {made i : ℕ} (s : ChapterJudged a words made i) 
             few = omega arith;
             below = omega arith;
             nodes = s .nodes ∙ all-continues (isNode a) words i h node;
-            shape = s .shape ∙ trees-continues (arity a) words made i 1 r h rank-arity l;
+            shape = s .shape ∙ trees-continues (arity a) words made i 1 r h e l;
           }

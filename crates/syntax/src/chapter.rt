@@ -2,7 +2,7 @@
 ghost use mathlib.Core.Path.{_≡_};
 ghost use Rattle.words.specs.Lists.{all};
 ghost use Rattle.words.specs.Chapter.{isNode, treeFault};
-use alphabet::symbol_rank;
+use alphabet::node_arity;
 use words::word::Kind;
 use words::word::SYMBOL_RANGE;
 use words::word::kind_of;
@@ -46,7 +46,7 @@ pub fn tree_fault(alphabet: &[u32], words: &[u32]) -> u32
         if !is_node(alphabet, w) {
             return 10;
         }
-        let children = symbol_rank(alphabet, w);
+        let children = node_arity(alphabet, w);
         if made < children {
             if !nodes_only(alphabet, &words[i..]) {
                 return 10;

@@ -1,5 +1,5 @@
-// Which words make a rule or a chapter (document 01's terms), how many children a word takes, and where the subtrees begin. Every
-// answer equals what a definition of `words` gives.
+// Which words make a rule or a chapter (document 01's terms), and where the subtrees begin. Every answer equals what a definition
+// of `words` gives.
 pub mod chapter;
 pub mod expression;
 pub mod postfix;

@@ -1,24 +1,7 @@
-// Words in postfix order: how many children a word takes, which words make one tree, and where subtrees begin.
+// Words in postfix order: which words make one tree, and where subtrees begin.
 ghost use mathlib.Core.Path.{_≡_};
-ghost use Rattle.words.specs.Postfix.{arity, oneTree, startOf};
-use alphabet::symbol_rank;
-use words::word::Kind;
-use words::word::kind_of;
-
-// How many children a word takes.
-pub fn arity(alphabet: &[u32], w: u32) -> usize
-    ensures { λ r. ⌜ r ≡ arity (now (alphabet .entry)) w ⌝ }
-{
-    let kind = kind_of(w);
-    match kind {
-        Kind::Symbol => symbol_rank(alphabet, w),
-        Kind::Union => 2,
-        Kind::Product => 2,
-        Kind::Closure => 1,
-        Kind::Node => symbol_rank(alphabet, w),
-        _ => 0,
-    }
-}
+ghost use Rattle.words.specs.Postfix.{oneTree, startOf};
+use alphabet::arity;
 
 // Whether the words make exactly one tree.
 pub(crate) fn one_tree(alphabet: &[u32], words: &[u32]) -> bool

@@ -48,6 +48,7 @@ arityAt-most m r noKind l h = omega arith
 
 -- what `isNode` says
 pub record IsNode (a : List ℕ) (w : ℕ) : Type 0 where
+  pub kind : kindOf w ≡ nodeKind
   pub symbol : symbolOf w < length a
   pub word : w ≡ wordOf nodeKind (symbolOf w)
   pub arity-rank : arity a w ≡ rankOf a (symbolOf w)
@@ -63,6 +64,7 @@ module _ (a : List ℕ) where
       let f = isOf-facts nodeKind w (p .0) in
       let e : bodyOf w ≡ symbolOf w = omega (arith, f .body) in
       record {
+        kind = f .kind;
         symbol = ltb-true (symbolOf w) (length a) (p .1);
         word = f .word ∙ ap (wordOf nodeKind) e;
         arity-rank = arity-kind a w nodeKind (f .kind);

@@ -1,26 +1,29 @@
--- `propagation::propagate_node` meets its contract: the rank tells whether the node is an ancestor.
+-- `propagation::propagate_node` meets its contract: the arity tells whether the node is an ancestor.
 use native.Mathlib.Omega.{arith}
 use borrow.Author.Needs.{needs}
+use Rattle.nodes.proofs.WorkableLaws.{node-kind}
 use Rattle.nodes.proofs.NodeLaws.{node-pushable}
-use Rattle.propagation.proofs.PropagateNodeLaws.{node-rank, node-passed, step-beside, step-ancestor}
+use Rattle.propagation.proofs.PropagateNodeLaws.{node-passed, step-beside, step-ancestor}
 use Rattle.propagation.proofs.propagate_node.Statement.{statement}
 use Rattle.propagation.proofs.propagate_node.Tie as tie
 
-mul-symbol-rank : tie.Need-mul-symbol-rank
-mul-symbol-rank c = search needs
+mul-node-arity : tie.Need-mul-node-arity
+mul-node-arity c = search needs
 
-shared-slice-read-symbol-rank : tie.Need-shared-slice-read-symbol-rank
-shared-slice-read-symbol-rank c = search needs
+shared-slice-read-node-arity : tie.Need-shared-slice-read-node-arity
+shared-slice-read-node-arity c = search needs
 
-symbol-rank-requires : tie.Need-symbol-rank-requires
-symbol-rank-requires c κs = search needs
+node-arity-requires : tie.Need-node-arity-requires
+node-arity-requires c κs =
+    let g = c .before .before .before .before .before .before .before .before .before .before .before .before .before .pre .at in
+    node-kind (g .workable .tree) _ (g .inside)
 
 push-node-requires : tie.Need-push-node-requires
 push-node-requires c κs =
     let k = c .before .before in
     node-pushable
     (k .before .before .before .before .before .before .before .before .before .before .before .before .before .before .pre .at)
-    _ (k .symbol-rank .ensures) _ (omega arith)
+    _ (k .node-arity .ensures) _ (omega arith)
 
 sub-t27 : tie.Need-sub-t27
 sub-t27 c = search needs
@@ -38,8 +41,8 @@ returns c =
     let g =
     c .before .before .before .before .before .before .before .before .before .before .before .before .before .before .before .before
     .before .before .before .pre .at in (
-      step-beside _ _ _ _ _ _ _ (node-rank g _ (k .symbol-rank .ensures)) (c .before .before .before .before .if1 .taken),
-      node-passed g _ (k .symbol-rank .ensures) (p .push-node .ensures .0) (p .push-node .ensures .1),
+      step-beside _ _ _ _ _ _ _ (k .node-arity .ensures) (c .before .before .before .before .if1 .taken),
+      node-passed g _ (k .node-arity .ensures) (p .push-node .ensures .0) (p .push-node .ensures .1),
     )
 
 recompute-requires : tie.Need-recompute-requires
@@ -88,10 +91,7 @@ returns-2 c =
     let r =
     c .before .before .before .before .before .before .before .before .before .before .before .before .before .before .before .before in (
       step-ancestor _ _ _ _ _ _ _
-          (node-rank
-          (c .before .before .before .before .before .before .before .before .before .before .before .before .before .before .before .before
-          .before .before .before .before .before .before .before .before .before .before .before .before .before .before .before .before
-          .before .before .before .before .before .before .before .before .pre .at) _ (k .symbol-rank .ensures))
+          (k .node-arity .ensures)
           (c .before .before .before .before .before .before .before .before .before .before .before .before .before .before .before .before
           .before .before .before .before .before .before .before .before .before .if1 .left) _ (r .recompute .ensures .0),
       r .recompute .ensures .1,
@@ -101,9 +101,9 @@ pub propagate-node-spec : {M : Type 1} → statement M
 propagate-node-spec =
     tie.close
     (tie.spec
-    mul-symbol-rank
-    shared-slice-read-symbol-rank
-    symbol-rank-requires
+    mul-node-arity
+    shared-slice-read-node-arity
+    node-arity-requires
     push-node-requires
     sub-t27
     add-t28

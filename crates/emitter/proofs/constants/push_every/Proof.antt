@@ -17,34 +17,31 @@ abbrev μ-loop : tie.MeasureT-loop
 loop-holds : tie.Need-loop-holds Inv-loop μ-loop
 loop-holds c = every-pushed-none _ _ _ _
 
+entry-state-requires : tie.Need-entry-state-requires Inv-loop μ-loop
+entry-state-requires c κs =
+    let p = c .before .before .before .before .pre in
+    let few = p .0 .few in
+    let h = c .loop-test .taken in
+    (p .1, omega arith)
+
 mul-push-transition : tie.Need-mul-push-transition Inv-loop μ-loop
 mul-push-transition c = search needs
 
 shared-slice-read-push-transition : tie.Need-shared-slice-read-push-transition Inv-loop μ-loop
 shared-slice-read-push-transition c = search needs
 
-add-push-transition : tie.Need-add-push-transition Inv-loop μ-loop
-add-push-transition c = search needs
-
-cast-push-transition : tie.Need-cast-push-transition Inv-loop μ-loop
-cast-push-transition c = search needs
-
-add-push-transition-2 : tie.Need-add-push-transition-2 Inv-loop μ-loop
-add-push-transition-2 c =
-    let few = c .before .before .before .before .before .before .pre .0 .few in
-    let low = c .before .before .before .before .before .before .pre .1 in
-    search needs
-
 push-transition-requires : tie.Need-push-transition-requires Inv-loop μ-loop
 push-transition-requires c κs =
-    let w = c .before .before .before .loop .inv in
-    let p = c .before .before .before .before .before .before .pre in
+    let s = c .before .before in
+    let t = s .before in
+    let w = t .before .loop .inv in
+    let p = t .before .before .before .before .pre in
     let few = p .0 .few in
     let fits = p .0 .fits in
     let low = p .1 in
-    let h = c .before .before .loop-test .taken in
+    let h = t .loop-test .taken in
     let n = words-written-next _ _ _ _ _ _ (w .written) in
-    (omega arith, (p .0 .symbols (c .before .before .before .loop .k) h, omega arith))
+    (omega arith, (p .0 .symbols (t .before .loop .k) h, omega (arith, s .entry-state .ensures)))
 
 add-k : tie.Need-add-k Inv-loop μ-loop
 add-k c = search needs
@@ -54,9 +51,10 @@ loop-less c = search needs
 
 loop-again : tie.Need-loop-again Inv-loop μ-loop
 loop-again c =
-    every-pushed-more (c .before .before .before .before .before .before .loop .inv) _ _
-    (c .before .before .before .before .before .loop-test .taken) (c .before .before .push-transition .kept .0)
-    (c .before .before .push-transition .ensures)
+    let p = c .before .before in
+    let s = p .before .before .before in
+    every-pushed-more (s .before .before .loop .inv) _ _ _ (s .entry-state .ensures) (s .before .loop-test .taken)
+    (p .push-transition .kept .0) (p .push-transition .ensures)
 
 same-length : tie.Need-same-length Inv-loop μ-loop
 same-length c = c .before .loop .inv .long
@@ -71,11 +69,9 @@ push-every-spec =
     Inv-loop
     μ-loop
     loop-holds
+    entry-state-requires
     mul-push-transition
     shared-slice-read-push-transition
-    add-push-transition
-    cast-push-transition
-    add-push-transition-2
     push-transition-requires
     add-k
     loop-less

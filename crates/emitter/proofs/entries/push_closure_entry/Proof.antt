@@ -1,6 +1,6 @@
 -- `emitter::entries::push_closure_entry` meets its contract: at c the exit stands behind the children's entries.
-use Prim.Native.Nat.{_+_}
 use borrow.Author.Needs.{needs}
+use Rattle.ports.specs.Ports.{entryState}
 use Rattle.emitter.proofs.ChildTargetLaws.{closure-here, closure-other}
 use Rattle.emitter.proofs.entries.push_closure_entry.Statement.{statement}
 use Rattle.emitter.proofs.entries.push_closure_entry.Tie as tie
@@ -14,14 +14,8 @@ mul-if1 c = search needs
 shared-slice-read-if1 : tie.Need-shared-slice-read-if1
 shared-slice-read-if1 c = search needs
 
-add-push-epsilon : tie.Need-add-push-epsilon
-add-push-epsilon c = search needs
-
-cast-push-epsilon : tie.Need-cast-push-epsilon
-cast-push-epsilon c = search needs
-
-add-push-epsilon-2 : tie.Need-add-push-epsilon-2
-add-push-epsilon-2 c = search needs
+entry-state-requires : tie.Need-entry-state-requires
+entry-state-requires c κs = search needs
 
 push-epsilon-requires : tie.Need-push-epsilon-requires
 push-epsilon-requires c κs = search needs
@@ -31,12 +25,12 @@ same-length c = search needs
 
 returns : tie.Need-returns
 returns c =
-    let start = c .before .before .before .before .before .before .before .before .before .before .before .before .before in
+    let p = c .before .before in
+    let i = p .before .before .before in
+    let start = i .before .before .before .before .before .before .before .before .before in
     let a = start .args in
-    closure-here (a .constants .now) (a .ports .now) (a .exit + 1 + a .k) _ _ _ _ _ _ (start .pre .1 .1) (a .exit) _ _
-    (c .before .before .before .before .if1 .taken)
-    (c .before .before .before .before .before .before .before .before .push-to-children .ensures)
-    (c .before .before .push-epsilon .ensures)
+    closure-here (a .constants .now) (a .ports .now) (entryState (a .exit) (a .k)) _ _ _ _ _ _ (start .pre .1 .1) (a .exit) _ _
+    (i .if1 .taken) (i .before .before .before .before .push-to-children .ensures) (p .before .entry-state .ensures) (p .push-epsilon .ensures)
 
 same-length-2 : tie.Need-same-length-2
 same-length-2 c = search needs
@@ -45,7 +39,7 @@ returns-2 : tie.Need-returns-2
 returns-2 c =
     let start = c .before .before .before .before .before .before .before .before .before in
     let a = start .args in
-    closure-other (a .constants .now) (a .ports .now) (a .exit + 1 + a .k) _ _ _ _ _ _ (start .pre .1 .1) (a .exit) (c .if1 .left)
+    closure-other (a .constants .now) (a .ports .now) (entryState (a .exit) (a .k)) _ _ _ _ _ _ (start .pre .1 .1) (a .exit) (c .if1 .left)
     (c .before .before .before .before .push-to-children .ensures)
 
 pub push-closure-entry-spec : {M : Type 1} → statement M
@@ -55,9 +49,7 @@ push-closure-entry-spec =
     push-to-children-requires
     mul-if1
     shared-slice-read-if1
-    add-push-epsilon
-    cast-push-epsilon
-    add-push-epsilon-2
+    entry-state-requires
     push-epsilon-requires
     same-length
     returns

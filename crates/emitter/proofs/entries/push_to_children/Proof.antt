@@ -1,5 +1,5 @@
 -- `emitter::entries::push_to_children` meets its contract: before each turn the transitions to the first i children are written.
-use Prim.Native.Nat.{_+_, _-_}
+use Prim.Native.Nat.{_-_}
 use native.Mathlib.Omega.{arith}
 use lib.ListN.{length, getD}
 use borrow.Author.Needs.{needs}
@@ -10,19 +10,13 @@ use Rattle.emitter.proofs.entries.push_to_children.Tie as tie
 
 abbrev Inv-loop : tie.InvT-loop
 Inv-loop constants ports out₀ at exit k from next₀ i₀ out next i =
-    ToChildren constants ports (exit + 1 + k) (getD constants k 0) at out₀ out next i
+    ToChildren constants ports from (getD constants k 0) at out₀ out next i
 
 abbrev μ-loop : tie.MeasureT-loop
 μ-loop constants ports out₀ at exit k from next₀ i₀ out next i = length ports - i
 
-add-from : tie.Need-add-from Inv-loop μ-loop
-add-from c = search needs
-
-cast-from : tie.Need-cast-from Inv-loop μ-loop
-cast-from c = search needs
-
-add-from-2 : tie.Need-add-from-2 Inv-loop μ-loop
-add-from-2 c = search needs
+entry-state-requires : tie.Need-entry-state-requires Inv-loop μ-loop
+entry-state-requires c κs = search needs
 
 loop-holds : tie.Need-loop-holds Inv-loop μ-loop
 loop-holds c = children-none _ _ _ _ _ _
@@ -35,20 +29,21 @@ shared-slice-read-entry-at c = search needs
 
 entry-at-requires : tie.Need-entry-at-requires Inv-loop μ-loop
 entry-at-requires c κs =
-    let p = c .before .before .before .before .before .before .pre in
+    let p = c .before .before .before .before .before .before .before .pre in
     (p .0 .once, (p .1, p .0 .few))
 
 push-to-requires : tie.Need-push-to-requires Inv-loop μ-loop
 push-to-requires c κs =
     let w = c .before .before .before .before .loop .inv in
-    let p = c .before .before .before .before .before .before .before .before .pre in
+    let s = c .before .before .before .before .before in
+    let p = s .before .before .before .before .pre in
     let few = p .0 .few in
     let low = p .0 .low in
     let fits = p .0 .fits in
     let children = p .0 .children in
     let n = words-written-next _ _ _ _ _ _ (w .written) in
     let t = c .before .before .before .loop-test .taken in
-    (omega arith, (omega arith, c .before .entry-at .ensures .low))
+    (omega arith, (omega (arith, s .entry-state .ensures), c .before .entry-at .ensures .low))
 
 add-i : tie.Need-add-i Inv-loop μ-loop
 add-i c = search needs
@@ -66,7 +61,9 @@ same-length : tie.Need-same-length Inv-loop μ-loop
 same-length c = c .before .loop .inv .long
 
 returns : tie.Need-returns Inv-loop μ-loop
-returns c = children-end (c .before .loop .inv) (c .loop-test .left) (c .before .before .before .before .before .pre .0 .children)
+returns c =
+    let s = c .before .before in
+    rw (s .entry-state .ensures) at (children-end (c .before .loop .inv) (c .loop-test .left) (s .before .before .before .before .pre .0 .children))
 
 pub push-to-children-spec : {M : Type 1} → statement M
 push-to-children-spec =
@@ -74,9 +71,7 @@ push-to-children-spec =
     (tie.spec
     Inv-loop
     μ-loop
-    add-from
-    cast-from
-    add-from-2
+    entry-state-requires
     loop-holds
     mul-entry-at
     shared-slice-read-entry-at

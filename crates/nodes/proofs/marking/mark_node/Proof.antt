@@ -1,14 +1,15 @@
 -- `nodes::marking::mark_node` meets its contract: the last of the four words that are lent represent the children.
 use native.Mathlib.Omega.{arith}
 use borrow.Author.Needs.{needs}
+use Rattle.nodes.proofs.WorkableLaws.{node-kind}
 use Rattle.nodes.proofs.NodeLaws.{node-height, node-few, node-pushable, node-next, node-words, node-kept}
 use Rattle.nodes.proofs.marking.mark_node.Statement.{statement}
 use Rattle.nodes.proofs.marking.mark_node.Tie as tie
 
-abbrev start : tie.After-symbol-rank → tie.Start
+abbrev start : tie.After-node-arity → tie.Start
 start n = n .before .before .before .before .before .before .before .before .before .before .before .before .before .before
 
-abbrev ranked : tie.After-mark-next → tie.After-symbol-rank
+abbrev ranked : tie.After-mark-next → tie.After-node-arity
 ranked m = m .before .before .before .before .before .before .before .before .before .before
 
 mul-w : tie.Need-mul-w
@@ -17,14 +18,16 @@ mul-w c = search needs
 shared-slice-read-w : tie.Need-shared-slice-read-w
 shared-slice-read-w c = search needs
 
-symbol-rank-requires : tie.Need-symbol-rank-requires
-symbol-rank-requires c κs = search needs
+node-arity-requires : tie.Need-node-arity-requires
+node-arity-requires c κs =
+    let g = c .before .before .before .before .before .before .before .before .before .before .before .before .before .pre in
+    node-kind (g .workable .tree) _ (g .inside)
 
 sub-mark-next : tie.Need-sub-mark-next
 sub-mark-next c = search needs
 
 mul-mark-next : tie.Need-mul-mark-next
-mul-mark-next c = let n = c .before in let l = node-few (start n .pre) _ (n .symbol-rank .ensures) in omega arith
+mul-mark-next c = let n = c .before in let l = node-few (start n .pre) _ (n .node-arity .ensures) in omega arith
 
 sub-mark-next-2 : tie.Need-sub-mark-next-2
 sub-mark-next-2 c = search needs
@@ -33,17 +36,17 @@ part-mark-next-start : tie.Need-part-mark-next-start
 part-mark-next-start c = search needs
 
 part-mark-next-end : tie.Need-part-mark-next-end
-part-mark-next-end c = let n = c .before .before in let l = node-height (start n .pre) _ (n .symbol-rank .ensures) in omega arith
+part-mark-next-end c = let n = c .before .before in let l = node-height (start n .pre) _ (n .node-arity .ensures) in omega arith
 
 mark-next-requires : tie.Need-mark-next-requires
 mark-next-requires c κs =
     let n = c .before .before .before .before .before .before .before .before .before in
-    node-next (start n .pre) _ (n .symbol-rank .ensures)
+    node-next (start n .pre) _ (n .node-arity .ensures)
 
 push-node-requires : tie.Need-push-node-requires
 push-node-requires c κs =
     let m = c .before .before .before .before .before .before .before .before .before .before .before .before .before .before .before in
-    let n = ranked m in node-pushable (start n .pre) _ (n .symbol-rank .ensures) _ (m .mark-next .ensures .new .low)
+    let n = ranked m in node-pushable (start n .pre) _ (n .node-arity .ensures) _ (m .mark-next .ensures .new .low)
 
 same-length : tie.Need-same-length
 same-length c = search needs
@@ -75,8 +78,8 @@ returns c =
     let m =
     p .before .before .before .before .before .before .before .before .before .before .before .before .before .before .before .before in
     let n = ranked m in (
-      node-words (start n .pre) _ (n .symbol-rank .ensures) (m .mark-next .ensures),
-      node-kept (start n .pre) _ (n .symbol-rank .ensures) (m .mark-next .ensures) (p .push-node .ensures .0) (p .push-node .ensures .1),
+      node-words (start n .pre) _ (n .node-arity .ensures) (m .mark-next .ensures),
+      node-kept (start n .pre) _ (n .node-arity .ensures) (m .mark-next .ensures) (p .push-node .ensures .0) (p .push-node .ensures .1),
     )
 
 pub mark-node-spec : {M : Type 1} → statement M
@@ -85,7 +88,7 @@ mark-node-spec =
     (tie.spec
     mul-w
     shared-slice-read-w
-    symbol-rank-requires
+    node-arity-requires
     sub-mark-next
     mul-mark-next
     sub-mark-next-2

@@ -4,6 +4,7 @@ use Prim.Native.Nat.{_-_, _<_}
 use lib.ListN.{length}
 use native.Mathlib.Omega.{arith}
 use borrow.Author.Needs.{needs}
+use Rattle.nodes.proofs.WorkableLaws.{node-kind}
 use Rattle.nodes.proofs.RootStackLaws.{Stacking, stacking-none, stacking-pushable, stacking-more, stacking-end}
 use Rattle.nodes.proofs.stack.stack_nodes.Statement.{statement}
 use Rattle.nodes.proofs.stack.stack_nodes.Tie as tie
@@ -23,19 +24,19 @@ inside t = omega (arith, t .loop-test .taken, start t .pre .within)
 loop-holds : tie.Need-loop-holds Inv-loop μ-loop
 loop-holds c = stacking-none (c .before .before .before .pre)
 
-mul-symbol-rank : tie.Need-mul-symbol-rank Inv-loop μ-loop
-mul-symbol-rank c = omega (arith, inside c)
+mul-node-arity : tie.Need-mul-node-arity Inv-loop μ-loop
+mul-node-arity c = omega (arith, inside c)
 
-shared-slice-read-symbol-rank : tie.Need-shared-slice-read-symbol-rank Inv-loop μ-loop
-shared-slice-read-symbol-rank c = inside (c .before)
+shared-slice-read-node-arity : tie.Need-shared-slice-read-node-arity Inv-loop μ-loop
+shared-slice-read-node-arity c = inside (c .before)
 
-symbol-rank-requires : tie.Need-symbol-rank-requires Inv-loop μ-loop
-symbol-rank-requires c κs = search needs
+node-arity-requires : tie.Need-node-arity-requires Inv-loop μ-loop
+node-arity-requires c κs = let t = c .before in node-kind (start t .pre .tree) _ (inside t)
 
 push-node-requires : tie.Need-push-node-requires Inv-loop μ-loop
 push-node-requires c κs =
     let t = c .before .before .before in
-    stacking-pushable (start t .pre) (t .before .loop .inv) (t .loop-test .taken) _ (c .before .symbol-rank .ensures)
+    stacking-pushable (start t .pre) (t .before .loop .inv) (t .loop-test .taken) _ (c .before .node-arity .ensures)
 
 add-i : tie.Need-add-i Inv-loop μ-loop
 add-i c = search needs
@@ -47,7 +48,7 @@ loop-again : tie.Need-loop-again Inv-loop μ-loop
 loop-again c =
     let p = c .before .before in
     let t = p .before .before .before .before in
-    stacking-more (start t .pre) (t .before .loop .inv) (t .loop-test .taken) _ (p .before .before .symbol-rank .ensures) _ _
+    stacking-more (start t .pre) (t .before .loop .inv) (t .loop-test .taken) _ (p .before .before .node-arity .ensures) _ _
     (p .push-node .ensures .0) (p .push-node .ensures .1)
 
 same-length : tie.Need-same-length Inv-loop μ-loop
@@ -63,9 +64,9 @@ stack-nodes-spec =
     Inv-loop
     μ-loop
     loop-holds
-    mul-symbol-rank
-    shared-slice-read-symbol-rank
-    symbol-rank-requires
+    mul-node-arity
+    shared-slice-read-node-arity
+    node-arity-requires
     push-node-requires
     add-i
     loop-less

@@ -7,23 +7,21 @@ use Rattle.ports.proofs.port.entry_at.Tie as tie
 exit-of-requires : tie.Need-exit-of-requires
 exit-of-requires c κs = search needs
 
-add-t7 : tie.Need-add-t7
-add-t7 c = search needs
+code-of-requires : tie.Need-code-of-requires
+code-of-requires c κs = search needs
 
-cast-t8 : tie.Need-cast-t8
-cast-t8 c = search needs
-
-add-t9 : tie.Need-add-t9
-add-t9 c = search needs
+entry-state-requires : tie.Need-entry-state-requires
+entry-state-requires c κs = search needs
 
 returns : tie.Need-returns
 returns c =
-    let p = c .before .before .before .pre in
-    let x = c .before .exit-of .ensures in
-    entry-every _ _ _ _ (x .0) (x .1) (p .0) (p .1 .0) (p .1 .1) (c .if1 .taken)
+    let t = c .before .before in
+    let p = t .before .before .before .pre in
+    let x = t .before .exit-of .ensures in
+    entry-every _ _ _ _ _ (x .0) (t .code-of .ensures) (x .1) (p .0) (p .1 .0) (p .1 .1) (c .before .if1 .taken) (c .entry-state .ensures)
 
 returns-2 : tie.Need-returns-2
-returns-2 c = entry-none _ _ _ (c .if2 .taken)
+returns-2 c = entry-none _ _ _ _ (c .before .before .code-of .ensures) (c .if2 .taken)
 
 mul-if3 : tie.Need-mul-if3
 mul-if3 c = search needs
@@ -33,20 +31,23 @@ shared-slice-read-if3 c = search needs
 
 returns-3 : tie.Need-returns-3
 returns-3 c =
-    let x = c .before .before .before .before .exit-of .ensures in
-    entry-own _ _ _ _ (x .0) (x .1) (c .before .before .before .if1 .left) (c .before .before .if2 .left) (c .if3 .taken)
+    let t = c .before .before .before .before in
+    let x = t .before .exit-of .ensures in
+    entry-own _ _ _ _ _ (x .0) (t .code-of .ensures) (x .1) (c .before .before .before .if1 .left) (c .before .before .if2 .left)
+    (c .if3 .taken)
 
 returns-4 : tie.Need-returns-4
-returns-4 c = entry-other _ _ _ (c .before .before .before .if1 .left) (c .before .before .if2 .left) (c .if3 .left)
+returns-4 c =
+    let i = c .before .before .before in
+    entry-other _ _ _ _ (i .before .code-of .ensures) (i .if1 .left) (c .before .before .if2 .left) (c .if3 .left)
 
 pub entry-at-spec : {M : Type 1} → statement M
 entry-at-spec =
     tie.close
     (tie.spec
     exit-of-requires
-    add-t7
-    cast-t8
-    add-t9
+    code-of-requires
+    entry-state-requires
     returns
     returns-2
     mul-if3

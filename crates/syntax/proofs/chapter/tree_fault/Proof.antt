@@ -7,6 +7,7 @@ use borrow.Author.Needs.{needs}
 use borrow.Author.Tests.{not-true, not-false}
 use Rattle.words.specs.Chapter.{treeRefusals}
 use Rattle.words.proofs.RefusalLaws.{found-refusal}
+use Rattle.words.proofs.WordLaws.{isNode-facts}
 use Rattle.syntax.proofs.ChapterLaws.{ChapterJudged, judged-none, judged-no-node, judged-lacks}
 use Rattle.syntax.proofs.ChapterLaws.{judged-later, judged-more, judged-one, judged-not-one}
 use Rattle.syntax.proofs.chapter.tree_fault.Statement.{statement}
@@ -36,8 +37,8 @@ returns c =
     found-refusal (treeRefusals _ _)
     (judged-no-node (t .before .loop .inv) (t .loop-test .taken) (sym (c .before .is-node .ensures) ∙ not-true _ (c .if1 .taken)))
 
-symbol-rank-requires : tie.Need-symbol-rank-requires Inv-loop μ-loop
-symbol-rank-requires c κs = search needs
+node-arity-requires : tie.Need-node-arity-requires Inv-loop μ-loop
+node-arity-requires c κs = isNode-facts _ _ (sym (c .before .is-node .ensures) ∙ not-false _ (c .if1 .left)) .kind
 
 mul-nodes-only : tie.Need-mul-nodes-only Inv-loop μ-loop
 mul-nodes-only c = search needs
@@ -66,7 +67,7 @@ returns-3 c =
     let t = n .before .before .before in
     found-refusal (treeRefusals _ _)
     (judged-lacks (t .before .loop .inv) (t .loop-test .taken) (sym (n .before .is-node .ensures) ∙ not-false _ (n .if1 .left)) _
-    (l .before .symbol-rank .ensures) (l .if2 .taken) _ (c .before .nodes-only .ensures) (not-false _ (c .if3 .left)))
+    (l .before .node-arity .ensures) (l .if2 .taken) _ (c .before .nodes-only .ensures) (not-false _ (c .if3 .left)))
 
 add-made : tie.Need-add-made Inv-loop μ-loop
 add-made c = search needs
@@ -82,7 +83,7 @@ loop-again c =
     let n = c .before .before in
     let t = n .before .before .before in
     judged-more (t .before .loop .inv) (t .loop-test .taken) (sym (n .before .is-node .ensures) ∙ not-false _ (n .if1 .left)) _
-    (c .before .symbol-rank .ensures) (c .if2 .left)
+    (c .before .node-arity .ensures) (c .if2 .left)
 
 returns-4 : tie.Need-returns-4 Inv-loop μ-loop
 returns-4 c =
@@ -103,7 +104,7 @@ tree-fault-spec =
     shared-slice-read-w
     is-node-requires
     returns
-    symbol-rank-requires
+    node-arity-requires
     mul-nodes-only
     sub-nodes-only
     part-nodes-only-start

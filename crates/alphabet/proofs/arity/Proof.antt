@@ -1,4 +1,4 @@
--- `syntax::postfix::arity` meets its contract: each case has the arity of its kind, and no kind that is left takes children.
+-- `alphabet::arity` meets its contract: each case has the arity of its kind, and no kind that is left takes children.
 use mathlib.Core.Path.{_≡_, refl, sym, _∙_}
 use mathlib.Core.List.{List, [], _∷_}
 use Prim.Native.Nat.{ℕ}
@@ -13,8 +13,8 @@ use Rattle.words.specs.Alphabet.{rankOf}
 use Rattle.words.specs.Postfix.{arityAt, arity}
 use Rattle.words.proofs.DecodedLaws.{Left, left-all, told-kind}
 use Rattle.words.proofs.WordLaws.{arity-kind}
-use Rattle.syntax.proofs.postfix.arity.Statement.{statement}
-use Rattle.syntax.proofs.postfix.arity.Tie as tie
+use Rattle.alphabet.proofs.arity.Statement.{statement}
+use Rattle.alphabet.proofs.arity.Tie as tie
 
 none-taken : (a : List ℕ) (w : ℕ) (k : Case) → kindIn k ≡ kindOf w → Left (Symbol ∷ Union ∷ Product ∷ Closure ∷ Node ∷ []) k → arity a w ≡ 0
 none-taken a w k decoded left =
@@ -44,8 +44,8 @@ enum-told-4 c = search needs
 enum-told-5 : tie.Need-enum-told-5
 enum-told-5 c = search needs
 
-symbol-rank-requires-2 : tie.Need-symbol-rank-requires-2
-symbol-rank-requires-2 c κs = search needs
+node-arity-requires : tie.Need-node-arity-requires
+node-arity-requires c κs = told-kind _ _ (c .before .before .kind-of .ensures) _ (c .enum-told5 .given .1)
 
 returns : tie.Need-returns
 returns c =
@@ -62,9 +62,7 @@ returns-4 : tie.Need-returns-4
 returns-4 c = sym (arity-kind _ _ _ (told-kind _ _ (c .before .before .kind-of .ensures) _ (c .enum-told4 .given .1)))
 
 returns-5 : tie.Need-returns-5
-returns-5 c =
-    let t = c .before in
-    c .symbol-rank2 .ensures ∙ sym (arity-kind _ _ _ (told-kind _ _ (t .before .before .kind-of .ensures) _ (t .enum-told5 .given .1)))
+returns-5 c = c .node-arity .ensures
 
 returns-6 : tie.Need-returns-6
 returns-6 c = sym (none-taken _ _ (c .before .kind-of .result) (c .before .kind-of .ensures) (c .match .keys6))
@@ -80,7 +78,7 @@ arity-spec =
     enum-told-3
     enum-told-4
     enum-told-5
-    symbol-rank-requires-2
+    node-arity-requires
     returns
     returns-2
     returns-3
