@@ -12,10 +12,10 @@ use Rattle.words.proofs.PostfixLaws.{start-le, splice-count}
 use Rattle.operations.specs.Marks.{sizeOf, refit}
 use Rattle.operations.specs.ExchangeCall.{ExchangeCall}
 use Rattle.operations.specs.Exchange.{used, fault, newTree}
-use Rattle.operations.proofs.AcceptedLaws.{CallAccepted, call-accepted}
+use Rattle.operations.proofs.AcceptedLaws.{CallAccepted, accepted-run, call-accepted}
 use Rattle.operations.proofs.ResultLaws.{result-accepted}
 use Rattle.nodes.specs.Nodes.{Workable}
-use Rattle.nodes.proofs.WorkableLaws.{workable-long, run-workable}
+use Rattle.nodes.proofs.WorkableLaws.{workable-long}
 use Rattle.exchanger.specs.Tail.{TailMovable}
 
 split-words : (i k size : ℕ) → (i + 1 + k) * size ≡ i * size + size + k * size
@@ -110,6 +110,9 @@ module _ (c : ExchangeCall) (ok : fault c ≡ 0) where
   unfolding newTree
   result-workable marks l =
       workable-long l
-      (run-workable
-      (result-accepted (c .alphabet) (c .table) (used c) (length (c .chapter)) (length (c .marks)) (c .element) (c .replacement)
-      (rw length-used g)))
+      (record {
+        accepted =
+            accepted-run (c .alphabet) (c .table) _ (length (c .marks))
+            (result-accepted (c .alphabet) (c .table) (used c) (length (c .chapter)) (length (c .marks)) (c .element) (c .replacement)
+            (rw length-used g));
+      })

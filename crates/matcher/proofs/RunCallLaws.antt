@@ -15,7 +15,6 @@ use Rattle.words.proofs.AnswerLaws.{answer-refused, answer-accepted, exit-refus
 use Rattle.automaton.specs.StateSet.{StateSet}
 use Rattle.operations.specs.Marks.{sizeOf, nodeSet, nodeSets, storedSet}
 use Rattle.operations.specs.Run.{runFault, runMarks, cellsIn, runAnswer, runExit}
-use Rattle.operations.proofs.AcceptedLaws.{run-accepted}
 use Rattle.operations.proofs.RunLaws.{run-writes, run-length}
 use Rattle.sets.specs.Size.{marksMost}
 use Rattle.sets.proofs.SizeLaws.{words-few}
@@ -23,7 +22,7 @@ use Rattle.nodes.specs.Nodes.{markedFrom, Workable}
 use Rattle.nodes.proofs.LoopLaws.{Recomputing}
 use Rattle.nodes.proofs.MarkedSets.{markedSets, markedSets-recomputing}
 use Rattle.nodes.proofs.MarkLaws.{holding-stored, markedFrom-rows}
-use Rattle.nodes.proofs.WorkableLaws.{workable-size, run-workable}
+use Rattle.nodes.proofs.WorkableLaws.{workable-size, bounded-tree, marks-fit}
 use Rattle.propagation.specs.Propagation.{propagateFrom}
 use Rattle.updates.specs.Updating.{updatedFrom, Updatable}
 
@@ -64,18 +63,18 @@ marked-run a table ch marks h =
 
 module _ (a table ch marks : List ℕ) (h : runFault a table ch (length marks) ≡ 0) where
   pub workable : Workable a table ch (length marks)
-  workable = run-workable (run-accepted a table ch (length marks) h)
+  workable = record { accepted = h }
 
   module _ (marks′ : List ℕ) (count : ℕ) (e : (marks′, count) ≡ updatedFrom a table ch 0 (length ch) marks) where
     pub run-left : marks′ ≡ runMarks a table ch marks
-    run-left = tree-marked a table ch marks marks′ count e ∙ marked-run a table ch marks (workable .marks-fit)
+    run-left = tree-marked a table ch marks marks′ count e ∙ marked-run a table ch marks (marks-fit workable)
 
     module _ (size : ℕ) (s : size ≡ sizeOf table) where
       pub run-fits : length ch * size ≤ length marks′
-      run-fits = rw (run-left, run-length a table ch marks (workable .marks-fit), s) (workable .marks-fit)
+      run-fits = rw (run-left, run-length a table ch marks (marks-fit workable), s) (marks-fit workable)
 
       pub run-few : length ch * size ≤ marksMost
-      run-few = words-few (length ch) size (workable .tree .few) (rw s (workable-size workable))
+      run-few = words-few (length ch) size (bounded-tree workable .few) (rw s (workable-size workable))
 
       pub run-part : length (take (length ch * size) marks′) ≡ length ch * size
       run-part = length-take-le (length ch * size) marks′ run-fits

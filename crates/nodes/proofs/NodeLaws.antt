@@ -26,7 +26,7 @@ use Rattle.memo.proofs.NodeWritingLaws.{length-setOver}
 use Rattle.memo.proofs.MemoLaws.{stored-kept}
 use Rattle.nodes.specs.Nodes.{Pushable, setFrom, markedAt, BoundedTree, stackBase, stackLength}
 use Rattle.nodes.specs.Marking.{NodeMarkable, Maintained}
-use Rattle.nodes.proofs.WorkableLaws.{node-rank}
+use Rattle.nodes.proofs.WorkableLaws.{node-rank, bounded-tree, ranks-most, alphabet-few, table-checked, marks-fit}
 use Rattle.nodes.proofs.RootStackLaws.{nodes-fit, stack-height, stack-pushable, represented-more}
 
 module _ {a table index ch : List ℕ} {i : ℕ} {marks array : List ℕ} {height : ℕ} {keys known places owners rows pending : List ℕ}
@@ -42,7 +42,7 @@ module _ {a table index ch : List ℕ} {i : ℕ} {marks array : List ℕ} {heigh
   roots = rootsOf a ch i
 
   tree : BoundedTree a ch
-  tree = g .workable .tree
+  tree = bounded-tree (g .workable)
 
   abbrev nodes : List ℕ
   nodes = g .maintained .represented .nodes
@@ -51,22 +51,22 @@ module _ {a table index ch : List ℕ} {i : ℕ} {marks array : List ℕ} {heigh
   stored = storedSet (sizeOf table) marks
 
   few : i < nodesMost
-  few = let h = g .inside in omega (arith, g .workable .tree .few)
+  few = let h = g .inside in omega (arith, bounded-tree (g .workable) .few)
 
   rank-is : r ≡ rankOf a (symbolOf (getD ch i 0))
-  rank-is = e ∙ node-rank (g .workable .tree) i (g .inside)
+  rank-is = e ∙ node-rank (bounded-tree (g .workable)) i (g .inside)
 
   node-low : stackBase ≤ height
   node-low = omega (arith, g .maintained .represented .held .height-is)
 
   pub node-height : height < length array
-  node-height = stack-height (g .maintained .represented) (g .workable .tree) (g .inside) r e
+  node-height = stack-height (g .maintained .represented) (bounded-tree (g .workable)) (g .inside) r e
 
   pub node-few : height ≤ stackLength
   node-few = let m = node-height in omega (arith, g .maintained .represented .long)
 
   pub node-pushable : (node : ℕ) → node < i + 1 → Pushable array height r node
-  node-pushable = stack-pushable (g .maintained .represented) (g .workable .tree) (g .inside) r e
+  node-pushable = stack-pushable (g .maintained .represented) (bounded-tree (g .workable)) (g .inside) r e
 
   -- the four words on top of the stack
   abbrev four : List ℕ
@@ -91,13 +91,13 @@ module _ {a table index ch : List ℕ} {i : ℕ} {marks array : List ℕ} {heigh
       (below-more i nodesMost (omega arith) nodes (g .maintained .represented .below))))
 
   fits : r ≤ length (g .maintained .represented .nodes)
-  fits = nodes-fit (g .maintained .represented) (g .workable .tree) (g .inside) r e
+  fits = nodes-fit (g .maintained .represented) (bounded-tree (g .workable)) (g .inside) r e
 
   -- the last r of them represent the node's children
   part-place : height - stackBase + (rankMost - r) ≡ stackBase + (length (g .maintained .represented .nodes) - r)
   part-place =
       let f = fits in
-      let most = g .workable .ranks (symbolOf w) in
+      let most = ranks-most (g .workable) (symbolOf w) in
       omega (arith, g .maintained .represented .held .height-is, rank-is)
 
   part-is : drop (rankMost - r) four ≡ drop (length (g .maintained .represented .nodes) - r) (g .maintained .represented .nodes)
@@ -127,15 +127,15 @@ module _ {a table index ch : List ℕ} {i : ℕ} {marks array : List ℕ} {heigh
   rows-inside k l =
       let h = g .inside in
       row-inside (getD (drop (rankMost - r) four) k 0) (length ch) (sizeOf table) (length marks)
-      (omega (arith, each-getD (λ x. x < i) 0 (drop (rankMost - r) four) k part-below l)) (g .workable .marks-fit)
+      (omega (arith, each-getD (λ x. x < i) 0 (drop (rankMost - r) four) k part-below l)) (marks-fit (g .workable))
 
   row : i * sizeOf table + sizeOf table ≤ length marks
-  row = row-inside i (length ch) (sizeOf table) (length marks) (g .inside) (g .workable .marks-fit)
+  row = row-inside i (length ch) (sizeOf table) (length marks) (g .inside) (marks-fit (g .workable))
 
   steppable : NodeSteppable table index (symbolOf (getD ch i 0)) marks (drop (rankMost - r) four)
   steppable =
       record {
-        indexed = record { alphabet = a; short = g .workable .alphabet; checked = g .workable .checked; indexed = g .indexed };
+        indexed = record { alphabet = a; short = alphabet-few (g .workable); checked = table-checked (g .workable); indexed = g .indexed };
         symbol-below = omega arith;
         rank = sym rank-is ∙ sym part-length;
         rows = rows-inside;
@@ -157,7 +157,7 @@ module _ {a table index ch : List ℕ} {i : ℕ} {marks array : List ℕ} {heigh
         };
         keyable = record {
           symbol = omega arith;
-          nodes = record { length-is = four-length; below = four-below; few = omega (arith, rank-is, g .workable .ranks (symbolOf w)) };
+          nodes = record { length-is = four-length; below = four-below; few = omega (arith, rank-is, ranks-most (g .workable) (symbolOf w)) };
         };
         below = part-below;
         remembered = k;
@@ -183,7 +183,7 @@ module _ {a table index ch : List ℕ} {i : ℕ} {marks array : List ℕ} {heigh
     node-kept p q =
         let long = length-setOver table (symbolOf w) marks (drop (rankMost - r) four) in
         rw (p, q) (record {
-          represented = represented-more (g .maintained .represented) (g .workable .tree) (g .inside) r e node (n .new .low) marks′
+          represented = represented-more (g .maintained .represented) (bounded-tree (g .workable)) (g .inside) r e node (n .new .low) marks′
               (stored-kept table marks i v long row marks′ (n .new .words))
               (ap (λ (m : List ℕ). storedSet size m i) (n .new .words) ∙ stored-written size marks i v long row ∙ sym (n .new .same));
           remembered = n .remembered;

@@ -8,6 +8,7 @@ use lib.ListN.{length, getD, take, drop, set, replicate, length-append, length-d
 use lib.Seq.{length-take-le, take-take, take-suc-set, take-append-add}
 use Rattle.words.specs.Shape.{stackGivenBy}
 use Rattle.words.specs.Postfix.{arity, rootsOf}
+use Rattle.words.proofs.AcceptedTree.{tree-accepted}
 use Rattle.words.proofs.ListLaws.{map-append, map-take, take-reverse}
 use Rattle.words.proofs.ChildLaws.{roots-more, roots-below, arity-fits, roots-few}
 use Rattle.words.proofs.AllLaws.{map-below, below-more, each-append, each-take, each-reverse}
@@ -37,7 +38,7 @@ module _ (a ch : List ℕ) (tree : BoundedTree a ch) (i : ℕ) (inside : i < len
     (e : r ≡ arity a (getD ch i 0)) where
   -- no node lacks children
   children-fit : r ≤ length (rootsOf a ch i)
-  children-fit = omega (arith, e, arity-fits (arity a) ch i (tree .tree) inside)
+  children-fit = omega (arith, e, arity-fits (arity a) ch i (tree-accepted a ch (tree .accepted) .shape) inside)
 
   -- node i in the place of its children
   roots-next : rootsOf a ch (i + 1) ≡ i ∷ drop r (rootsOf a ch i)

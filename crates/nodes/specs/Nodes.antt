@@ -2,18 +2,15 @@
 -- definitions serve inner functions.
 use Prim.Native.Nat.{ℕ, zero, suc, _+_, _*_, _<_, _≤_}
 use mathlib.Core.Path.{_≡_}
-use mathlib.Core.Bool.{true}
 use mathlib.Core.List.{List, _++_}
 use lib.ListN.{length, getD, take, replicate}
 use lib.Seq.{paste}
-use Rattle.words.specs.Limits.{alphabetMost, rankMost, nodesMost}
-use Rattle.words.specs.Alphabet.{rankOf}
-use Rattle.words.specs.Lists.{all}
-use Rattle.words.specs.Chapter.{isNode, symbolOf}
-use Rattle.words.specs.Postfix.{oneTree, childrenOf}
-use Rattle.automaton.specs.Table.{isTable}
+use Rattle.words.specs.Limits.{rankMost, nodesMost}
+use Rattle.words.specs.Chapter.{symbolOf, treeFault}
+use Rattle.words.specs.Postfix.{childrenOf}
 use Rattle.automaton.specs.StateSet.{StateSet}
 use Rattle.operations.specs.Marks.{sizeOf}
+use Rattle.operations.specs.Run.{runFault}
 use Rattle.memo.specs.Memo.{setOver}
 
 -- ---- the marks
@@ -55,8 +52,7 @@ pub record Pushable (array : List ℕ) (height children node : ℕ) : Type 0 whe
 
 -- a tree over the alphabet, of no more nodes than a chapter may have
 pub record BoundedTree (a ch : List ℕ) : Type 0 where
-  pub nodes : all (isNode a) ch ≡ true
-  pub tree : oneTree a ch ≡ true
+  pub accepted : treeFault a ch ≡ 0
   pub few : length ch ≤ nodesMost
 
 -- what filling the stack with the roots of the first `count` nodes asks
@@ -68,10 +64,6 @@ pub record Stackable (a ch : List ℕ) (count : ℕ) (array : List ℕ) : Type 0
 
 -- ---- what working out nodes asks
 
--- a tree over the alphabet and a table for it; the marks slice has room for its state sets; no symbol has too high a rank
+-- Run accepts them: a tree over the alphabet and a table for it, with room for its state sets in the marks slice
 pub record Workable (a table ch : List ℕ) (marksLength : ℕ) : Type 0 where
-  pub alphabet : length a ≤ alphabetMost
-  pub ranks : (f : ℕ) → rankOf a f ≤ rankMost
-  pub checked : isTable a table ≡ true
-  pub tree : BoundedTree a ch
-  pub marks-fit : length ch * sizeOf table ≤ marksLength
+  pub accepted : runFault a table ch marksLength ≡ 0

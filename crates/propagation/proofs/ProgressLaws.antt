@@ -8,7 +8,7 @@ use native.Mathlib.Omega.{arith}
 use native.Mathlib.Numerals.{add-one}
 use lib.ListN.{length}
 use Rattle.nodes.specs.Marking.{Maintained}
-use Rattle.nodes.proofs.WorkableLaws.{workable-long}
+use Rattle.nodes.proofs.WorkableLaws.{workable-long, bounded-tree}
 use Rattle.propagation.specs.declared.Progress.{Progress}
 use Rattle.propagation.specs.Propagation.{propagateStep, propagateFrom, initial, Propagable, PropagationStartable}
 use Rattle.propagation.proofs.PropagateNodeLaws.{step-small, propagate-continues, propagate-stops}
@@ -43,7 +43,7 @@ module _ {a table index ch : List ℕ} {root count : ℕ} {marks₀ array₀ : L
     module _ (l : i < length ch) where
       pub propagating-at : Propagable a table index ch i marks array top t keys known places owners rows pending
       propagating-at =
-          let few = pre .nodes .workable .tree .few in
+          let few = bounded-tree (pre .nodes .workable) .few in
           let o = g .few-reached in
           let r = g .few-recomputed in
           let c = pre .few in

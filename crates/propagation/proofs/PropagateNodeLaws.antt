@@ -19,7 +19,7 @@ use Rattle.sets.proofs.SizeLaws.{words-few}
 use Rattle.memo.proofs.MemoLaws.{remembered-later}
 use Rattle.nodes.specs.Nodes.{setFrom, markedAt}
 use Rattle.nodes.specs.Marking.{NodeMarkable, Maintained}
-use Rattle.nodes.proofs.WorkableLaws.{workable-size}
+use Rattle.nodes.proofs.WorkableLaws.{workable-size, bounded-tree, marks-fit}
 use Rattle.nodes.proofs.RootStackLaws.{represented-more}
 use Rattle.nodes.proofs.MarkLaws.{length-setFrom}
 use Rattle.propagation.specs.declared.Progress.{Progress}
@@ -51,12 +51,12 @@ module _ {a table index ch : List ℕ} {i : ℕ} {marks array : List ℕ} {heigh
     (g : NodeMarkable a table index ch i marks array height keys known places owners rows pending) (size : ℕ)
     (s : size ≡ sizeOf table) where
   pub row-fits : i * size + size ≤ length marks
-  row-fits = rw s (row-inside i (length ch) (sizeOf table) (length marks) (g .inside) (g .workable .marks-fit))
+  row-fits = rw s (row-inside i (length ch) (sizeOf table) (length marks) (g .inside) (marks-fit (g .workable)))
 
   pub row-small : i * size + size ≤ marksMost
   row-small =
       row-inside i (length ch) size marksMost (g .inside)
-      (words-few (length ch) size (g .workable .tree .few) (rw s (workable-size (g .workable))))
+      (words-few (length ch) size (bounded-tree (g .workable) .few) (rw s (workable-size (g .workable))))
 
   pub row-few : size ≤ setMost
   row-few = rw s (workable-size (g .workable))
@@ -117,7 +117,7 @@ module _ {a table index ch : List ℕ} {i : ℕ} {marks array : List ℕ} {heigh
   node-passed p q =
       rw (p, q) (record {
         represented =
-            represented-more (g .maintained .represented) (g .workable .tree) (g .inside) k e i (omega arith) marks (λ j l. refl) refl;
+            represented-more (g .maintained .represented) (bounded-tree (g .workable)) (g .inside) k e i (omega arith) marks (λ j l. refl) refl;
         remembered = remembered-later (g .maintained .remembered);
       })
 

@@ -5,6 +5,7 @@ use mathlib.Core.Path.{sym, _∙_}
 use native.Mathlib.Omega.{arith}
 use lib.ListN.{length}
 use borrow.Author.Tests.{not-true, not-false}
+use Rattle.nodes.proofs.WorkableLaws.{bounded-tree}
 use Rattle.propagation.proofs.ProgressLaws.{Propagating, propagating-none, propagating-at}
 use Rattle.propagation.proofs.ProgressLaws.{propagating-stops, propagating-more, propagating-end}
 use Rattle.propagation.proofs.propagate.Statement.{statement}
@@ -113,9 +114,10 @@ add-i c =
       arith,
       c .before .before .before .before .before .before .before .before .before .before .before .before .before .before .before .before
           .before .before .before .before .before .before .before .before .before .before .before .before .loop-test .taken,
-      c .before .before .before .before .before .before .before .before .before .before .before .before .before .before .before .before
+      bounded-tree
+          (c .before .before .before .before .before .before .before .before .before .before .before .before .before .before .before
           .before .before .before .before .before .before .before .before .before .before .before .before .before .before .before .before
-          .before .before .before .before .before .before .before .before .before .before .pre .nodes .workable .tree .few,
+          .before .before .before .before .before .before .before .before .before .before .before .pre .nodes .workable) .few,
     )
 
 loop-less : tie.Need-loop-less Inv-loop μ-loop

@@ -1,7 +1,7 @@
 -- `propagation::propagate_node` meets its contract: the arity tells whether the node is an ancestor.
 use native.Mathlib.Omega.{arith}
 use borrow.Author.Needs.{needs}
-use Rattle.nodes.proofs.WorkableLaws.{node-kind}
+use Rattle.nodes.proofs.WorkableLaws.{node-kind, bounded-tree}
 use Rattle.nodes.proofs.NodeLaws.{node-pushable}
 use Rattle.propagation.proofs.PropagateNodeLaws.{node-passed, step-beside, step-ancestor}
 use Rattle.propagation.proofs.propagate_node.Statement.{statement}
@@ -16,7 +16,7 @@ shared-slice-read-node-arity c = search needs
 node-arity-requires : tie.Need-node-arity-requires
 node-arity-requires c κs =
     let g = c .before .before .before .before .before .before .before .before .before .before .before .before .before .pre .at in
-    node-kind (g .workable .tree) _ (g .inside)
+    node-kind (bounded-tree (g .workable)) _ (g .inside)
 
 push-node-requires : tie.Need-push-node-requires
 push-node-requires c κs =

@@ -1,7 +1,7 @@
 -- `nodes::marking::mark_node` meets its contract: the last of the four words that are lent represent the children.
 use native.Mathlib.Omega.{arith}
 use borrow.Author.Needs.{needs}
-use Rattle.nodes.proofs.WorkableLaws.{node-kind}
+use Rattle.nodes.proofs.WorkableLaws.{node-kind, bounded-tree}
 use Rattle.nodes.proofs.NodeLaws.{node-height, node-few, node-pushable, node-next, node-words, node-kept}
 use Rattle.nodes.proofs.marking.mark_node.Statement.{statement}
 use Rattle.nodes.proofs.marking.mark_node.Tie as tie
@@ -21,7 +21,7 @@ shared-slice-read-w c = search needs
 node-arity-requires : tie.Need-node-arity-requires
 node-arity-requires c κs =
     let g = c .before .before .before .before .before .before .before .before .before .before .before .before .before .pre in
-    node-kind (g .workable .tree) _ (g .inside)
+    node-kind (bounded-tree (g .workable)) _ (g .inside)
 
 sub-mark-next : tie.Need-sub-mark-next
 sub-mark-next c = search needs

@@ -4,6 +4,7 @@ use mathlib.Core.Path.{sym, _∙_}
 use Prim.Native.Nat.{_-_}
 use native.Mathlib.Omega.{arith}
 use borrow.Author.Needs.{needs}
+use Rattle.nodes.proofs.WorkableLaws.{bounded-tree}
 use Rattle.nodes.proofs.NodeLoopLaws.{NodesMarking, marking-none, marking-at, marking-more, marking-end}
 use Rattle.nodes.proofs.marking.mark_nodes.Statement.{statement}
 use Rattle.nodes.proofs.marking.mark_nodes.Tie as tie
@@ -40,7 +41,7 @@ add-i c =
       c .before .before .before .before .before .before .before .before .before .before .before .before .before .before .before .before
           .before .before .before .before .before .before .before .before .before .loop-test .taken,
       p .inside,
-      p .workable .tree .few,
+      bounded-tree (p .workable) .few,
     )
 
 loop-less : tie.Need-loop-less Inv-loop μ-loop
