@@ -1,5 +1,5 @@
 -- Laws of refusals: the number is that of the first condition that holds, and a call that is not refused has none that does.
--- `Found` is the evidence; the laws of `First` and of `NoneHolds`, of which the claims speak, follow from it.
+-- The evidence is `First` and `NoneHolds`, of which the claims speak; `Found` is one or the other.
 use mathlib.Core.Path.{_≡_, refl, _∙_, sym, subst}
 use mathlib.Core.Bool.{Bool, true, false, not, cond, _&&_}
 use mathlib.Core.List.{[], _∷_, _++_}
@@ -11,19 +11,44 @@ use borrow.Author.Tests.{ltb-true, leb-true, ne-eqb}
 use Rattle.words.specs.Refusal.{Refusals, refusal, someHolds, NoneHolds, First, here as first-here, later}
 use Rattle.words.proofs.TestLaws.{and-true, or-false, false-or}
 
+-- ---- parts of a list of which no condition holds
+
+first-fails : (r : ℕ × Bool) (rs : Refusals) → NoneHolds (r ∷ rs) → r .1 ≡ false
+first-fails r rs h = or-false (r .1) (someHolds rs) h .0
+
+rest-fails : (r : ℕ × Bool) (rs : Refusals) → NoneHolds (r ∷ rs) → NoneHolds rs
+rest-fails r rs h = or-false (r .1) (someHolds rs) h .1
+
 -- ---- a number and how it is found
 
--- the conditions before that of number f fail, and that one holds; or all fail, and f is 0
-pub data Found : Refusals → ℕ → Type 0 where
-  none : Found [] 0
-  here : {n : ℕ} {b : Bool} {rs : Refusals} → b ≡ true → Found ((n, b) ∷ rs) n
-  next : {n : ℕ} {b : Bool} {rs : Refusals} {f : ℕ} → b ≡ false → Found rs f → Found ((n, b) ∷ rs) f
+-- it is the first that applies; or no condition holds, and it is 0
+pub data Found (rs : Refusals) : ℕ → Type 0 where
+  applies : {n : ℕ} → First n rs → Found rs n
+  nothingApplies : NoneHolds rs → Found rs 0
+
+-- the evidence: the conditions before that of a number fail, and that one holds; or all fail
+pub none : Found [] 0
+none = nothingApplies refl
+
+pub here : {n : ℕ} {b : Bool} {rs : Refusals} → b ≡ true → Found ((n, b) ∷ rs) n
+here e = applies (first-here e)
+
+pub next : {n : ℕ} {b : Bool} {rs : Refusals} {f : ℕ} → b ≡ false → Found rs f → Found ((n, b) ∷ rs) f
+next e (applies x) = applies (later e x)
+next {b = b} {rs = rs} e (nothingApplies h) = nothingApplies (false-or b (someHolds rs) e h)
 
 -- the law, and back
+pub first-is-refusal : {rs : Refusals} {n : ℕ} → First n rs → refusal rs ≡ n
+first-is-refusal (first-here e) = rw e
+first-is-refusal (later e x) = rw e (first-is-refusal x)
+
+pub none-refusal : (rs : Refusals) → NoneHolds rs → refusal rs ≡ 0
+none-refusal [] h = refl
+none-refusal (r ∷ rs) h = rw (first-fails r rs h) (none-refusal rs (rest-fails r rs h))
+
 pub found-refusal : (rs : Refusals) {f : ℕ} → Found rs f → f ≡ refusal rs
-found-refusal [] none = refl
-found-refusal ((n, b) ∷ rs) (here e) = sym (rw e)
-found-refusal ((n, b) ∷ rs) (next e r) = found-refusal rs r ∙ sym (rw e)
+found-refusal rs (applies x) = sym (first-is-refusal x)
+found-refusal rs (nothingApplies h) = sym (none-refusal rs h)
 
 pub refusal-found : (rs : Refusals) {f : ℕ} → f ≡ refusal rs → Found rs f
 refusal-found rs e = rw e (go rs)
@@ -56,28 +81,19 @@ refusal-most m [] h = omega arith
 refusal-most m ((n, true) ∷ rs) h = leb-true n m (and-true (leb n m) (atMost m rs) h .0)
 refusal-most m ((n, false) ∷ rs) h = refusal-most m rs (and-true (leb n m) (atMost m rs) h .1)
 
+-- the number of the first that applies is one of them
+pub first-positive : {rs : Refusals} {n : ℕ} → positive rs ≡ true → First n rs → 0 < n
+first-positive {rs = (m, b) ∷ rs} {n = n} p (first-here e) = first-above n rs p
+first-positive {rs = (m, b) ∷ rs} p (later e x) = first-positive (rest-above m rs p) x
+
 -- ---- a call that is not refused: no condition holds
 
-first-fails : (r : ℕ × Bool) (rs : Refusals) → NoneHolds (r ∷ rs) → r .1 ≡ false
-first-fails r rs h = or-false (r .1) (someHolds rs) h .0
-
-rest-fails : (r : ℕ × Bool) (rs : Refusals) → NoneHolds (r ∷ rs) → NoneHolds rs
-rest-fails r rs h = or-false (r .1) (someHolds rs) h .1
-
-none-found : (rs : Refusals) → NoneHolds rs → Found rs 0
-none-found [] h = none
-none-found (r ∷ rs) h = next (first-fails r rs h) (none-found rs (rest-fails r rs h))
-
-found-none : (rs : Refusals) → positive rs ≡ true → Found rs 0 → NoneHolds rs
-found-none [] p none = refl
-found-none ((n, b) ∷ rs) p (here e) = absurd (omega (arith, first-above n rs p))
-found-none ((n, b) ∷ rs) p (next e r) = false-or b (someHolds rs) e (found-none rs (rest-above n rs p) r)
-
-pub none-refusal : (rs : Refusals) → NoneHolds rs → refusal rs ≡ 0
-none-refusal rs h = sym (found-refusal rs (none-found rs h))
-
 pub refusal-none : (rs : Refusals) → positive rs ≡ true → refusal rs ≡ 0 → NoneHolds rs
-refusal-none rs p h = found-none rs p (refusal-found rs (sym h))
+refusal-none rs p h = go (refusal-found rs (sym h))
+  where
+    go : Found rs 0 → NoneHolds rs
+    go (applies x) = absurd (omega (arith, first-positive p x))
+    go (nothingApplies h) = h
 
 -- the condition of a number
 abbrev pub conditionOf : ℕ → Refusals → Bool
@@ -106,14 +122,17 @@ refused-some rs p e = rw e (go rs p)
 
 -- ---- a part of the list that is judged as a whole, with number f
 
+first-append : {rs : Refusals} {n : ℕ} → First n rs → (ks : Refusals) → First n (rs ++ ks)
+first-append (first-here e) ks = first-here e
+first-append (later e x) ks = later e (first-append x ks)
+
 -- it refuses
 pub refuses : (rs ks : Refusals) {f : ℕ} → f ≡ refusal rs → (f ≡ 0 → ⊥) → Found (rs ++ ks) f
 refuses rs ks e h = go (refusal-found rs e) h
   where
-    go : {rs : Refusals} {f : ℕ} → Found rs f → (f ≡ 0 → ⊥) → Found (rs ++ ks) f
-    go none h = absurd (h refl)
-    go (here e) h = here e
-    go (next e r) h = next e (go r h)
+    go : {f : ℕ} → Found rs f → (f ≡ 0 → ⊥) → Found (rs ++ ks) f
+    go (applies x) h = applies (first-append x ks)
+    go (nothingApplies n) h = absurd (h refl)
 
 -- it does not, and the rest decides
 pub passes : (rs : Refusals) {ks : Refusals} {f g : ℕ} → positive rs ≡ true → f ≡ refusal rs → f ≡ 0 → Found ks g → Found (rs ++ ks) g
@@ -125,9 +144,12 @@ passes rs {ks} {g = g} p e h r = go rs (refusal-none rs p (sym e ∙ h))
 
 -- conditions that fail make no difference behind it
 pub none-behind : {rs : Refusals} {f : ℕ} → Found rs f → (ks : Refusals) → NoneHolds ks → Found (rs ++ ks) f
-none-behind none ks h = none-found ks h
-none-behind (here e) ks h = here e
-none-behind (next e r) ks h = next e (none-behind r ks h)
+none-behind (applies x) ks h = applies (first-append x ks)
+none-behind {rs} (nothingApplies g) ks h = nothingApplies (go rs g)
+  where
+    go : (rs : Refusals) → NoneHolds rs → NoneHolds (rs ++ ks)
+    go [] g = h
+    go (r ∷ rs) g = false-or (r .1) (someHolds (rs ++ ks)) (first-fails r rs g) (go rs (rest-fails r rs g))
 
 -- ---- parts of a list that does not refuse
 
@@ -175,23 +197,11 @@ refusalOr-some [] n h p = h
 refusalOr-some ((m, true) ∷ rs) n h p = first-above m rs p
 refusalOr-some ((m, false) ∷ rs) n h p = refusalOr-some rs n h (rest-above m rs p)
 
--- ---- the first that applies: both ways
+-- ---- the first that applies, from its number
 
 pub refusal-is-first : (rs : Refusals) (n : ℕ) → 0 < n → refusal rs ≡ n → First n rs
 refusal-is-first rs n p h = go p (refusal-found rs (sym h))
   where
-    go : {rs : Refusals} {n : ℕ} → 0 < n → Found rs n → First n rs
-    go p none = absurd (omega arith)
-    go p (here e) = first-here e
-    go p (next e r) = later e (go p r)
-
-first-found : {rs : Refusals} {n : ℕ} → First n rs → Found rs n
-first-found (first-here e) = here e
-first-found (later e f) = next e (first-found f)
-
-pub first-is-refusal : {rs : Refusals} {n : ℕ} → First n rs → refusal rs ≡ n
-first-is-refusal {rs} f = sym (found-refusal rs (first-found f))
-
-pub first-positive : {rs : Refusals} {n : ℕ} → positive rs ≡ true → First n rs → 0 < n
-first-positive {rs = (m, b) ∷ rs} {n = n} p (first-here e) = first-above n rs p
-first-positive {rs = (m, b) ∷ rs} p (later e f) = first-positive (rest-above m rs p) f
+    go : {n : ℕ} → 0 < n → Found rs n → First n rs
+    go p (applies x) = x
+    go p (nothingApplies n) = absurd (omega arith)
