@@ -17,7 +17,7 @@ use Rattle.automaton.specs.Table.{TransitionOver, AutomatonOver}
 use Rattle.automaton.proofs.BitLaws.{words-replicate, words-insert, contains-replicate}
 use Rattle.automaton.proofs.KeepLaws.{symbolPass-keeps, epsilonClosure-keeps}
 use Rattle.automaton.proofs.SetLength.{length-symbolPass}
-use Rattle.automaton.proofs.PassLaws.{Seeded, ClosedUnder, StatesWithin, In, epsilonClosure-grows, symbolPass-adds}
+use Rattle.automaton.proofs.PassLaws.{HasTargets, ClosedUnder, StatesWithin, In, epsilonClosure-grows, symbolPass-adds}
 use Rattle.automaton.proofs.PassLaws.{symbolPass-within, epsilonClosure-within, epsilonClosure-closed}
 
 -- ---- targets
@@ -40,10 +40,10 @@ targets-below {a} {A} o t m = go t (each-at (TransitionOver a (A .states)) (A .t
 -- ---- the state set
 
 -- what holds of the states that the symbol transitions seed, and is kept along the epsilon transitions, holds of all reached
-pub seeded-closed-all : (ts : List Transition) (f : ℕ) (rs : List StateSet) (P : ℕ → Type 0)
-    → Seeded ts f rs P → ClosedUnder ts P → {q : ℕ} → Reached ts f rs q → P q
-seeded-closed-all ts f rs P s c (bySymbol {q = q} {ps = ps} m e) = s ps q m e
-seeded-closed-all ts f rs P s c (byEpsilon {p = p} {q = q} m d) = c p q m (seeded-closed-all ts f rs P s c d)
+pub targets-closed-all : (ts : List Transition) (f : ℕ) (rs : List StateSet) (P : ℕ → Type 0)
+    → HasTargets ts f rs P → ClosedUnder ts P → {q : ℕ} → Reached ts f rs q → P q
+targets-closed-all ts f rs P s c (bySymbol {q = q} {ps = ps} m e) = s ps q m e
+targets-closed-all ts f rs P s c (byEpsilon {p = p} {q = q} m d) = c p q m (targets-closed-all ts f rs P s c d)
 
 abbrev emptySet : ℕ → StateSet
 emptySet states = replicate (sizeFor states) 0
@@ -67,9 +67,9 @@ module _ (A : Automaton) (f : ℕ) (rs : List StateSet) where
       (λ q e. absurd (true≢false (sym e ∙ contains-replicate (sizeFor (A .states)) q))))
 
   module _ (below : TargetsBelow (A .states) (A .transitions)) where
-    stateSet-seeded : Seeded (A .transitions) f rs (In (stateSet A f rs))
+    stateSet-targets : HasTargets (A .transitions) f rs (In (stateSet A f rs))
     unfolding stateSet sizeFor
-    stateSet-seeded ps q m e =
+    stateSet-targets ps q m e =
         let r = emptySet (A .states) in
         let l = below (onSymbol f ps q) m in
         epsilonClosure-grows _ (A .transitions) (symbolPass f rs (A .transitions) r) q
@@ -86,7 +86,7 @@ module _ (A : Automaton) (f : ℕ) (rs : List StateSet) where
     pub stateSet-reached : (q : ℕ) → (contains (stateSet A f rs) q ≡ true) ↔ Reached (A .transitions) f rs q
     stateSet-reached q = (
       stateSet-within q,
-      seeded-closed-all (A .transitions) f rs (In (stateSet A f rs)) stateSet-seeded stateSet-closed,
+      targets-closed-all (A .transitions) f rs (In (stateSet A f rs)) stateSet-targets stateSet-closed,
     )
 
     -- only states of the automaton are reached

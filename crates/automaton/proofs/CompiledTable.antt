@@ -17,7 +17,7 @@ use Rattle.words.specs.Postfix.{arity, trees}
 use Rattle.words.specs.ExpressionWords.{expressionFault}
 use Rattle.words.proofs.TestLaws.{picked}
 use Rattle.words.proofs.AcceptedAlphabet.{AcceptedAlphabet, alphabet-accepted, arity-most}
-use Rattle.words.proofs.AcceptedExpression.{expression-passed}
+use Rattle.words.proofs.AcceptedExpression.{expression-accepted}
 use Rattle.automaton.specs.Transition.{tableWords}
 use Rattle.automaton.specs.Numbering.{hasEntries, compiled}
 use Rattle.automaton.specs.Table.{isTable}
@@ -81,7 +81,7 @@ pub table-most : (a e : List ℕ) → alphabetFault a ≡ 0 → expressionFault 
     → length (tableWords (compiled a e)) ≤ compiledMost
 table-most a e g f m =
     let h = alphabet-accepted a g in
-    let accepted = expression-passed a e f in
+    let accepted = expression-accepted a e f in
     let o = accepted .shape in
     few-words (length (tableWords (compiled a e))) (branchingWords a e) (compiled a e .states) (length e) (innerWords a e) (leafWords a e)
     (length (constantsOf a))

@@ -1,7 +1,7 @@
 -- The states of a word by whether it has entries, and its own transitions by its kind.
 use Prim.Native.Nat.{ℕ, suc}
-use mathlib.Core.Path.{_≡_, ap, _∙_}
-use mathlib.Core.Bool.{true, false, not}
+use mathlib.Core.Path.{_≡_, refl, ap, _∙_}
+use mathlib.Core.Bool.{Bool, true, false, not, cond}
 use mathlib.Core.List.{List, _∷_}
 use lib.ListN.{length}
 use lib.Dec.{eqb, eqb·suc-zero}
@@ -9,7 +9,7 @@ use borrow.Author.Tests.{eqb-true, not-false}
 use Rattle.words.specs.Word.{Kind, kindOf, lowByte}
 use Rattle.words.specs.Alphabet.{constantsOf}
 use Rattle.words.specs.Postfix.{arity}
-use Rattle.automaton.specs.Numbering.{Port, hasEntries, statesOf, ownEntry, fullPort, portOf, ownAt, ownTransitions}
+use Rattle.automaton.specs.Numbering.{Port, hasEntries, statesOf, fullPort, leafPort, portOf, ownAt, ownTransitions}
 
 module _ (a : List ℕ) (w : ℕ) where
   -- ---- which words have entries
@@ -32,9 +32,17 @@ module _ (a : List ℕ) (w : ℕ) where
   unfolding portOf
   port-full x h = rw h
 
-  pub port-leaf : (x : ℕ) → hasEntries a w ≡ false → portOf a x w ≡ record { exit = x; entries = ownEntry x w }
+  pub port-leaf : (x : ℕ) → hasEntries a w ≡ false → portOf a x w ≡ leafPort x w
   unfolding portOf
   port-leaf x h = rw h
+
+  pub port-exit : (x : ℕ) → portOf a x w .exit ≡ x
+  unfolding portOf
+  port-exit x = go (hasEntries a w)
+    where
+      go : (b : Bool) → cond b (fullPort (constantsOf a) x) (leafPort x w) .exit ≡ x
+      go true = refl
+      go false = refl
 
   pub states-full : hasEntries a w ≡ true → statesOf a w ≡ suc (length (constantsOf a))
   unfolding statesOf

@@ -24,7 +24,7 @@ abbrev largest : List ℕ
 largest = replicate 4 0x2000_0000 ++ (0x2000_0010 ∷ replicate 59 0x6000_0000)
 
 -- "61 closures over one constant make 1,038"
-abbrev overLimit : List ℕ
+abbrev pub overLimit : List ℕ
 overLimit = 0x2000_0000 ∷ replicate 61 0x6000_0000
 
 pub record LimitsAttained : Type 0 where

@@ -7,7 +7,7 @@ use native.Mathlib.Nat.{le-refl, le-trans}
 use lib.ListN.{length}
 use Rattle.words.specs.ExpressionWords.{expressionFault}
 use Rattle.words.proofs.Ascending.{Ascending}
-use Rattle.words.proofs.AcceptedExpression.{expression-passed}
+use Rattle.words.proofs.AcceptedExpression.{expression-accepted}
 use Rattle.automaton.specs.Numbering.{Port, statesOf, portOf, childPort, portsFrom, statesAfter, lastPort}
 use Rattle.automaton.proofs.PortStates.{constantsIn, PortIn, portIn-from}
 use Rattle.automaton.proofs.PortReading.{AllRead, word, expression-reading}
@@ -40,7 +40,7 @@ module _ (a : List ℕ) where
   last-in (v ∷ ws) (word d r) = portIn-from (omega arith) (last-in ws r)
 
   pub lastPort-in : (e : List ℕ) → expressionFault a e ≡ 0 → PortIn a 0 (statesAfter a 0 e) (lastPort a e)
-  lastPort-in e f = go e (expression-passed a e f .counted .some) (expression-reading a e f)
+  lastPort-in e f = go e (expression-accepted a e f .counted .some) (expression-reading a e f)
     where
       go : (e : List ℕ) → 0 < length e → AllRead a 0 e [] → PortIn a 0 (statesAfter a 0 e) (lastPort a e)
       go [] l r = absurd (omega arith)

@@ -17,7 +17,7 @@ use Rattle.words.proofs.WordLaws.{arity-wordOf}
 use Rattle.words.proofs.AlphabetLaws.{isConstant-zero}
 use Rattle.language.specs.Expression.{Expression, Expressions, symbol, empty, union, product}
 use Rattle.language.specs.Expression.{closure, noneᵉ, moreᵉ, numberᵉ, ExpressionOver}
-use Rattle.automaton.specs.Numbering.{Port, statesOf, ownEntry, fullPort, portOf, ownAt, ownTransitions}
+use Rattle.automaton.specs.Numbering.{Port, statesOf, fullPort, leafPort, portOf, ownAt, ownTransitions}
 use Rattle.automaton.proofs.EntryStates.{entries-some, entries-none, port-full, port-leaf, states-full, states-leaf, own-kind}
 use Rattle.automaton.proofs.TreeNumbering.{next, exitState, port, ports, own}
 
@@ -53,7 +53,7 @@ module _ (a : List ℕ) where
   port-some : (w k x : ℕ) → arity a w ≡ suc k → portOf a x w ≡ fullPort cs x
   port-some w k x e = port-full a w x (entries-some a w k e)
 
-  port-none : (w x : ℕ) → arity a w ≡ 0 → portOf a x w ≡ record { exit = x; entries = ownEntry x w }
+  port-none : (w x : ℕ) → arity a w ≡ 0 → portOf a x w ≡ leafPort x w
   port-none w x e = port-leaf a w x (entries-none a w e)
 
   states-some : (w k x : ℕ) → arity a w ≡ suc k → x + statesOf a w ≡ suc x + length cs

@@ -21,8 +21,8 @@ use Rattle.automaton.proofs.KeepLaws.{epsilonStep-keeps, epsilonPass-ke
 use Rattle.automaton.proofs.SetLength.{length-epsilonStep, length-epsilonPass, length-symbolStep}
 
 -- what symbol transitions on f seed, and what epsilon transitions lead to, has the property
-abbrev pub Seeded : List Transition → ℕ → List StateSet → (ℕ → Type 0) → Type 0
-Seeded ts f rs P = (ps : List ℕ) (q : ℕ) → List·Memᴰ (onSymbol f ps q) ts → allContained ps rs ≡ true → P q
+abbrev pub HasTargets : List Transition → ℕ → List StateSet → (ℕ → Type 0) → Type 0
+HasTargets ts f rs P = (ps : List ℕ) (q : ℕ) → List·Memᴰ (onSymbol f ps q) ts → allContained ps rs ≡ true → P q
 
 abbrev pub ClosedUnder : List Transition → (ℕ → Type 0) → Type 0
 ClosedUnder ts P = (p q : ℕ) → List·Memᴰ (epsilon p q) ts → P p → P q
@@ -112,7 +112,7 @@ module _ (P : ℕ → Type 0) where
       within-if (eqb g f && allContained ps rs) r q
       (λ e. let b = and-true (eqb g f) (allContained ps rs) e in c ps q (ap (λ x. onSymbol x ps q) (sym (eqb-true g f (b .0)))) (b .1)) w
 
-  pub symbolPass-within : (f : ℕ) (rs : List StateSet) (ts : List Transition) (r : StateSet) → Seeded ts f rs P → StatesWithin P r
+  pub symbolPass-within : (f : ℕ) (rs : List StateSet) (ts : List Transition) (r : StateSet) → HasTargets ts f rs P → StatesWithin P r
       → StatesWithin P (symbolPass f rs ts r)
   unfolding symbolPass
   symbolPass-within f rs [] r c w = w

@@ -14,7 +14,7 @@ use Rattle.words.specs.Shape.{treesBy}
 use Rattle.words.specs.Postfix.{arity, trees}
 use Rattle.words.specs.ExpressionWords.{isExpressionWord, expressionFault}
 use Rattle.words.proofs.TestLaws.{and-true, picked}
-use Rattle.words.proofs.AcceptedExpression.{expression-passed}
+use Rattle.words.proofs.AcceptedExpression.{expression-accepted}
 use Rattle.automaton.specs.Numbering.{Port, statesOf, portOf, ownTransitions}
 use Rattle.automaton.proofs.PortStates.{PortIn, portOf-in, portIn-from, PortStack, bottom, push, Children, children-le, taken}
 use Rattle.automaton.proofs.OwnTransitions.{Own, own-transitions}
@@ -69,4 +69,4 @@ module _ (a : List ℕ) where
 
   -- the words of an accepted expression
   pub expression-reading : (e : List ℕ) → expressionFault a e ≡ 0 → AllRead a 0 e []
-  expression-reading e h = let g = expression-passed a e h in reading e 0 1 [] (g .words) (g .shape) bottom
+  expression-reading e h = let g = expression-accepted a e h in reading e 0 1 [] (g .words) (g .shape) bottom

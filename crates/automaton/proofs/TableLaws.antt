@@ -1,16 +1,17 @@
 -- The words that refusal 8 lets through are exactly the tables of automata over the alphabet, of at most 2,048 words.
 use mathlib.Core.Path.{_≡_, ap, ap₂, _∙_, sym, subst}
 use mathlib.Core.Logic.{_↔_}
-use mathlib.Core.Bool.{true, _&&_, false≢true}
+use mathlib.Core.Bool.{true, not, _&&_, false≢true}
 use mathlib.Core.List.{List, [], _∷_}
 use Prim.Native.Nat.{ℕ, _<_, _≤_}
 use native.Mathlib.Omega.{arith}
 use lib.ListN.{length}
 use lib.Dec.{ltb, leb}
-use borrow.Author.Tests.{lt-ltb, ltb-true, le-leb, leb-true}
+use borrow.Author.Tests.{lt-ltb, ltb-true, le-leb, leb-true, not-true}
 use Rattle.words.specs.Word.{headKind, fieldRange, isOf, wordOf, countAbove, stateBelow, aboveState, symbolRange, numberOf, kindNumber}
-use Rattle.words.specs.Limits.{statesMost, tableMost}
+use Rattle.words.specs.Limits.{outside, statesMost, tableMost}
 use Rattle.words.proofs.TestLaws.{and-true, true-and}
+use Rattle.words.proofs.LimitLaws.{not-outside, is-within}
 use Rattle.words.proofs.KindLaws.{isOf-facts, isOf-wordOf}
 use Rattle.automaton.specs.Transition.{Automaton, transitionsWords, headWord, tableWords, automatonOf}
 use Rattle.automaton.specs.Table.{isHead, areTransitions, isTable, AutomatonOver}
@@ -30,14 +31,15 @@ pub record Head (w : ℕ) : Type 0 where
 head-facts : (w : ℕ) → isHead w ≡ true → Head w
 unfolding isHead
 head-facts w h =
-    let b = and-true (isOf headKind w && ltb 0 (countAbove w) && leb (countAbove w) statesMost) (ltb (stateBelow w) (countAbove w)) h in
-    let c = and-true (isOf headKind w && ltb 0 (countAbove w)) (leb (countAbove w) statesMost) (b .0) in
-    let d = and-true (isOf headKind w) (ltb 0 (countAbove w)) (c .0) in
-    let i = isOf-facts headKind w (d .0) in
+    let over = outside statesMost (countAbove w) in
+    let b = and-true (isOf headKind w && not over) (ltb (stateBelow w) (countAbove w)) h in
+    let c = and-true (isOf headKind w) (not over) (b .0) in
+    let i = isOf-facts headKind w (c .0) in
+    let counted = not-outside statesMost (countAbove w) (not-true over (c .1)) in
     record {
       number = i .number;
-      some = ltb-true 0 (countAbove w) (d .1);
-      most = leb-true (countAbove w) statesMost (c .1);
+      some = counted .some;
+      most = counted .few;
       final = ltb-true (stateBelow w) (countAbove w) (b .1);
       word = omega arith;
     }
@@ -52,8 +54,7 @@ head-passes n f some most final =
     let t : stateBelow w < countAbove w = omega arith in
     rw (
       isOf-wordOf headKind (aboveState n f) lw,
-      lt-ltb 0 (countAbove w) s,
-      le-leb (countAbove w) statesMost m,
+      is-within statesMost (countAbove w) (record { some = s; few = m }),
       lt-ltb (stateBelow w) (countAbove w) t,
     )
 
@@ -120,14 +121,9 @@ module _ (a : List ℕ) (few : length a ≤ symbolRange) where
   pub isTable-automaton : (table : List ℕ) → isTable a table ≡ true → AutomatonOver a (automatonOf table)
   isTable-automaton table h = let i = isTable-over table h in subst (AutomatonOver a) (sym (automatonOf-table i)) (i .over)
 
--- ---- sizes
+-- ---- for any alphabet: how many states there are
 
-pub record Sizes (A : Automaton) : Type 0 where
-  pub some : 0 < A .states
-  pub most : A .states ≤ statesMost
-  pub final : A .final < A .states
-
-pub isTable-sizes : (a table : List ℕ) → isTable a table ≡ true → Sizes (automatonOf table)
+pub isTable-states : (a table : List ℕ) → isTable a table ≡ true → automatonOf table .states ≤ statesMost
 unfolding isTable automatonOf
-isTable-sizes a [] h = absurd (false≢true h)
-isTable-sizes a (w ∷ ws) h = let i = isTable-parts a w ws h .head in record { some = i .some; most = i .most; final = i .final }
+isTable-states a [] h = absurd (false≢true h)
+isTable-states a (w ∷ ws) h = isTable-parts a w ws h .head .most

@@ -12,7 +12,7 @@ use Rattle.words.specs.Word.{sourceKind, wordOf, lowByte}
 use Rattle.words.specs.Lists.{count}
 use Rattle.words.specs.Postfix.{arity}
 use Rattle.words.specs.ExpressionWords.{expressionFault}
-use Rattle.words.proofs.AcceptedExpression.{expression-passed}
+use Rattle.words.proofs.AcceptedExpression.{expression-accepted}
 use Rattle.automaton.specs.Transition.{Transition, onSymbol, transitionWords, transitionsWords, tableWords}
 use Rattle.automaton.specs.Numbering.{Port, hasEntries, statesOf, portOf, entryFor, epsilons, entryEpsilons}
 use Rattle.automaton.specs.Numbering.{statesAfter, ownTransitions, transitionsFrom, constantTransitions, lastPort}
@@ -170,7 +170,7 @@ module _ (a : List ℕ) where
   pub table-length : (e : List ℕ) → expressionFault a e ≡ 0
       → length (tableWords (compiled a e)) + branchingWords a e ≤ compiled a e .states + (length e + innerWords a e)
   unfolding compiled
-  table-length e f = go e (expression-passed a e f .counted .some) (expression-reading a e f)
+  table-length e f = go e (expression-accepted a e f .counted .some) (expression-reading a e f)
     where
       go : (e : List ℕ) → 0 < length e → AllRead a 0 e []
           → length (tableWords (compiled a e)) + branchingWords a e ≤ statesAfter a 0 e + (length e + innerWords a e)

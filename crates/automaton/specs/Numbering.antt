@@ -45,12 +45,13 @@ ownEntry n w = cond (hasKind symbolKind w) (exitEntry (lowByte w) n) []
 abbrev pub fullPort : List ℕ → ℕ → Port
 fullPort cs n = record { exit = n; entries = fullEntries cs n }
 
+-- the state n of a constant or empty word w
+abbrev pub leafPort : ℕ → ℕ → Port
+leafPort n w = record { exit = n; entries = ownEntry n w }
+
 -- the states of word w, of which n is the first
 unfoldable pub portOf : List ℕ → ℕ → ℕ → Port
-portOf a n w = record {
-  exit = n;
-  entries = cond (hasEntries a w) (fullEntries (constantsOf a) n) (ownEntry n w);
-}
+portOf a n w = cond (hasEntries a w) (fullPort (constantsOf a) n) (leafPort n w)
 
 -- the entry for a constant, or none
 abbrev pub lookup : List (ℕ × ℕ) → ℕ → List ℕ

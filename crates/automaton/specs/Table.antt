@@ -6,7 +6,7 @@ use mathlib.Core.Bool.{Bool, false, not, cond, _&&_, _||_}
 use lib.ListN.{length}
 use lib.Dec.{ltb, leb, eqb}
 use Rattle.words.specs.Lists.{All, AllBelow}
-use Rattle.words.specs.Limits.{statesMost, tableMost}
+use Rattle.words.specs.Limits.{outside, statesMost, tableMost}
 use Rattle.words.specs.Word.{headKind, transitionKind, epsilonKind, sourceKind, hasKind}
 use Rattle.words.specs.Word.{isOf, symbolAbove, countAbove, stateAbove, stateBelow}
 use Rattle.words.specs.Alphabet.{isSymbol, rankOf}
@@ -14,7 +14,7 @@ use Rattle.automaton.specs.Transition.{Transition, Automaton, onSymbol, 
 
 -- "head wrong, state count 0 or over 1,024, a state not below it"
 unfoldable pub isHead : ℕ → Bool
-isHead w = isOf headKind w && ltb 0 (countAbove w) && leb (countAbove w) statesMost && ltb (stateBelow w) (countAbove w)
+isHead w = isOf headKind w && not (outside statesMost (countAbove w)) && ltb (stateBelow w) (countAbove w)
 
 -- a symbol move or an empty move over n states: a known symbol, and states below n
 abbrev pub isTransition : List ℕ → ℕ → ℕ → Bool

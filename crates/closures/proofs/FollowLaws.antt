@@ -6,7 +6,7 @@ use native.Mathlib.Omega.{arith}
 use lib.ListN.{length, getD}
 use Rattle.words.specs.Limits.{statesMost, tableMost}
 use Rattle.automaton.specs.Transition.{automatonOf}
-use Rattle.automaton.proofs.TableLaws.{isTable-sizes}
+use Rattle.automaton.proofs.TableLaws.{isTable-states}
 use Rattle.index.specs.Index.{IndexedTable, indexLength, keyCount}
 use Rattle.index.proofs.ChainLaws.{FirstWith, Keyed, nextWith, next-some, table-keyed}
 use Rattle.index.proofs.IndexLaws.{index-length, index-first, index-next}
@@ -24,7 +24,7 @@ pub record InChain (table index : List ℕ) (i : ℕ) : Type 0 where
 
 module _ {table index : List ℕ} (c : IndexedTable table index) where
   pub states-most : automatonOf table .states ≤ statesMost
-  states-most = isTable-sizes (c .alphabet) table (c .checked) .most
+  states-most = isTable-states (c .alphabet) table (c .checked)
 
   pub keyed : Keyed table
   keyed = table-keyed (c .alphabet) table (c .checked)

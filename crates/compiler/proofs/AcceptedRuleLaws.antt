@@ -11,16 +11,16 @@ use Rattle.words.specs.Refusal.{refusal}
 use Rattle.words.specs.Alphabet.{constantsOf}
 use Rattle.words.proofs.ListLaws.{length-take-most, take-over, sets-whole}
 use Rattle.words.proofs.AcceptedAlphabet.{AcceptedAlphabet, alphabet-accepted}
-use Rattle.words.proofs.AcceptedExpression.{AcceptedExpression, expression-passed}
+use Rattle.words.proofs.AcceptedExpression.{AcceptedExpression, expression-accepted}
 use Rattle.operations.specs.Compile.{ruleRefusals}
 use Rattle.operations.proofs.AcceptedLaws.{rule-accepted}
 use Rattle.compiler.specs.Compiling.{wordStatesMost, StatesCountable}
 
-pub accepted-alphabet : (a e : List ℕ) → refusal (ruleRefusals a e) ≡ 0 → AcceptedAlphabet a
-accepted-alphabet a e h = alphabet-accepted a (rule-accepted a e h .alphabet)
+pub rule-alphabet : (a e : List ℕ) → refusal (ruleRefusals a e) ≡ 0 → AcceptedAlphabet a
+rule-alphabet a e h = alphabet-accepted a (rule-accepted a e h .alphabet)
 
-pub accepted-expression : (a e : List ℕ) → refusal (ruleRefusals a e) ≡ 0 → AcceptedExpression a e
-accepted-expression a e h = expression-passed a e (rule-accepted a e h .expression)
+pub rule-expression : (a e : List ℕ) → refusal (ruleRefusals a e) ≡ 0 → AcceptedExpression a e
+rule-expression a e h = expression-accepted a e (rule-accepted a e h .expression)
 
 -- the states of a word can be counted by the number of the constants
 pub states-countable : (a : List ℕ) (count : ℕ) → AcceptedAlphabet a → count ≡ length (constantsOf a) → StatesCountable a count

@@ -15,6 +15,7 @@ use Rattle.words.proofs.TestLaws.{and-true, all-right}
 use Rattle.automaton.specs.Transition.{transitionsWords}
 use Rattle.automaton.specs.Numbering.{Port, statesOf, portOf, statesAfter, transitionsFrom, lastPort, compiled}
 use Rattle.automaton.specs.Numbering.{constantTransitions}
+use Rattle.automaton.proofs.EntryStates.{port-exit}
 use Rattle.automaton.proofs.TransitionLaws.{transitionsWords-append}
 use Rattle.automaton.proofs.WordNumbering.{lastPort-snoc}
 use Rattle.operations.specs.Compile.{compiledTable}
@@ -68,10 +69,6 @@ table-parts a e =
     ap (λ (l : List ℕ). wordOf headKind (aboveState (statesAfter a 0 e) (lastPort a e .exit)) ∷ l)
     (sym (transitionsWords-append (constantTransitions (lastPort a e .entries)) (transitionsFrom a 0 e [])))
 
-portOf-exit : (a : List ℕ) (n w : ℕ) → portOf a n w .exit ≡ n
-unfolding portOf
-portOf-exit a n w = refl
-
 -- the three writers one after the other; x and s are the last word's exit and the state count, p its port
 pub table-written : (a cs e : List ℕ) (some : 0 < length e) (x s p : ℕ) (out o₁ o₂ o₃ : List ℕ) (n₁ n₂ r : ℕ) → cs ≡ constantsOf a
     → x ≡ statesAfter a 0 (take (length e - 1) e) → s ≡ statesOf a (getD e (length e - 1) 0)
@@ -84,7 +81,7 @@ table-written a cs e some x s p out o₁ o₂ o₃ n₁ n₂ r known ex es ep h 
     let w₀ = getD e (length e - 1) 0 in
     let port : portIn cs p ≡ lastPort a e =
     ap (λ (ds : List ℕ). portIn ds p) known ∙ ep ∙ ap (λ (n : ℕ). portOf a n w₀) ex ∙ sym (lastPort-last a e some) in
-    let exit : x ≡ lastPort a e .exit = sym (portOf-exit a x w₀) ∙ ap (λ (P : Port). P .exit) (sym ep ∙ ap (λ (ds : List ℕ). portIn ds p)
+    let exit : x ≡ lastPort a e .exit = sym (port-exit a w₀ x) ∙ ap (λ (P : Port). P .exit) (sym ep ∙ ap (λ (ds : List ℕ). portIn ds p)
     (sym known) ∙ port) in
     let states : x + s ≡ statesAfter a 0 e = ap₂ (λ (m n : ℕ). m + n) ex es ∙ sym (states-last a e some) in
     words-written-same compiledWordsMost compiledWordsMost 0 r _ _ out o₃

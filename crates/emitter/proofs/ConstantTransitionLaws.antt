@@ -1,10 +1,9 @@
 -- Laws of the constants' symbol moves into entries, and of the loop that writes them.
 use mathlib.Core.Path.{_≡_, refl, ap, _∙_, sym}
 use mathlib.Core.List.{List, [], _∷_, _++_}
-use Prim.Native.Nat.{ℕ, _+_, _<_, _≤_}
+use Prim.Native.Nat.{ℕ, _+_, _<_}
 use native.Mathlib.Omega.{arith}
 use lib.ListN.{length, getD, take}
-use lib.Seq.{take-all}
 use Rattle.words.specs.Limits.{constantsMost}
 use Rattle.words.proofs.ListLaws.{map-append}
 use Rattle.automaton.specs.Transition.{onSymbol, transitionWords, transitionsWords}
@@ -13,7 +12,7 @@ use Rattle.automaton.proofs.TransitionLaws.{transitionsWords-append}
 use Rattle.ports.specs.Ports.{everyEntry, noEntry, exitIn, codeIn, portIn, entryState}
 use Rattle.ports.proofs.PortLaws.{entries-more, entriesIn-every, entriesIn-none, entriesIn-own}
 use Rattle.emitter.specs.Writing.{WordsWritten}
-use Rattle.emitter.proofs.WritingLaws.{words-written-none, words-written-more, words-written-same}
+use Rattle.emitter.proofs.WritingLaws.{words-written-none, words-written-same, EachWritten, each-written-more}
 
 -- the words of the moves into the entries for the constants, where x is the word's exit
 abbrev everyWords : ℕ → List ℕ → List ℕ
@@ -31,30 +30,13 @@ everyWords-more x cs k h =
     ∙ transitionsWords-append (constantTransitions es) (onSymbol c [] s ∷ [])
 
 -- the loop after k constants
-pub record EveryPushed (cs : List ℕ) (x at : ℕ) (out out′ : List ℕ) (next k : ℕ) : Type 0 where
-  pub within : k ≤ length cs
-  pub long : length out′ ≡ length out
-  pub written : WordsWritten k at (everyWords x (take k cs)) out out′ next
+abbrev pub EveryPushed : List ℕ → ℕ → ℕ → List ℕ → List ℕ → ℕ → ℕ → Type 0
+EveryPushed cs x = EachWritten (everyWords x) 1 cs
 
-pub every-pushed-none : (cs : List ℕ) (x at : ℕ) (out : List ℕ) → EveryPushed cs x at out out at 0
-every-pushed-none cs x at out = record { within = omega arith; long = refl; written = words-written-none at out }
-
-module _ {cs : List ℕ} {x at : ℕ} {out out′ : List ℕ} {next k : ℕ} (w : EveryPushed cs x at out out′ next k) where
-  pub every-pushed-more : (out″ : List ℕ) (r s : ℕ) → s ≡ entryState x k → k < length cs → length out″ ≡ length out′
-      → WordsWritten 1 next (transitionWords (onSymbol (getD cs k 0) [] s)) out′ out″ r → EveryPushed cs x at out out″ r (k + 1)
-  every-pushed-more out″ r s e h l q =
-      record {
-        within = omega arith;
-        long = l ∙ w .long;
-        written =
-            words-written-same (k + 1) (k + 1) at r _ _ out out″ (words-written-more k 1 at next r _ _ out out′ out″ (w .written) (rw e at q))
-            (omega arith) (sym (everyWords-more x cs k h));
-      }
-
-  pub every-pushed-end : length cs ≤ k → length cs ≤ constantsMost → WordsWritten constantsMost at (everyWords x cs) out out′ next
-  every-pushed-end h few =
-      let i = w .within in
-      words-written-same k constantsMost at next _ _ out out′ (w .written) (omega arith) (rw (take-all k cs h))
+pub every-pushed-more : {cs : List ℕ} {x at : ℕ} {out out′ : List ℕ} {next k : ℕ} → EveryPushed cs x at out out′ next k
+    → (out″ : List ℕ) (r s : ℕ) → s ≡ entryState x k → k < length cs → length out″ ≡ length out′
+    → WordsWritten 1 next (transitionWords (onSymbol (getD cs k 0) [] s)) out′ out″ r → EveryPushed cs x at out out″ r (k + 1)
+every-pushed-more {cs} {x} {k = k} w out″ r s e h l q = each-written-more w out″ r _ h l (everyWords-more x cs k h) (rw e at q)
 
 -- ---- the entries that a port has, where x is its exit and t its code
 

@@ -1,12 +1,11 @@
 -- Laws of epsilon transitions to the entries of a word's children: one entry more, and the loop over the children.
 use mathlib.Core.Path.{_≡_, refl, ap, _∙_, sym}
 use mathlib.Core.List.{List, [], _∷_, _++_, map, flatMap, append-assoc, append-nil}
-use Prim.Native.Nat.{ℕ, suc, _+_, _<_, _≤_}
+use Prim.Native.Nat.{ℕ, suc, _+_, _<_}
 use native.Mathlib.Omega.{arith}
 use native.Mathlib.Numerals.{add-one}
 use lib.ListN.{length, getD, take}
-use lib.Seq.{take-suc, take-all}
-use Rattle.words.specs.Limits.{rankMost}
+use lib.Seq.{take-suc}
 use Rattle.words.proofs.ListLaws.{map-append}
 use Rattle.automaton.specs.Transition.{epsilon, transitionWords, transitionsWords}
 use Rattle.automaton.specs.Numbering.{entryFor, epsilons, symbolTargets}
@@ -15,7 +14,8 @@ use Rattle.ports.specs.declared.port.Entry.{Entry}
 use Rattle.ports.specs.declared.port.Entry.the-variants.{Missing, State}
 use Rattle.ports.specs.Ports.{portIn, portsIn, childIn, statesOfEntry, entryRange, Low, EntryRead}
 use Rattle.emitter.specs.Writing.{WordsWritten}
-use Rattle.emitter.proofs.WritingLaws.{words-written-none, words-written-more, words-written-same}
+use Rattle.emitter.proofs.WritingLaws.{words-written-none, words-written-same}
+use Rattle.emitter.proofs.WritingLaws.{EachWritten, each-written-none, each-written-more}
 
 -- the words of the epsilon transitions from a state to states
 abbrev pub epsilonWords : ℕ → List ℕ → List ℕ
@@ -62,31 +62,17 @@ children-entries cs ps b i h =
     ∙ ap (λ (l : List ℕ). symbolTargets (portsIn cs (take i ps)) b ++ l) (append-nil (entryFor (childIn cs ps i) b))
 
 -- the loop after i children
-pub record ToChildren (cs ps : List ℕ) (from b at : ℕ) (out out′ : List ℕ) (next i : ℕ) : Type 0 where
-  pub within : i ≤ length ps
-  pub long : length out′ ≡ length out
-  pub written : WordsWritten i at (epsilonWords from (symbolTargets (portsIn cs (take i ps)) b)) out out′ next
+abbrev pub ToChildren : List ℕ → List ℕ → ℕ → ℕ → ℕ → List ℕ → List ℕ → ℕ → ℕ → Type 0
+ToChildren cs ps from b = EachWritten (λ l. epsilonWords from (symbolTargets (portsIn cs l) b)) 1 ps
 
 pub children-none : (cs ps : List ℕ) (from b at : ℕ) (out : List ℕ) → ToChildren cs ps from b at out out at 0
 unfolding flatMap
-children-none cs ps from b at out = record { within = omega arith; long = refl; written = words-written-none at out }
+children-none cs ps from b at out = each-written-none _ 1 ps at out refl
 
-module _ {cs ps : List ℕ} {from b at : ℕ} {out out′ : List ℕ} {next i : ℕ} (w : ToChildren cs ps from b at out out′ next i) where
-  pub children-more : (to : Entry) (out″ : List ℕ) (r : ℕ) → i < length ps → EntryRead cs (getD ps i 0) b to → length out″ ≡ length out′
-      → WordsWritten 1 next (epsilonWords from (statesOfEntry to)) out′ out″ r → ToChildren cs ps from b at out out″ r (i + 1)
-  children-more to out″ r h e l q =
-      record {
-        within = omega arith;
-        long = l ∙ w .long;
-        written = words-written-same (i + 1) (i + 1) at r _ _ out out″ (words-written-more i 1 at next r _ _ out out′ out″ (w .written) q)
-            (omega arith)
-            (sym
-            (rw (add-one i, children-entries cs ps b i h, ← e .states) (epsilonWords-append from (symbolTargets (portsIn cs (take i ps)) b)
-            (statesOfEntry to))));
-      }
-
-  pub children-end : length ps ≤ i → length ps ≤ rankMost
-      → WordsWritten rankMost at (epsilonWords from (symbolTargets (portsIn cs ps) b)) out out′ next
-  children-end h few =
-      let k = w .within in
-      words-written-same i rankMost at next _ _ out out′ (w .written) (omega arith) (rw (take-all i ps h))
+pub children-more : (cs ps : List ℕ) (from b : ℕ) {at : ℕ} {out out′ : List ℕ} {next i : ℕ} → ToChildren cs ps from b at out out′ next i
+    → (to : Entry) (out″ : List ℕ) (r : ℕ) → i < length ps → EntryRead cs (getD ps i 0) b to → length out″ ≡ length out′
+    → WordsWritten 1 next (epsilonWords from (statesOfEntry to)) out′ out″ r → ToChildren cs ps from b at out out″ r (i + 1)
+children-more cs ps from b {i = i} w to out″ r h e l q =
+    each-written-more w out″ r _ h l
+    (rw (add-one i, children-entries cs ps b i h, ← e .states)
+    (epsilonWords-append from (symbolTargets (portsIn cs (take i ps)) b) (statesOfEntry to))) q

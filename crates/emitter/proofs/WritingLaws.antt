@@ -1,10 +1,12 @@
--- Laws of words written one after the other.
+-- Laws of words written one after the other, and of the loop that writes those of one member of a list after the other.
 use mathlib.Core.Path.{_≡_, refl, _∙_, sym}
 use mathlib.Core.List.{List, [], _∷_, _++_}
-use Prim.Native.Nat.{ℕ, _+_, _≤_}
+use Prim.Native.Nat.{ℕ, _+_, _*_, _<_, _≤_}
 use native.Mathlib.Omega.{arith}
-use native.Mathlib.Nat.{add-zero, add-assoc}
-use lib.ListN.{length, set, length-append}
+use native.Mathlib.Nat.{add-zero, add-assoc, suc-mul}
+use native.Mathlib.Numerals.{add-one}
+use lib.ListN.{length, take, set, length-append}
+use lib.Seq.{take-all}
 use Rattle.words.proofs.ListLaws.{sets-append}
 use Rattle.emitter.specs.Writing.{WordsWritten}
 
@@ -34,3 +36,37 @@ words-written-next m at r ws out out′ p = let a = p .short in let b = p .next 
 -- one word
 pub words-written-one : (at w : ℕ) (out out′ : List ℕ) → out′ ≡ set out at w → WordsWritten 1 at (w ∷ []) out out′ (at + 1)
 words-written-one at w out out′ e = record { words = e; next = refl; short = omega arith }
+
+-- ---- the loop over members, each of at most `most` words, after k of them
+
+pub record EachWritten (wordsOf : List ℕ → List ℕ) (most : ℕ) (members : List ℕ) (at : ℕ) (out out′ : List ℕ) (next k : ℕ) : Type 0 where
+  pub within : k ≤ length members
+  pub long : length out′ ≡ length out
+  pub written : WordsWritten (k * most) at (wordsOf (take k members)) out out′ next
+
+pub each-written-none : (wordsOf : List ℕ → List ℕ) (most : ℕ) (members : List ℕ) (at : ℕ) (out : List ℕ) → wordsOf [] ≡ []
+    → EachWritten wordsOf most members at out out at 0
+each-written-none wordsOf most members at out e =
+    record {
+      within = omega arith;
+      long = refl;
+      written = words-written-same 0 (0 * most) at at [] (wordsOf []) out out (words-written-none at out) (omega arith) (sym e);
+    }
+
+module _ {wordsOf : List ℕ → List ℕ} {most : ℕ} {members : List ℕ} {at : ℕ} {out out′ : List ℕ} {next k : ℕ}
+    (w : EachWritten wordsOf most members at out out′ next k) where
+  pub each-written-more : (out″ : List ℕ) (r : ℕ) (ws : List ℕ) → k < length members → length out″ ≡ length out′
+      → wordsOf (take (k + 1) members) ≡ wordsOf (take k members) ++ ws → WordsWritten most next ws out′ out″ r
+      → EachWritten wordsOf most members at out out″ r (k + 1)
+  each-written-more out″ r ws h l e q =
+      let more : (k + 1) * most ≡ k * most + most = rw (add-one k) (suc-mul k most) in
+      record {
+        within = omega arith;
+        long = l ∙ w .long;
+        written =
+            words-written-same (k * most + most) ((k + 1) * most) at r _ _ out out″
+            (words-written-more (k * most) most at next r _ ws out out′ out″ (w .written) q) (omega arith) (sym e);
+      }
+
+  pub each-written-end : (n : ℕ) → length members ≤ k → k * most ≤ n → WordsWritten n at (wordsOf members) out out′ next
+  each-written-end n h few = words-written-same (k * most) n at next _ _ out out′ (w .written) few (rw (take-all k members h))

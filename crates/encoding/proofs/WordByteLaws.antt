@@ -56,11 +56,13 @@ pub record Keeping (words₀ : List ℕ) (at : ℕ) (bytes : List ℕ) (count : 
   pub same : words ≡ sets words₀ at (take i (wordsIn bytes))
 
 module _ (words₀ : List ℕ) (at : ℕ) (bytes : List ℕ) (count : ℕ) where
-  pub keeping-none : at < length words₀ → count ≡ min (length bytes / wordBytes) (length words₀ - at) → Keeping words₀ at bytes count words₀ 0
+  pub keeping-none : at < length words₀ → count ≡ min (length bytes / wordBytes) (length words₀ - at)
+      → Keeping words₀ at bytes count words₀ 0
   keeping-none h e = record { few = omega arith; whole = omega arith; fits = omega arith; long = refl; same = refl }
 
   -- the bytes of the next word are there
-  pub keeping-inside : (words : List ℕ) (i : ℕ) → Keeping words₀ at bytes count words i → i < count → wordBytes * i + wordBytes ≤ length bytes
+  pub keeping-inside : (words : List ℕ) (i : ℕ) → Keeping words₀ at bytes count words i → i < count
+      → wordBytes * i + wordBytes ≤ length bytes
   keeping-inside words i k h = let whole = k .whole in omega arith
 
   pub keeping-more : (words : List ℕ) (i w : ℕ) → Keeping words₀ at bytes count words i → i < count → w ≡ wordAt bytes i

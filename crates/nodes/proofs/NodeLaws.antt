@@ -157,7 +157,11 @@ module _ {a table index ch : List ℕ} {i : ℕ} {marks array : List ℕ} {heigh
         };
         keyable = record {
           symbol = omega arith;
-          nodes = record { length-is = four-length; below = four-below; few = omega (arith, rank-is, ranks-most (g .workable) (symbolOf w)) };
+          nodes = record {
+            length-is = four-length;
+            below = four-below;
+            few = omega (arith, rank-is, ranks-most (g .workable) (symbolOf w));
+          };
         };
         below = part-below;
         remembered = k;

@@ -52,7 +52,7 @@ module _ (a table : List ℕ) (few : length a ≤ alphabetMost) (checked : isTab
 -- ---- an accepted Run
 
 -- what stands in a marks slice for every element of the chapter
-pub record Marked (a table ch marks : List ℕ) : Type 0 where
+pub record MarkedChapter (a table ch marks : List ℕ) : Type 0 where
   -- each element's words follow from those of its children
   pub sets : (i : ℕ) → i < length ch
       → ReachedSet table (symbolOf (getD ch i 0)) (map (storedSet (sizeOf table) marks) (childrenOf a ch i))
@@ -93,7 +93,7 @@ module _ (a table ch marks : List ℕ) (n cells : ℕ) (h : runAnswer a table ch
       (sized-nodeSets a table ch) (rw (length-nodeSets a table ch) l)
       ∙ node-tree a table ch few i t l k
 
-  pub run-marked : Marked a table ch (runExit a table ch marks)
+  pub run-marked : MarkedChapter a table ch (runExit a table ch marks)
   run-marked = record {
     sets = λ i l.
         let rs = map set (childrenOf a ch i) in

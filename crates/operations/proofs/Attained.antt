@@ -15,6 +15,7 @@ use Rattle.automaton.specs.Transition.{automatonOf}
 use Rattle.automaton.specs.Numbering.{hasEntries, statesOf, portOf, ownTransitions, portsFrom, statesAfter, transitionsFrom, compiled}
 use Rattle.automaton.specs.Table.{isHead, isTableWord, sourcesLeft, areTransitions, isTable, noTable}
 use Rattle.automaton.specs.StateSet.{sizeFor}
+use Rattle.automaton.proofs.LargestRules.{overLimit}
 use Rattle.operations.specs.Compile.{tooManyStates, tableTooLong, compileAnswer}
 use Rattle.operations.specs.Marks.{sizeOf}
 use Rattle.operations.specs.Run.{wrongCount, marksTooShort, runAnswer}
@@ -46,10 +47,6 @@ sixteen = replicate 16 0x1000_0000
 abbrev one : List ℕ
 one = 0x8000_0400 ∷ 0x9000_0000 ∷ []
 
--- "61 closures over one constant"
-abbrev closures : List ℕ
-closures = 0x2000_0000 ∷ replicate 61 0x6000_0000
-
 abbrev leaf : ℕ
 leaf = 0x7000_0000
 
@@ -63,7 +60,7 @@ calls =
     ∷ (3, compile two (replicate 65 0) [])
     ∷ (4, compile two (0x7000_0001 ∷ []) [])
     ∷ (5, compile two (0x2000_0001 ∷ []) [])
-    ∷ (6, compile sixteen closures [])
+    ∷ (6, compile sixteen overLimit [])
     ∷ (7, compile two (0x2000_0000 ∷ []) (0 ∷ []))
     ∷ (1, run (0 ∷ []) [] [] [])
     ∷ (2, run (0x1000_0001 ∷ []) [] [] [])

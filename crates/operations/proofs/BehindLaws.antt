@@ -9,7 +9,7 @@ use native.Mathlib.Nat.{add-zero, add-suc, suc-add}
 use lib.ListN.{length, drop}
 use Rattle.words.specs.Lists.{all, count, listFrom}
 use Rattle.words.specs.Postfix.{arity, isAncestor, valueOn}
-use Rattle.words.proofs.TestLaws.{Tested, holds, fails, tested}
+use Rattle.words.proofs.TestLaws.{Tested, holds, fails, tested, and-same, and-assoc}
 use Rattle.words.proofs.ListLaws.{listFrom-shift, map-listFrom, all-map, count-map}
 use Rattle.automaton.specs.StateSet.{StateSet}
 use Rattle.operations.specs.Marks.{nodeSet, sameWords}
@@ -63,14 +63,6 @@ module _ (stored : ℕ → StateSet) (above : ℕ → Bool) where
   -- the same by number: work continues up to the node k places behind j if it continues at j and ends at none between
   abbrev pub continuesFrom : ℕ → Bool → List Outcome → ℕ → Bool
   continuesFrom j on os k = on && all (λ i. not (endsAt (j + i) (outcomeAt os i))) (listFrom (λ i. i) 0 k)
-
-  and-same : (b : Bool) → b && true ≡ b
-  and-same true = refl
-  and-same false = refl
-
-  and-assoc : (b c d : Bool) → b && (c && d) ≡ b && c && d
-  and-assoc true c d = refl
-  and-assoc false c d = refl
 
   continues-more : (j : ℕ) (on : Bool) (o : Outcome) (os : List Outcome) (k : ℕ)
       → continuesFrom j on (o ∷ os) (suc k) ≡ continuesFrom (suc j) (on && not (endsAt j o)) os k

@@ -11,7 +11,7 @@ use Rattle.words.specs.ExactlyOne.{ExactlyOne}
 use Rattle.words.specs.Answer.{accepted}
 use Rattle.words.proofs.ListLaws.{take-over}
 use Rattle.words.proofs.AcceptedAlphabet.{alphabet-accepted}
-use Rattle.words.proofs.AcceptedExpression.{expression-passed}
+use Rattle.words.proofs.AcceptedExpression.{expression-accepted}
 use Rattle.words.proofs.AnswerLaws.{accepted-values}
 use Rattle.language.specs.Expression.{ExpressionOf}
 use Rattle.language.proofs.ExpressionLaws.{exactly-one-expression}
@@ -44,7 +44,7 @@ compile-result a e slice k h =
     let v = accepted-values (compileFault a e (length slice)) (length (compiledTable a e) ∷ []) (k ∷ []) h in
     let f = compile-accepted a e (length slice) (v .0) .rule in
     let few = alphabet-accepted a (f .alphabet) .counted .few in
-    let words = expression-passed a e (f .expression) in
+    let words = expression-accepted a e (f .expression) in
     let over = compiled-over a e (f .expression) (f .states) in
     let n : k ≡ length (compiledTable a e) = cc in
     record {

@@ -63,16 +63,16 @@ module _ (a e ch : List ℕ) (few : length a ≤ alphabetMost) (auto : automaton
 module _ (a table ch marks slice : List ℕ) (n cells hits : ℕ)
     (runs : runAnswer a table ch marks ≡ accepted (n ∷ cells ∷ []))
     (lists : listAnswer a table n (runExit a table ch marks) slice ≡ accepted (hits ∷ [])) where
-  run-values : (runFault a table ch (length marks) ≡ 0) × (n ≡ length ch)
+  run-told : (runFault a table ch (length marks) ≡ 0) × (n ≡ length ch)
   unfolding runAnswer
-  run-values =
+  run-told =
       let v =
       accepted-values (runFault a table ch (length marks)) (length ch ∷ cellsIn (flatten (nodeSets a table ch)) ∷ [])
       (n ∷ cells ∷ []) runs in
       (v .0, cc)
 
   run-is : RunAccepted a table ch (length marks)
-  run-is = run-accepted a table ch (length marks) (run-values .0)
+  run-is = run-accepted a table ch (length marks) (run-told .0)
 
   -- List writes the numbers of the nodes whose state sets hold the final state
   names-are : take hits (listExit a table n (runExit a table ch marks) slice) ≡ matchesIn (finalOf table) 0 (nodeSets a table ch)
@@ -82,9 +82,9 @@ module _ (a table ch marks slice : List ℕ) (n cells hits : ℕ)
       let m = matchesOf table n left in
       let v = accepted-values (listFault a table n (length left) (length slice)) (length m ∷ []) (hits ∷ []) lists in
       let k : length m ≡ hits = head-eq-of-cons-eq (v .1) in
-      let e : left ≡ runMarks a table ch marks = run-exit a table ch marks (run-values .0) in
+      let e : left ≡ runMarks a table ch marks = run-exit a table ch marks (run-told .0) in
       rw (v .0) (take-over m slice hits k)
-      ∙ ap (λ (i : ℕ). matchesOf table i left) (run-values .1)
+      ∙ ap (λ (i : ℕ). matchesOf table i left) (run-told .1)
       ∙ ap (matchesOf table (length ch)) e
       ∙ matches-nodeSets a table ch (runMarks a table ch marks) (run-writes a table ch marks)
 

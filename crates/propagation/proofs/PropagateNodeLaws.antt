@@ -117,7 +117,8 @@ module _ {a table index ch : List ℕ} {i : ℕ} {marks array : List ℕ} {heigh
   node-passed p q =
       rw (p, q) (record {
         represented =
-            represented-more (g .maintained .represented) (bounded-tree (g .workable)) (g .inside) k e i (omega arith) marks (λ j l. refl) refl;
+            represented-more (g .maintained .represented) (bounded-tree (g .workable)) (g .inside) k e i (omega arith) marks
+            (λ j l. refl) refl;
         remembered = remembered-later (g .maintained .remembered);
       })
 

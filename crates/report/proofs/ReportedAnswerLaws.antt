@@ -1,7 +1,7 @@
 -- What Compile, Run and List answer on slices that are long enough is what the output is made of: no number of a short slice can
 -- arise.
-use mathlib.Core.Path.{_≡_, refl, ap, _∙_, sym, subst}
-use mathlib.Core.Bool.{Bool, false}
+use mathlib.Core.Path.{_≡_, refl, ap, _∙_, sym}
+use mathlib.Core.Bool.{false}
 use mathlib.Core.List.{List, [], _∷_, _++_, head-eq-of-cons-eq}
 use Prim.Native.Nat.{ℕ, zero, suc, _*_, _<_, _≤_}
 use native.Mathlib.Omega.{arith}
@@ -10,12 +10,12 @@ use lib.ListN.{length, take}
 use borrow.Author.Tests.{le-ltb}
 use Rattle.words.specs.Limits.{tableMost, nodesMost}
 use Rattle.words.specs.Refusal.{Refusals, refusal}
-use Rattle.words.specs.Chapter.{treeRefusals}
 use Rattle.words.specs.Answer.{refused, accepted}
 use Rattle.words.proofs.TestLaws.{false-or}
 use Rattle.words.proofs.ListLaws.{take-over}
 use Rattle.words.proofs.LimitLaws.{over-outside}
-use Rattle.words.proofs.RefusalLaws.{Found, none, here, next, found-refusal, refusal-found, refuses, passes, none-behind, behindNumber}
+use Rattle.words.proofs.RefusalLaws.{Found, none, here, next, found-refusal, refusal-found, refuses, passes}
+use Rattle.words.proofs.RefusalLaws.{found-alike, none-behind, behindNumber}
 use Rattle.words.proofs.AnswerLaws.{refused-number, accepted-values}
 use Rattle.automaton.specs.Transition.{Automaton, automatonOf}
 use Rattle.automaton.specs.Numbering.{compiled}
@@ -126,9 +126,7 @@ module _ (a e : List ℕ) where
           asked = runRefusals a (compiledTable a e) ch marksLength
 
           go : {f : ℕ} → Found (chapterRefusals a ch) f → Found (behindNumber 8 asked) f
-          go {f} r =
-              subst (λ (b : Bool). Found ((9, b) ∷ treeRefusals a ch ++ behindNumber 11 asked) f) (sym same-count)
-              (none-behind r (behindNumber 11 asked) (false-or _ false marks-enough refl))
+          go r = found-alike same-count (none-behind r (behindNumber 11 asked) (false-or _ false marks-enough refl))
 
       -- a refused Run: its number is printed
       pub run-refusal : (marks : List ℕ) (n : ℕ) → length marks ≡ marksLength → refused n ≡ runAnswer a (compiledTable a e) ch marks

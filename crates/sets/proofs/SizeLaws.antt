@@ -8,7 +8,7 @@ use native.Mathlib.Nat.{le-trans, mul-le-mul-left, mul-le-mul-right}
 use Rattle.words.specs.Limits.{statesMost, nodesMost}
 use Rattle.automaton.specs.StateSet.{sizeFor}
 use Rattle.automaton.specs.Table.{isTable}
-use Rattle.automaton.proofs.TableLaws.{isTable-sizes}
+use Rattle.automaton.proofs.TableLaws.{isTable-states}
 use Rattle.operations.specs.Marks.{sizeOf}
 use Rattle.sets.specs.Size.{setMost, marksMost}
 
@@ -20,7 +20,7 @@ most-states = refl
 -- the set of one node
 pub set-small : (a table : List ℕ) → isTable a table ≡ true → sizeOf table ≤ setMost
 unfolding sizeOf sizeFor
-set-small a table h = omega (arith, isTable-sizes a table h .most)
+set-small a table h = omega (arith, isTable-states a table h)
 
 -- the sets of n nodes
 pub words-few : (n size : ℕ) → n ≤ nodesMost → size ≤ setMost → n * size ≤ marksMost

@@ -14,7 +14,7 @@ use Rattle.automaton.specs.StateSet.{StateSet, sizeFor, contains, allContained,
 use Rattle.automaton.specs.Reached.{Reached}
 use Rattle.automaton.proofs.PassLaws.{closed-test}
 use Rattle.automaton.proofs.BitLaws.{words-replicate, contains-replicate, contains-determines}
-use Rattle.automaton.proofs.ClosureLaws.{targets-below, seeded-closed-all, words-stateSet, stateSet-reached}
+use Rattle.automaton.proofs.ClosureLaws.{targets-below, targets-closed-all, words-stateSet, stateSet-reached}
 use Rattle.automaton.proofs.SetLength.{length-stateSet}
 use Rattle.automaton.proofs.TableLaws.{isTable-automaton}
 use Rattle.operations.specs.Marks.{sizeOf}
@@ -65,9 +65,9 @@ module _ {table index : List ℕ} {f : ℕ} (indexed : IndexedTable table index)
   A : Automaton
   A = automatonOf table
 
-  seeded : (ps : List ℕ) (q : ℕ) → List·Memᴰ (onSymbol f ps q) (A .transitions) → allContained ps rs ≡ true → contains r q ≡ true
+  has-targets : (ps : List ℕ) (q : ℕ) → List·Memᴰ (onSymbol f ps q) (A .transitions) → allContained ps rs ≡ true → contains r q ≡ true
   unfolding A
-  seeded ps q m e =
+  has-targets ps q m e =
       let s =
       member-starts table (onSymbol f ps q)
       (subst (List·Memᴰ (onSymbol f ps q)) (sym (table-transitions (indexed .alphabet) table (indexed .checked))) m) in
@@ -77,7 +77,8 @@ module _ {table index : List ℕ} {f : ℕ} (indexed : IndexedTable table index)
   has-reached : {q : ℕ} → Reached (A .transitions) f rs q → contains r q ≡ true
   unfolding A
   has-reached =
-      seeded-closed-all (A .transitions) f rs (λ q. contains r q ≡ true) seeded (closed-test (A .transitions) r (g .growing .set .closed))
+      targets-closed-all (A .transitions) f rs (λ q. contains r q ≡ true) has-targets
+      (closed-test (A .transitions) r (g .growing .set .closed))
 
   whole : r ≡ stateSet (automatonOf table) f rs ++ replicate (setMost - sizeOf table) 0
   unfolding A sizeOf

@@ -1,49 +1,29 @@
 -- What the check of a table tells of one word, by the tests of the code.
 use mathlib.Core.Path.{_≡_, _∙_, sym}
-use mathlib.Core.Bool.{Bool, true, false, cond, _&&_}
+use mathlib.Core.Bool.{Bool, true, false, not, cond, _&&_}
 use mathlib.Core.List.{List}
 use Prim.Native.Nat.{ℕ, zero, suc, _+_, _<_, _≤_}
 use native.Mathlib.Omega.{arith}
 use native.Mathlib.Numerals.{add-one}
 use lib.ListN.{length}
-use lib.Dec.{ltb, leb}
+use lib.Dec.{ltb}
 use borrow.Author.Tests.{eq-eqb, ne-eqb, lt-ltb, le-ltb}
-use Rattle.words.specs.Word.{Kind, headKind, transitionKind, epsilonKind, sourceKind, kindNumber, numberOf}
-use Rattle.words.specs.Word.{hasKind, spareBitsClear, isOf, symbolAbove, countAbove, stateAbove, stateBelow}
+use Rattle.words.specs.Word.{headKind, transitionKind, epsilonKind, sourceKind, kindNumber, numberOf}
+use Rattle.words.specs.Word.{spareBitsClear, isOf, symbolAbove, countAbove, stateAbove, stateBelow}
 use Rattle.words.specs.Alphabet.{rankOf}
-use Rattle.words.specs.Limits.{statesMost}
+use Rattle.words.specs.Limits.{outside, statesMost}
 use Rattle.words.proofs.TestLaws.{and-none}
+use Rattle.words.proofs.KindLaws.{not-clear, not-of, is-of}
 use Rattle.automaton.specs.Table.{isHead, isTableWord, sourcesLeft}
-
--- ---- a test of two, by the branch on the first
-
-pub and-both : (a b r : Bool) → a ≡ true → r ≡ b → r ≡ a && b
-and-both a b r e h = h ∙ sym (rw e)
-
-pub and-first : (a b r : Bool) → a ≡ false → r ≡ a → r ≡ a && b
-and-first a b r e h = h ∙ e ∙ sym (rw e)
 
 -- ---- the head
 
-pub head-value : (w : ℕ) (p q r s : Bool) → p ≡ isOf headKind w → q ≡ p && ltb 0 (countAbove w) → r ≡ q && leb (countAbove w) statesMost
-    → s ≡ r && ltb (stateBelow w) (countAbove w) → s ≡ isHead w
+pub head-value : (w : ℕ) (p q s : Bool) → p ≡ isOf headKind w → q ≡ p && not (outside statesMost (countAbove w))
+    → s ≡ q && ltb (stateBelow w) (countAbove w) → s ≡ isHead w
 unfolding isHead
-head-value w p q r s ep eq er es = es ∙ rw (er, eq, ep)
+head-value w p q s ep eq es = es ∙ rw (eq, ep)
 
 -- ---- a word behind the head
-
-module _ (k : Kind) (w : ℕ) where
-  not-clear : spareBitsClear w ≡ false → isOf k w ≡ false
-  unfolding isOf
-  not-clear h = rw h (and-none (hasKind k w))
-
-  not-of : (numberOf w ≡ kindNumber k → ⊥) → isOf k w ≡ false
-  unfolding isOf
-  not-of h = rw (ne-eqb (numberOf w) (kindNumber k) h)
-
-  is-of : numberOf w ≡ kindNumber k → spareBitsClear w ≡ true → isOf k w ≡ true
-  unfolding isOf
-  is-of e h = rw (eq-eqb (numberOf w) (kindNumber k) e, h)
 
 module _ (a : List ℕ) (n w : ℕ) where
   -- where k part states are to come: one more than those to come behind the word, or 0 where it may not stand

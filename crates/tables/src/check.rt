@@ -24,8 +24,7 @@ fn is_head(w: u32) -> bool
     let kind = kind_of(w);
     match kind {
         Kind::Head => spare_bits_clear(w)
-            && 0 < states
-            && states <= STATES_MOST as u32
+            && !is_outside(STATES_MOST, states as usize)
             && w % STATE_RANGE < states,
         _ => false,
     }

@@ -20,9 +20,9 @@ pub record AcceptedExpression (a e : List ℕ) : Type 0 where
   -- 5
   pub shape : oneTree a e ≡ true
 
-pub expression-passed : (a e : List ℕ) → expressionFault a e ≡ 0 → AcceptedExpression a e
+pub expression-accepted : (a e : List ℕ) → expressionFault a e ≡ 0 → AcceptedExpression a e
 unfolding wrongLength notExpressionWords notOneTree
-expression-passed a e h =
+expression-accepted a e h =
     let not-so : (n : ℕ) → conditionOf n (expressionRefusals a e) ≡ false = none-applies (expressionRefusals a e) refl h in
     record {
       counted = not-outside expressionMost (length e) (not-so 3);

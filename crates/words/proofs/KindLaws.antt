@@ -10,7 +10,7 @@ use borrow.Author.Tests.{eq-eqb, ne-eqb, eqb-true, lt-ltb, ltb-true}
 use Rattle.words.specs.Word.{Kind, entryKind, symbolKind, emptyKind, unionKind, productKind, closureKind, nodeKind, kindUnit}
 use Rattle.words.specs.Word.{headKind, transitionKind, epsilonKind, sourceKind, noKind, kinds, kindAmong, kindAt, kindNumber}
 use Rattle.words.specs.Word.{numberOf, kindOf, hasKind, bodyOf, fieldRange, spareBitsClear, isOf, wordOf, lowByte}
-use Rattle.words.proofs.TestLaws.{Tested, holds, fails, tested, and-true, true-and}
+use Rattle.words.proofs.TestLaws.{Tested, holds, fails, tested, and-true, true-and, and-none}
 
 -- ---- a kind and its number
 
@@ -126,6 +126,20 @@ isOf-facts k w h =
       body = ltb-true (bodyOf w) (fieldRange k) (rw e at (p .1));
       word = word-wordOf k w (p .0);
     }
+
+-- by the tests of the code
+module _ (k : Kind) (w : ℕ) where
+  pub not-clear : spareBitsClear w ≡ false → isOf k w ≡ false
+  unfolding isOf
+  not-clear h = rw h (and-none (hasKind k w))
+
+  pub not-of : (numberOf w ≡ kindNumber k → ⊥) → isOf k w ≡ false
+  unfolding isOf
+  not-of h = rw (ne-eqb (numberOf w) (kindNumber k) h)
+
+  pub is-of : numberOf w ≡ kindNumber k → spareBitsClear w ≡ true → isOf k w ≡ true
+  unfolding isOf
+  is-of e h = rw (eq-eqb (numberOf w) (kindNumber k) e, h)
 
 isOf-from : (k : Kind) (w : ℕ) → numberOf w ≡ kindNumber k → bodyOf w < fieldRange k → isOf k w ≡ true
 unfolding isOf spareBitsClear

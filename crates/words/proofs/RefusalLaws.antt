@@ -142,6 +142,10 @@ passes rs {ks} {g = g} p e h r = go rs (refusal-none rs p (sym e ∙ h))
     go [] n = r
     go (q ∷ rs) n = next (first-fails q rs n) (go rs (rest-fails q rs n))
 
+-- a condition that is judged alike may stand in another's place
+pub found-alike : {n : ℕ} {b c : Bool} {rs : Refusals} {f : ℕ} → c ≡ b → Found ((n, b) ∷ rs) f → Found ((n, c) ∷ rs) f
+found-alike e r = rw e r
+
 -- conditions that fail make no difference behind it
 pub none-behind : {rs : Refusals} {f : ℕ} → Found rs f → (ks : Refusals) → NoneHolds ks → Found (rs ++ ks) f
 none-behind (applies x) ks h = applies (first-append x ks)
@@ -180,7 +184,8 @@ module _ (whole : Refusals) (p : positive whole ≡ true) (h : refusal whole ≡
 
   pub part-behind : (n : ℕ) (rs : Refusals) → take (length rs) (behindNumber n whole) ≡ rs → refusal rs ≡ 0
   part-behind n rs e =
-      none-refusal rs (subst NoneHolds e (none-taken (length rs) (behindNumber n whole) (none-behind-number n whole (refusal-none whole p h))))
+      let rest = none-behind-number n whole (refusal-none whole p h) in
+      none-refusal rs (subst NoneHolds e (none-taken (length rs) (behindNumber n whole) rest))
 
 -- the first number of the list that applies, or n
 abbrev pub refusalOr : Refusals → ℕ → ℕ

@@ -1,6 +1,6 @@
 -- Laws of tests: a test with its outcome, two tests that hold together, both and either of two tests, and a test of every word
 -- of a list.
-use mathlib.Core.Path.{_≡_, refl, sym}
+use mathlib.Core.Path.{_≡_, refl, sym, _∙_}
 use mathlib.Core.Logic.{_⊎_, inl, inr}
 use mathlib.Core.Bool.{Bool, true, false, cond, _&&_, _||_, true≢false, false≢true}
 use mathlib.Core.List.{List, [], _∷_, _++_}
@@ -34,6 +34,21 @@ true-and b c e f = rw (e, f)
 pub and-none : (b : Bool) → b && false ≡ false
 and-none true = refl
 and-none false = refl
+
+pub and-same : (b : Bool) → b && true ≡ b
+and-same true = refl
+and-same false = refl
+
+pub and-assoc : (b c d : Bool) → b && (c && d) ≡ b && c && d
+and-assoc true c d = refl
+and-assoc false c d = refl
+
+-- what a branch on the first leaves to say
+pub and-both : (b c r : Bool) → b ≡ true → r ≡ c → r ≡ b && c
+and-both b c r e h = h ∙ sym (rw e)
+
+pub and-first : (b c r : Bool) → b ≡ false → r ≡ b → r ≡ b && c
+and-first b c r e h = h ∙ e ∙ sym (rw e)
 
 pub or-false : (b c : Bool) → b || c ≡ false → (b ≡ false) × (c ≡ false)
 or-false true c e = absurd (true≢false e)

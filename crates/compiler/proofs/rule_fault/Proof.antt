@@ -8,7 +8,7 @@ use Rattle.words.specs.Alphabet.{alphabetRefusals}
 use Rattle.words.specs.ExpressionWords.{expressionRefusals}
 use Rattle.words.proofs.RefusalLaws.{Found, none, here, next, found-refusal, refuses, passes}
 use Rattle.words.proofs.AcceptedAlphabet.{alphabet-accepted}
-use Rattle.words.proofs.AcceptedExpression.{expression-passed}
+use Rattle.words.proofs.AcceptedExpression.{expression-accepted}
 use Rattle.operations.specs.Compile.{ruleRefusals}
 use Rattle.compiler.proofs.AcceptedRuleLaws.{states-countable}
 use Rattle.compiler.proofs.FaultLaws.{states-above, states-within}
@@ -55,7 +55,7 @@ states-after-requires c κs =
     let first = second .before .before in (
       states-countable _ _ (alphabet-accepted _ (sym (first .before .alphabet-fault .ensures) ∙ first .if1 .left))
           (c .count-constants .ensures),
-      expression-passed _ _ (sym (second .before .expression-fault .ensures) ∙ second .if2 .left) .counted .few,
+      expression-accepted _ _ (sym (second .before .expression-fault .ensures) ∙ second .if2 .left) .counted .few,
     )
 
 cast-if3 : tie.Need-cast-if3

@@ -10,14 +10,14 @@ use Rattle.words.proofs.ListLaws.{length-take-most}
 use Rattle.emitter.proofs.WritingLaws.{words-written-next}
 use Rattle.compiler.specs.Compiling.{wordStatesMost}
 use Rattle.compiler.proofs.KnownConstants.{constants-symbols}
-use Rattle.compiler.proofs.AcceptedRuleLaws.{accepted-alphabet, accepted-expression, states-countable, states-few}
+use Rattle.compiler.proofs.AcceptedRuleLaws.{rule-alphabet, rule-expression, states-countable, states-few}
 use Rattle.compiler.proofs.TablePartLaws.{word-last, table-written}
 use Rattle.compiler.proofs.table.write_parts.Statement.{statement}
 use Rattle.compiler.proofs.table.write_parts.Tie as tie
 
 sub-last : tie.Need-sub-last
 sub-last c =
-    let some = accepted-expression _ _ (c .before .before .before .before .pre .accepted) .counted .some in
+    let some = rule-expression _ _ (c .before .before .before .before .pre .accepted) .counted .some in
     omega arith
 
 mul-w : tie.Need-mul-w
@@ -25,7 +25,7 @@ mul-w c = search needs
 
 shared-slice-read-w : tie.Need-shared-slice-read-w
 shared-slice-read-w c =
-    let some = accepted-expression _ _ (c .before .before .before .before .before .pre .accepted) .counted .some in
+    let some = rule-expression _ _ (c .before .before .before .before .before .pre .accepted) .counted .some in
     omega arith
 
 slice-aggregate-states-after : tie.Need-slice-aggregate-states-after
@@ -37,21 +37,21 @@ states-after-requires : tie.Need-states-after-requires
 states-after-requires c κs =
     let p = c .before .before .before .before .before .before .pre in
     let l = c .before .before .before .before .before .before .args .expression .now in
-    let few = accepted-expression _ _ (p .accepted) .counted .few in
+    let few = rule-expression _ _ (p .accepted) .counted .few in
     let t = length-take-most l (length l - 1) in
-    (states-countable _ _ (accepted-alphabet _ _ (p .accepted)) (ap length (p .constants)), omega arith)
+    (states-countable _ _ (rule-alphabet _ _ (p .accepted)) (ap length (p .constants)), omega arith)
 
 states-of-requires : tie.Need-states-of-requires
 states-of-requires c κs =
     let p = c .before .before .before .before .before .before .before .pre in
-    states-countable _ _ (accepted-alphabet _ _ (p .accepted)) (ap length (p .constants))
+    states-countable _ _ (rule-alphabet _ _ (p .accepted)) (ap length (p .constants))
 
 -- the last word's exit is low
 exit-low : (c : tie.After-states-after) → c .states-after .result ≤ wordStatesMost * expressionMost
 exit-low c =
     let start = c .before .before .before .before .before .before .before in
     let l = start .args .expression .now in
-    states-few l (length l - 1) _ (accepted-expression _ _ (start .pre .accepted) .counted .few) (c .states-after .ensures .1)
+    states-few l (length l - 1) _ (rule-expression _ _ (start .pre .accepted) .counted .few) (c .states-after .ensures .1)
 
 add-states : tie.Need-add-states
 add-states c =
@@ -62,10 +62,10 @@ add-states c =
 word-port-requires : tie.Need-word-port-requires
 word-port-requires c κs =
     let start = c .before .before .before .before .before .before .before .before in
-    let e = accepted-expression _ _ (start .pre .accepted) in
+    let e = rule-expression _ _ (start .pre .accepted) in
     let x = exit-low (c .before) in
     record {
-      symbols = accepted-alphabet _ _ (start .pre .accepted) .counted .few;
+      symbols = rule-alphabet _ _ (start .pre .accepted) .counted .few;
       word = word-last _ (start .args .expression .now) (e .counted .some) (e .words);
       low = omega arith;
     }
@@ -97,7 +97,7 @@ push-requires c κs = search needs
 push-constants-requires : tie.Need-push-constants-requires
 push-constants-requires c κs =
     let p = c .before .before .before .before .before .before .before .before .before .before .before .before .before .before .pre in
-    let h = accepted-alphabet _ _ (p .accepted) in
+    let h = rule-alphabet _ _ (p .accepted) in
     let n = words-written-next _ _ _ _ _ _ (c .before .before .before .push .ensures) in
     record {
       few = rw (p .constants) (h .constants .few);
@@ -125,7 +125,7 @@ returns c =
     let a =
     c .before .before .before .before .before .before .before .before .before .before .before .before .before .before .before .before
     .before .before .before .before .before .args in
-    let e = accepted-expression _ _ (p .accepted) in
+    let e = rule-expression _ _ (p .accepted) in
     table-written (a .alphabet .now) (a .constants .now) (a .expression .now) (e .counted .some) _ _ _ _ _ _ _ _ _ _ (p .constants)
     (c .before .before .before .before .before .before .before .before .before .before .before .before .before .before .states-after
     .ensures .0)

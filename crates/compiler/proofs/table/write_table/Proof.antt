@@ -3,7 +3,7 @@ use native.Mathlib.Omega.{arith}
 use mathlib.Core.Path.{refl, sym}
 use lib.Seq.{length-take-le}
 use borrow.Author.Needs.{needs}
-use Rattle.compiler.proofs.AcceptedRuleLaws.{accepted-alphabet, constants-first, constants-within}
+use Rattle.compiler.proofs.AcceptedRuleLaws.{rule-alphabet, constants-first, constants-within}
 use Rattle.compiler.proofs.table.write_table.Statement.{statement}
 use Rattle.compiler.proofs.table.write_table.Tie as tie
 
@@ -17,13 +17,13 @@ array-share-prefix-list : tie.Need-array-share-prefix-list
 array-share-prefix-list c =
     let k = c .before .write-constants .ensures in
     let start = c .before .before .before .before .before .before in
-    constants-within _ _ _ _ (accepted-alphabet _ _ (start .pre)) refl (k .0) (k .1)
+    constants-within _ _ _ _ (rule-alphabet _ _ (start .pre)) refl (k .0) (k .1)
 
 slice-aggregate-write-parts : tie.Need-slice-aggregate-write-parts
 slice-aggregate-write-parts c =
     let k = c .before .before .write-constants .ensures in
     let start = c .before .before .before .before .before .before .before in
-    sym (length-take-le _ _ (constants-within _ _ _ _ (accepted-alphabet _ _ (start .pre)) refl (k .0) (k .1)))
+    sym (length-take-le _ _ (constants-within _ _ _ _ (rule-alphabet _ _ (start .pre)) refl (k .0) (k .1)))
 
 write-parts-requires : tie.Need-write-parts-requires
 write-parts-requires c κs =
@@ -31,7 +31,7 @@ write-parts-requires c κs =
     let start = c .before .before .before .before .before .before .before .before in
     record {
       accepted = start .pre;
-      constants = constants-first _ _ _ _ (accepted-alphabet _ _ (start .pre)) refl (k .0) (k .1);
+      constants = constants-first _ _ _ _ (rule-alphabet _ _ (start .pre)) refl (k .0) (k .1);
       fits = omega arith;
     }
 

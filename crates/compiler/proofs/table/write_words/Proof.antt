@@ -6,7 +6,7 @@ use native.Mathlib.Omega.{arith}
 use lib.ListN.{length}
 use borrow.Author.Needs.{needs}
 use Rattle.words.specs.Limits.{expressionMost}
-use Rattle.compiler.proofs.AcceptedRuleLaws.{accepted-alphabet, accepted-expression, states-countable}
+use Rattle.compiler.proofs.AcceptedRuleLaws.{rule-alphabet, rule-expression, states-countable}
 use Rattle.compiler.proofs.EmittedLaws.{Emitted, emitted-none, emitted-word, emitted-children, emitted-height}
 use Rattle.compiler.proofs.EmittedLaws.{emitted-emittable, emitted-own-emittable, emitted-more, emitted-end}
 use Rattle.compiler.proofs.table.write_words.Statement.{statement}
@@ -21,7 +21,7 @@ abbrev μ-loop : tie.MeasureT-loop
 
 loop-holds : tie.Need-loop-holds Inv-loop μ-loop
 loop-holds c =
-    let e = accepted-expression _ _ (c .before .before .before .before .pre .accepted) in
+    let e = rule-expression _ _ (c .before .before .before .before .pre .accepted) in
     emitted-none _ _ _ _ _ _ (e .words) (e .shape) refl
 
 mul-w : tie.Need-mul-w Inv-loop μ-loop
@@ -40,7 +40,7 @@ sub-base c = emitted-children (c .before .before .before .loop .inv) _ (c .befor
 height-low : (c : tie.After-arity Inv-loop μ-loop) → c .before .before .before .loop .height < expressionMost
 height-low c =
     emitted-height (c .before .before .before .loop .inv) (c .before .before .loop-test .taken)
-    (accepted-expression _ _ (c .before .before .before .before .before .before .before .before .pre .accepted) .counted .few)
+    (rule-expression _ _ (c .before .before .before .before .before .before .before .before .pre .accepted) .counted .few)
 
 mul-push-own : tie.Need-mul-push-own Inv-loop μ-loop
 mul-push-own c = let h = height-low c in omega arith
@@ -61,10 +61,10 @@ push-own-requires : tie.Need-push-own-requires Inv-loop μ-loop
 push-own-requires c κs =
     let p = c .before .before .before .before .before .before .before .before .before .before .before .pre in
     let m = c .before .before .before .before .before .before .loop .inv in
-    let e = accepted-expression _ _ (p .accepted) in
+    let e = rule-expression _ _ (p .accepted) in
     let h = c .before .before .before .before .before .loop-test .taken in
     let r = c .before .before .before .arity .ensures in (
-      emitted-emittable m _ _ (p .constants) (accepted-alphabet _ _ (p .accepted)) h (e .counted .few) (p .fits) r refl,
+      emitted-emittable m _ _ (p .constants) (rule-alphabet _ _ (p .accepted)) h (e .counted .few) (p .fits) r refl,
       emitted-own-emittable m _ _ (p .constants) h (e .counted .few) r refl,
     )
 
@@ -73,10 +73,10 @@ word-port-requires c κs =
     let p = c .before .before .before .before .before .before .before .before .before .before .before .before .before .before .pre in
     let m = c .before .before .before .before .before .before .before .before .before .loop .inv in
     let h = c .before .before .before .before .before .before .before .before .loop-test .taken in
-    let e = accepted-expression _ _ (p .accepted) in
+    let e = rule-expression _ _ (p .accepted) in
     let few = e .counted .few in
     let low = m .low in
-    record { symbols = accepted-alphabet _ _ (p .accepted) .counted .few; word = emitted-word m h; low = omega arith }
+    record { symbols = rule-alphabet _ _ (p .accepted) .counted .few; word = emitted-word m h; low = omega arith }
 
 mul-stack : tie.Need-mul-stack Inv-loop μ-loop
 mul-stack c = let h = height-low (c .before .before .before .before .before .before .before) in omega arith
@@ -91,7 +91,7 @@ states-of-requires : tie.Need-states-of-requires Inv-loop μ-loop
 states-of-requires c κs =
     let p =
     c .before .before .before .before .before .before .before .before .before .before .before .before .before .before .before .pre in
-    states-countable _ _ (accepted-alphabet _ _ (p .accepted)) (ap length (p .constants))
+    states-countable _ _ (rule-alphabet _ _ (p .accepted)) (ap length (p .constants))
 
 add-state : tie.Need-add-state Inv-loop μ-loop
 add-state c =
@@ -100,7 +100,7 @@ add-state c =
     .before .pre in
     let low = c .before .before .before .before .before .before .before .before .before .before .before .loop .inv .low in
     let h = c .before .before .before .before .before .before .before .before .before .before .loop-test .taken in
-    let few = accepted-expression _ _ (p .accepted) .counted .few in
+    let few = rule-expression _ _ (p .accepted) .counted .few in
     let s = c .states-of .ensures .1 in
     omega arith
 
@@ -116,7 +116,7 @@ loop-again c =
     c .before .before .before .before .before .before .before .before .before .before .before .before .before .before .before
     .before .pre in
     let m = c .before .before .before .before .before .before .before .before .before .before .before .loop .inv in
-    let e = accepted-expression _ _ (p .accepted) in
+    let e = rule-expression _ _ (p .accepted) in
     emitted-more m _ _ _ _ _ _ (p .constants)
     (c .before .before .before .before .before .before .before .before .before .before .loop-test .taken) (e .counted .few)
     (c .before .before .before .before .before .before .before .before .arity .ensures) refl
@@ -128,7 +128,7 @@ same-length c = c .before .loop .inv .long
 
 returns : tie.Need-returns Inv-loop μ-loop
 returns c =
-    emitted-end (c .before .loop .inv) (c .loop-test .left) (accepted-expression _ _
+    emitted-end (c .before .loop .inv) (c .loop-test .left) (rule-expression _ _
     (c .before .before .before .before .before .before .pre .accepted) .counted .few)
 
 pub write-words-spec : {M : Type 1} → statement M

@@ -1,10 +1,12 @@
 -- `emitter::constants::push_every` meets its contract: before each turn the moves of the first k constants are written.
+use mathlib.Core.Path.{refl}
 use Prim.Native.Nat.{_-_}
 use native.Mathlib.Omega.{arith}
 use lib.ListN.{length}
 use borrow.Author.Needs.{needs}
-use Rattle.emitter.proofs.WritingLaws.{words-written-next}
-use Rattle.emitter.proofs.ConstantTransitionLaws.{EveryPushed, every-pushed-none, every-pushed-more, every-pushed-end}
+use Rattle.words.specs.Limits.{constantsMost}
+use Rattle.emitter.proofs.WritingLaws.{words-written-next, each-written-none, each-written-end}
+use Rattle.emitter.proofs.ConstantTransitionLaws.{EveryPushed, every-pushed-more}
 use Rattle.emitter.proofs.constants.push_every.Statement.{statement}
 use Rattle.emitter.proofs.constants.push_every.Tie as tie
 
@@ -15,7 +17,7 @@ abbrev μ-loop : tie.MeasureT-loop
 μ-loop constants out₀ at exit next₀ k₀ out next k = length constants - k
 
 loop-holds : tie.Need-loop-holds Inv-loop μ-loop
-loop-holds c = every-pushed-none _ _ _ _
+loop-holds c = each-written-none _ _ _ _ _ refl
 
 entry-state-requires : tie.Need-entry-state-requires Inv-loop μ-loop
 entry-state-requires c κs =
@@ -60,7 +62,10 @@ same-length : tie.Need-same-length Inv-loop μ-loop
 same-length c = c .before .loop .inv .long
 
 returns : tie.Need-returns Inv-loop μ-loop
-returns c = every-pushed-end (c .before .loop .inv) (c .loop-test .left) (c .before .before .before .before .pre .0 .few)
+returns c =
+    let i = c .before .loop .inv .within in
+    let few = c .before .before .before .before .pre .0 .few in
+    each-written-end (c .before .loop .inv) constantsMost (c .loop-test .left) (omega arith)
 
 pub push-every-spec : {M : Type 1} → statement M
 push-every-spec =

@@ -30,7 +30,8 @@ returns c =
     let start = i .before .before .before .before .before .before .before .before .before in
     let a = start .args in
     closure-here (a .constants .now) (a .ports .now) (entryState (a .exit) (a .k)) _ _ _ _ _ _ (start .pre .1 .1) (a .exit) _ _
-    (i .if1 .taken) (i .before .before .before .before .push-to-children .ensures) (p .before .entry-state .ensures) (p .push-epsilon .ensures)
+    (i .if1 .taken) (i .before .before .before .before .push-to-children .ensures) (p .before .entry-state .ensures)
+    (p .push-epsilon .ensures)
 
 same-length-2 : tie.Need-same-length-2
 same-length-2 c = search needs

@@ -1,10 +1,12 @@
 -- `emitter::entries::push_entries` meets its contract: before each turn the transitions for the first k constants are written.
+use mathlib.Core.Path.{refl}
 use Prim.Native.Nat.{_-_}
+use native.Mathlib.Omega.{arith}
 use lib.ListN.{length}
 use borrow.Author.Needs.{needs}
-use Rattle.emitter.specs.Emission.{targetsIn}
-use Rattle.emitter.proofs.EntryEpsilonLaws.{EntriesWritten, entriesWritten-none, entriesWritten-fits}
-use Rattle.emitter.proofs.EntryEpsilonLaws.{entriesWritten-more, entriesWritten-end}
+use Rattle.emitter.specs.Emission.{entriesWordsMost, targetsIn}
+use Rattle.emitter.proofs.WritingLaws.{each-written-none, each-written-end}
+use Rattle.emitter.proofs.EntryEpsilonLaws.{EntriesWritten, entriesWritten-fits, entriesWritten-more}
 use Rattle.emitter.proofs.entries.push_entries.Statement.{statement}
 use Rattle.emitter.proofs.entries.push_entries.Tie as tie
 
@@ -16,7 +18,7 @@ abbrev μ-loop : tie.MeasureT-loop
 μ-loop constants ports out₀ at exit targets next₀ k₀ out next k = length constants - k
 
 loop-holds : tie.Need-loop-holds Inv-loop μ-loop
-loop-holds c = entriesWritten-none _ _ _ _ _
+loop-holds c = each-written-none _ _ _ _ _ refl
 
 push-entry-requires : tie.Need-push-entry-requires Inv-loop μ-loop
 push-entry-requires c κs =
@@ -48,7 +50,9 @@ same-length c = c .before .loop .inv .long
 
 returns : tie.Need-returns Inv-loop μ-loop
 returns c =
-    let p = c .before .before .before .before .before .pre in entriesWritten-end (c .before .loop .inv) (c .loop-test .left) (p .0 .few)
+    let i = c .before .loop .inv .within in
+    let few = c .before .before .before .before .before .pre .0 .few in
+    each-written-end (c .before .loop .inv) entriesWordsMost (c .loop-test .left) (omega arith)
 
 pub push-entries-spec : {M : Type 1} → statement M
 push-entries-spec =

@@ -1,8 +1,8 @@
 -- `emitter::entries::push_entry` meets its contract: the writer of each case leaves what is said of it.
-use Prim.Native.Nat.{_+_}
 use native.Mathlib.Omega.{arith}
 use borrow.Author.Needs.{needs}
 use Rattle.words.specs.Limits.{rankMost}
+use Rattle.ports.specs.Ports.{entryState}
 use Rattle.emitter.specs.Emission.{entryWordsMost}
 use Rattle.emitter.proofs.ChildTargetLaws.{targetable-said, targets-said}
 use Rattle.emitter.proofs.entries.push_entry.Statement.{statement}
@@ -36,7 +36,7 @@ same-length c = search needs
 returns : tie.Need-returns
 returns c =
     let a = c .before .before .before .before .before .before .before .before .before .args in
-    targets-said (a .constants .now) (a .ports .now) (a .exit) (a .exit + 1 + a .k) _ _ _ _ _ _ _ rankMost (omega arith)
+    targets-said (a .constants .now) (a .ports .now) (a .exit) (entryState (a .exit) (a .k)) _ _ _ _ _ _ _ rankMost (omega arith)
     (c .before .before .before .before .enum-told .given .1)
     (c .before .before .push-to-children .ensures)
 
@@ -46,7 +46,7 @@ same-length-2 c = search needs
 returns-2 : tie.Need-returns-2
 returns-2 c =
     let a = c .before .before .before .before .before .before .before .before .before .before .args in
-    targets-said (a .constants .now) (a .ports .now) (a .exit) (a .exit + 1 + a .k) _ _ _ _ _ _ _ entryWordsMost (omega arith)
+    targets-said (a .constants .now) (a .ports .now) (a .exit) (entryState (a .exit) (a .k)) _ _ _ _ _ _ _ entryWordsMost (omega arith)
     (c .before .before .before .before .before .targets .given .1)
     (c .before .before .push-product-entry .ensures)
 
@@ -56,7 +56,7 @@ same-length-3 c = search needs
 returns-3 : tie.Need-returns-3
 returns-3 c =
     let a = c .before .before .before .before .before .before .before .before .before .before .args in
-    targets-said (a .constants .now) (a .ports .now) (a .exit) (a .exit + 1 + a .k) _ _ _ _ _ _ _ entryWordsMost (omega arith)
+    targets-said (a .constants .now) (a .ports .now) (a .exit) (entryState (a .exit) (a .k)) _ _ _ _ _ _ _ entryWordsMost (omega arith)
     (c .before .before .before .before .before .targets2 .given .1)
     (c .before .before .push-closure-entry .ensures)
 

@@ -1,6 +1,6 @@
 -- `emitter::entries::push_product_entry` meets its contract: the children from the second on stand behind the first port.
-use Prim.Native.Nat.{_+_}
 use borrow.Author.Needs.{needs}
+use Rattle.ports.specs.Ports.{entryState}
 use Rattle.emitter.proofs.ChildTargetLaws.{emittable-behind, product-here, product-other}
 use Rattle.emitter.proofs.entries.push_product_entry.Statement.{statement}
 use Rattle.emitter.proofs.entries.push_product_entry.Tie as tie
@@ -32,7 +32,7 @@ returns : tie.Need-returns
 returns c =
     let start = c .before .before .before .before .before .before .before .before .before .before in
     let a = start .args in
-    product-here (a .constants .now) (a .ports .now) (a .exit + 1 + a .k) _ _ _ _ _ _ (start .pre .1 .1)
+    product-here (a .constants .now) (a .ports .now) (entryState (a .exit) (a .k)) _ _ _ _ _ _ (start .pre .1 .1)
     (c .before .before .before .before .before .if1 .taken) (c .before .before .push-to-children .ensures)
 
 push-to-children-requires-2 : tie.Need-push-to-children-requires-2
@@ -45,7 +45,7 @@ returns-2 : tie.Need-returns-2
 returns-2 c =
     let start = c .before .before .before .before .before .before .before .before .before in
     let a = start .args in
-    product-other (a .constants .now) (a .ports .now) (a .exit + 1 + a .k) _ _ _ _ _ _ (start .pre .1 .1)
+    product-other (a .constants .now) (a .ports .now) (entryState (a .exit) (a .k)) _ _ _ _ _ _ (start .pre .1 .1)
     (c .before .before .before .before .if1 .left) (c .before .before .push-to-children2 .ensures)
 
 pub push-product-entry-spec : {M : Type 1} → statement M

@@ -3,8 +3,9 @@ use Prim.Native.Nat.{_-_}
 use native.Mathlib.Omega.{arith}
 use lib.ListN.{length, getD}
 use borrow.Author.Needs.{needs}
-use Rattle.emitter.proofs.WritingLaws.{words-written-next}
-use Rattle.emitter.proofs.EntryLaws.{ToChildren, children-none, children-more, children-end}
+use Rattle.words.specs.Limits.{rankMost}
+use Rattle.emitter.proofs.WritingLaws.{words-written-next, each-written-end}
+use Rattle.emitter.proofs.EntryLaws.{ToChildren, children-none, children-more}
 use Rattle.emitter.proofs.entries.push_to_children.Statement.{statement}
 use Rattle.emitter.proofs.entries.push_to_children.Tie as tie
 
@@ -53,9 +54,13 @@ loop-less c = search needs
 
 loop-again : tie.Need-loop-again Inv-loop μ-loop
 loop-again c =
-    children-more (c .before .before .before .before .before .before .before .loop .inv) _ _ _
-    (c .before .before .before .before .before .before .loop-test .taken)
-    (c .before .before .before .before .entry-at .ensures) (c .before .before .push-to .kept .0) (c .before .before .push-to .ensures)
+    let p = c .before .before in
+    let n = p .before .before in
+    let l = n .before .before in
+    let s = l .before .before in
+    let a = s .before .before .before .before .args in
+    children-more (a .constants .now) (a .ports .now) (s .entry-state .result) (getD (a .constants .now) (a .k) 0) (l .before .loop .inv)
+    _ _ _ (l .loop-test .taken) (n .entry-at .ensures) (p .push-to .kept .0) (p .push-to .ensures)
 
 same-length : tie.Need-same-length Inv-loop μ-loop
 same-length c = c .before .loop .inv .long
@@ -63,7 +68,9 @@ same-length c = c .before .loop .inv .long
 returns : tie.Need-returns Inv-loop μ-loop
 returns c =
     let s = c .before .before in
-    rw (s .entry-state .ensures) at (children-end (c .before .loop .inv) (c .loop-test .left) (s .before .before .before .before .pre .0 .children))
+    let i = c .before .loop .inv .within in
+    let few = s .before .before .before .before .pre .0 .children in
+    rw (s .entry-state .ensures) at (each-written-end (c .before .loop .inv) rankMost (c .loop-test .left) (omega arith))
 
 pub push-to-children-spec : {M : Type 1} → statement M
 push-to-children-spec =

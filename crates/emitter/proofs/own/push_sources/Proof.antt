@@ -1,10 +1,12 @@
 -- `emitter::own::push_sources` meets its contract: before each turn the first i children's exits are written.
+use mathlib.Core.Path.{refl}
 use Prim.Native.Nat.{_-_}
 use native.Mathlib.Omega.{arith}
 use lib.ListN.{length}
 use borrow.Author.Needs.{needs}
-use Rattle.emitter.proofs.WritingLaws.{words-written-next}
-use Rattle.emitter.proofs.SourceLaws.{Sourced, sourced-none, sourced-more, sourced-end}
+use Rattle.words.specs.Limits.{rankMost}
+use Rattle.emitter.proofs.WritingLaws.{words-written-next, each-written-none, each-written-end}
+use Rattle.emitter.proofs.SourceLaws.{Sourced, sourced-more}
 use Rattle.emitter.proofs.own.push_sources.Statement.{statement}
 use Rattle.emitter.proofs.own.push_sources.Tie as tie
 
@@ -15,7 +17,7 @@ abbrev μ-loop : tie.MeasureT-loop
 μ-loop ports out₀ at next₀ i₀ out next i = length ports - i
 
 loop-holds : tie.Need-loop-holds Inv-loop μ-loop
-loop-holds c = sourced-none _ _ _
+loop-holds c = each-written-none _ _ _ _ _ refl
 
 mul-push : tie.Need-mul-push Inv-loop μ-loop
 mul-push c = search needs
@@ -58,7 +60,10 @@ same-length : tie.Need-same-length Inv-loop μ-loop
 same-length c = c .before .loop .inv .long
 
 returns : tie.Need-returns Inv-loop μ-loop
-returns c = sourced-end (c .before .loop .inv) (c .loop-test .left) (c .before .before .before .before .pre .0)
+returns c =
+    let i = c .before .loop .inv .within in
+    let few = c .before .before .before .before .pre .0 in
+    each-written-end (c .before .loop .inv) rankMost (c .loop-test .left) (omega arith)
 
 pub push-sources-spec : {M : Type 1} → statement M
 push-sources-spec =
