@@ -1,7 +1,7 @@
 -- The constants of an alphabet, word by word: those of the first i entries, their number, and a list that they are written
 -- into.
 use mathlib.Core.Path.{_≡_, refl, ap, _∙_, sym, subst}
-use mathlib.Core.Bool.{Bool, true, false, cond}
+use mathlib.Core.Bool.{true, false, cond}
 use mathlib.Core.List.{List, [], _∷_, _++_, append-nil}
 use Prim.Native.Nat.{ℕ, suc, _+_, _<_, _≤_}
 use native.Mathlib.Omega.{arith}
@@ -14,11 +14,7 @@ use borrow.Author.Tests.{lt-ltb, ltb-true, ltb-false}
 use Rattle.words.specs.Limits.{alphabetMost}
 use Rattle.words.specs.Alphabet.{entryRank, rankOf, isSymbol, isConstant, constantsFrom, constantsOf}
 use Rattle.words.proofs.TestLaws.{Tested, holds, fails, tested, and-true}
-use Rattle.words.proofs.ListLaws.{sets-append}
-
-cond-append : (b : Bool) (x : ℕ) (l k : List ℕ) → cond b (x ∷ (l ++ k)) (l ++ k) ≡ cond b (x ∷ l) l ++ k
-cond-append true x l k = refl
-cond-append false x l k = refl
+use Rattle.words.proofs.ListLaws.{sets-append, cond-append}
 
 -- the constants of two parts of an alphabet
 constantsFrom-append : (s : ℕ) (l k : List ℕ) → constantsFrom s (l ++ k) ≡ constantsFrom s l ++ constantsFrom (s + length l) k

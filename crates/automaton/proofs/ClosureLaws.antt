@@ -39,7 +39,7 @@ targets-below {a} {A} o t m = go t (each-at (TransitionOver a (A .states)) (A .t
 
 -- ---- the state set
 
--- what holds of the states that the symbol transitions seed, and is kept along the epsilon transitions, holds of all reached
+-- what holds of the targets of the symbol transitions, and is kept along the epsilon transitions, holds of all reached
 pub targets-closed-all : (ts : List Transition) (f : ℕ) (rs : List StateSet) (P : ℕ → Type 0)
     → HasTargets ts f rs P → ClosedUnder ts P → {q : ℕ} → Reached ts f rs q → P q
 targets-closed-all ts f rs P s c (bySymbol {q = q} {ps = ps} m e) = s ps q m e

@@ -10,7 +10,7 @@ use Rattle.words.specs.Tree.{Tree}
 use Rattle.language.specs.Expression.{Expression, Expressions, symbol, empty, union, product, closure, noneᵉ, moreᵉ}
 use Rattle.language.specs.Membership.{Language, Assignment, constant, atConstant, Member}
 use Rattle.language.proofs.SubstitutionLaws.{assigned, Under, constant-under}
-use Rattle.automaton.specs.Numbering.{numbered}
+use Rattle.automaton.specs.Numbering.{numbered, fullEntries}
 use Rattle.automaton.proofs.EveryEntryLaws.{EveryEntry}
 use Rattle.automaton.proofs.TreeNumbering.{behind, next, nextAll, exitState, entryStates}
 
@@ -57,6 +57,10 @@ module _ (I : Intended) where
       → EveryEntry (λ c q. (t : Tree) → I q t ↔ σ c t) (numbered n cs)
   has-numbered σ n [] h = tt
   has-numbered σ n (c ∷ cs) h = (h .0, has-numbered σ (suc n) cs (h .1))
+
+  has-full : (σ : Assignment) (x : ℕ) (cs : List ℕ) → Has I (suc x) (map σ cs)
+      → EveryEntry (λ c q. (t : Tree) → I q t ↔ σ c t) (fullEntries cs x)
+  has-full σ x cs h = has-numbered σ (suc x) cs h
 
 -- ---- a list of languages, by its index
 
@@ -188,8 +192,8 @@ module _ (cs : List ℕ) where
     pub entries-are : (E : Expression) (n : ℕ) (σ : Assignment) → Has I n (languages E σ) → EntriesAre σ (entryStates cs E n)
     unfolding block-at
     entries-are (symbol c noneᵉ) n σ h = (h .0, tt)
-    entries-are (symbol f (moreᵉ e es)) n σ h = has-numbered I σ (suc (nextAll cs (moreᵉ e es) n)) cs (has-symbol f e es n σ h .1)
+    entries-are (symbol f (moreᵉ e es)) n σ h = has-full I σ (nextAll cs (moreᵉ e es) n) cs (has-symbol f e es n σ h .1)
     entries-are empty n σ h = tt
-    entries-are (union F G) n σ h = has-numbered I σ (suc (exitState cs (union F G) n)) cs (has-union F G n σ h .1)
-    entries-are (product c F G) n σ h = has-numbered I σ (suc (exitState cs (product c F G) n)) cs (has-product c F G n σ h .1)
-    entries-are (closure c F) n σ h = has-numbered I σ (suc (exitState cs (closure c F) n)) cs (has-closure c F n σ h .1)
+    entries-are (union F G) n σ h = has-full I σ (exitState cs (union F G) n) cs (has-union F G n σ h .1)
+    entries-are (product c F G) n σ h = has-full I σ (exitState cs (product c F G) n) cs (has-product c F G n σ h .1)
+    entries-are (closure c F) n σ h = has-full I σ (exitState cs (closure c F) n) cs (has-closure c F n σ h .1)

@@ -9,24 +9,21 @@ use native.Mathlib.Numerals.{add-one}
 use lib.ListN.{length}
 use Rattle.words.specs.Limits.{alphabetMost}
 use Rattle.words.specs.Word.{Kind, noKind, symbolKind, emptyKind, unionKind, productKind, closureKind}
-use Rattle.words.specs.Word.{kindNumber, symbolRange, wordOf, lowByte}
+use Rattle.words.specs.Word.{kindNumber, symbolRange, wordOf}
+use Rattle.words.specs.Tree.{label}
 use Rattle.words.specs.Alphabet.{constantsOf}
 use Rattle.words.specs.Postfix.{arity}
-use Rattle.words.proofs.KindLaws.{kindOf-wordOf, kindOf-hasKind}
+use Rattle.words.proofs.KindLaws.{kindOf-wordOf, lowByte-symbol, kindOf-hasKind}
 use Rattle.words.proofs.WordLaws.{arity-wordOf}
 use Rattle.words.proofs.AlphabetLaws.{isConstant-zero}
 use Rattle.language.specs.Expression.{Expression, Expressions, symbol, empty, union, product}
-use Rattle.language.specs.Expression.{closure, noneᵉ, moreᵉ, numberᵉ, ExpressionOver}
+use Rattle.language.specs.Expression.{closure, noneᵉ, moreᵉ, numberᵉ, syntaxTree, ExpressionOver}
 use Rattle.automaton.specs.Numbering.{Port, statesOf, fullPort, leafPort, portOf, ownAt, ownTransitions}
 use Rattle.automaton.proofs.EntryStates.{entries-some, entries-none, port-full, port-leaf, states-full, states-leaf, own-kind}
 use Rattle.automaton.proofs.TreeNumbering.{next, exitState, port, ports, own}
 
 abbrev pub lastWord : Expression → ℕ
-lastWord (symbol f es) = wordOf symbolKind f
-lastWord empty = wordOf emptyKind 0
-lastWord (union F G) = wordOf unionKind 0
-lastWord (product c F G) = wordOf productKind c
-lastWord (closure c F) = wordOf closureKind c
+lastWord E = label (syntaxTree E)
 
 abbrev pub parts : Expression → Expressions
 parts (symbol f es) = es
@@ -38,11 +35,9 @@ parts (closure c F) = moreᵉ F noneᵉ
 -- ---- words of a kind
 
 module _ (k : Kind) (b : ℕ) (h : b < symbolRange) where
-  lowByte-word : lowByte (wordOf k b) ≡ b
-  lowByte-word = omega arith
-
   own-word : (E P : Port) (Ps : List Port) → ownTransitions (wordOf k b) E (P ∷ Ps) ≡ ownAt k b E P Ps
-  own-word E P Ps = own-kind (wordOf k b) k E P Ps (kindOf-wordOf k b (omega arith)) ∙ ap (λ (s : ℕ). ownAt k s E P Ps) lowByte-word
+  own-word E P Ps = own-kind (wordOf k b) k E P Ps (kindOf-wordOf k b (omega arith))
+      ∙ ap (λ (s : ℕ). ownAt k s E P Ps) (lowByte-symbol k b h)
 
 -- ---- states of a word, by its arity
 
@@ -80,7 +75,7 @@ module _ (a : List ℕ) where
         port-is =
             let decoded : symbolKind ≡ noKind → ⊥ = λ z. absurd (let q = ap kindNumber z in omega arith) in
             let kind = kindOf-hasKind symbolKind (wordOf symbolKind c) decoded (kindOf-wordOf symbolKind c (omega arith)) in
-            port-none (wordOf symbolKind c) n e ∙ rw (kind, lowByte-word symbolKind c h);
+            port-none (wordOf symbolKind c) n e ∙ rw (kind, lowByte-symbol symbolKind c h);
         states-are = states-none (wordOf symbolKind c) n e;
         own-are = refl;
       }

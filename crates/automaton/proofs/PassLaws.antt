@@ -20,10 +20,11 @@ use Rattle.automaton.proofs.BitLaws.{insert-same, insert-other, insert-
 use Rattle.automaton.proofs.KeepLaws.{epsilonStep-keeps, epsilonPass-keeps, epsilonClosure-keeps, symbolPass-keeps}
 use Rattle.automaton.proofs.SetLength.{length-epsilonStep, length-epsilonPass, length-symbolStep}
 
--- what symbol transitions on f seed, and what epsilon transitions lead to, has the property
+-- the targets of the symbol transitions on f whose sources are in the children's sets have the property
 abbrev pub HasTargets : List Transition → ℕ → List StateSet → (ℕ → Type 0) → Type 0
 HasTargets ts f rs P = (ps : List ℕ) (q : ℕ) → List·Memᴰ (onSymbol f ps q) ts → allContained ps rs ≡ true → P q
 
+-- and so have those of the epsilon transitions from a state that has it
 abbrev pub ClosedUnder : List Transition → (ℕ → Type 0) → Type 0
 ClosedUnder ts P = (p q : ℕ) → List·Memᴰ (epsilon p q) ts → P p → P q
 

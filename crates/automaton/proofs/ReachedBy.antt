@@ -14,7 +14,7 @@ use Rattle.language.specs.Expression.{Expression, symbol, empty, union, product
 use Rattle.language.specs.Membership.{Language, Assignment}
 use Rattle.language.proofs.SubstitutionLaws.{assigned}
 use Rattle.automaton.specs.Transition.{Transition, epsilon}
-use Rattle.automaton.specs.Numbering.{numbered, epsilons, entryEpsilons}
+use Rattle.automaton.specs.Numbering.{numbered, fullEntries, epsilons, entryEpsilons}
 use Rattle.automaton.specs.Reached.{Reaches, onEpsilon}
 use Rattle.automaton.proofs.EveryEntryLaws.{EveryEntry, found-every, every-numbered, numbered-all, of-epsilons, of-entryEpsilons}
 use Rattle.automaton.proofs.TreeNumbering.{nextAll, exitState, entryStates, entry, ConstantsListed}
@@ -43,16 +43,16 @@ module _ (ts : List Transition) where
       each-map (λ p. Present (epsilon q p)) (ReachedBy L) (λ p m t l. onEpsilon m (r t l)) qs (of-epsilons Present q qs h)
 
 module _ (cs : List ℕ) where
-  numbered-listed : (n : ℕ) → All (λ e. List·Memᴰ (e .0) cs) (numbered n cs)
-  numbered-listed n = numbered-all (λ c. List·Memᴰ c cs) n cs (each-self cs)
+  full-listed : (x : ℕ) → All (λ e. List·Memᴰ (e .0) cs) (fullEntries cs x)
+  full-listed x = numbered-all (λ c. List·Memᴰ c cs) (suc x) cs (each-self cs)
 
   entries-listed : (E : Expression) (n : ℕ) → ConstantsListed cs E → All (λ e. List·Memᴰ (e .0) cs) (entryStates cs E n)
   entries-listed (symbol c noneᵉ) n k = (k .0, tt)
-  entries-listed (symbol f (moreᵉ e es)) n k = numbered-listed (suc (nextAll cs (moreᵉ e es) n))
+  entries-listed (symbol f (moreᵉ e es)) n k = full-listed (nextAll cs (moreᵉ e es) n)
   entries-listed empty n k = tt
-  entries-listed (union F G) n k = numbered-listed (suc (exitState cs (union F G) n))
-  entries-listed (product c F G) n k = numbered-listed (suc (exitState cs (product c F G) n))
-  entries-listed (closure c F) n k = numbered-listed (suc (exitState cs (closure c F) n))
+  entries-listed (union F G) n k = full-listed (exitState cs (union F G) n)
+  entries-listed (product c F G) n k = full-listed (exitState cs (product c F G) n)
+  entries-listed (closure c F) n k = full-listed (exitState cs (closure c F) n)
 
   module _ (ts : List Transition) where
     -- along those from the entries of a word

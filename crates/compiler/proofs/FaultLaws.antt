@@ -42,9 +42,9 @@ module _ (a e : List ℕ) (tableLength n : ℕ) (t : n ≡ 0 + length (compiledT
 -- ---- the answer and the table slice at exit
 
 module _ (a e slice : List ℕ) (f : ℕ) (h : f ≡ compileFault a e (length slice)) where
-  pub compile-refuses : (f ≡ 0 → ⊥) → (refused f ≡ compileAnswer a e slice) × (slice ≡ compileExit a e slice)
+  pub compile-refused : (f ≡ 0 → ⊥) → (refused f ≡ compileAnswer a e slice) × (slice ≡ compileExit a e slice)
   unfolding compileAnswer compileExit
-  compile-refuses n = (answer-refused h _ n, exit-refused h _ slice n)
+  compile-refused n = (answer-refused h _ n, exit-refused h _ slice n)
 
   module _ (z : f ≡ 0) where
     pub accepted-rule : refusal (ruleRefusals a e) ≡ 0

@@ -1,5 +1,5 @@
 -- Laws of the states of rule words: how many each has, the loop that adds them, and a word's port as a number.
-use mathlib.Core.Path.{_≡_, refl, ap, ap₂, _∙_, sym}
+use mathlib.Core.Path.{_≡_, refl, ap, _∙_, sym}
 use mathlib.Core.Bool.{true, false}
 use mathlib.Core.List.{List}
 use Prim.Native.Nat.{ℕ, _+_, _*_, _<_, _≤_}
@@ -15,8 +15,8 @@ use Rattle.words.proofs.ScanLaws.{drop-step, drop-end}
 use Rattle.words.proofs.WordLaws.{isExpressionWord-facts}
 use Rattle.automaton.specs.Numbering.{hasEntries, statesOf, portOf, statesAfter}
 use Rattle.automaton.proofs.EntryStates.{port-full, port-leaf}
-use Rattle.ports.specs.Ports.{everyEntry, noEntry, exitUnit, exitRange, entriesIn, exitIn, codeIn, portIn}
-use Rattle.ports.proofs.PortLaws.{entriesIn-every, entriesIn-none, entriesIn-own}
+use Rattle.ports.specs.Ports.{everyEntry, noEntry, exitRange, portNumber, portIn}
+use Rattle.ports.proofs.PortLaws.{portIn-number, entriesIn-every, entriesIn-none, entriesIn-own}
 use Rattle.compiler.specs.Compiling.{wordStatesMost}
 
 -- the loop after i words
@@ -48,34 +48,26 @@ module _ {a e : List ℕ} {state i : ℕ} (c : Counting a e state i) where
 
 -- ---- a word's port
 
--- the exit and the entries of a number
-port-fields : (cs : List ℕ) (x t : ℕ) → x < exitRange → t < exitUnit
-    → portIn cs (x * exitUnit + t) ≡ record { exit = x; entries = entriesIn cs x t }
-port-fields cs x t h l =
-    let e : exitIn (x * exitUnit + t) ≡ x = omega arith in
-    let f : codeIn (x * exitUnit + t) ≡ t = omega arith in
-    ap₂ (λ (y u : ℕ). record { exit = y; entries = entriesIn cs y u }) e f
-
 module _ (a : List ℕ) (x w p : ℕ) (low : x < exitRange) where
-  pub word-port-every : hasEntries a w ≡ true → p ≡ x * exitUnit + everyEntry → portIn (constantsOf a) p ≡ portOf a x w
+  pub word-port-every : hasEntries a w ≡ true → p ≡ portNumber x everyEntry → portIn (constantsOf a) p ≡ portOf a x w
   word-port-every h q =
-      ap (portIn (constantsOf a)) q ∙ port-fields (constantsOf a) x everyEntry low (omega arith)
+      ap (portIn (constantsOf a)) q ∙ portIn-number (constantsOf a) x everyEntry low (omega arith)
       ∙ rw (entriesIn-every (constantsOf a) x everyEntry refl, port-full a w x h)
 
   pub word-port-constant : length a ≤ alphabetMost → lowByte w < length a → hasEntries a w ≡ false → numberOf w ≡ kindNumber symbolKind
-      → p ≡ x * exitUnit + lowByte w → portIn (constantsOf a) p ≡ portOf a x w
+      → p ≡ portNumber x (lowByte w) → portIn (constantsOf a) p ≡ portOf a x w
   word-port-constant few l h k q =
-      ap (portIn (constantsOf a)) q ∙ port-fields (constantsOf a) x (lowByte w) low (omega arith)
+      ap (portIn (constantsOf a)) q ∙ portIn-number (constantsOf a) x (lowByte w) low (omega arith)
       ∙ rw (
         entriesIn-own (constantsOf a) x (lowByte w) (λ m. omega arith) (λ m. omega arith),
         port-leaf a w x h,
         eq-eqb (numberOf w) (kindNumber symbolKind) k,
       )
 
-  pub word-port-empty : hasEntries a w ≡ false → (numberOf w ≡ kindNumber symbolKind → ⊥) → p ≡ x * exitUnit + noEntry
+  pub word-port-empty : hasEntries a w ≡ false → (numberOf w ≡ kindNumber symbolKind → ⊥) → p ≡ portNumber x noEntry
       → portIn (constantsOf a) p ≡ portOf a x w
   word-port-empty h k q =
-      ap (portIn (constantsOf a)) q ∙ port-fields (constantsOf a) x noEntry low (omega arith)
+      ap (portIn (constantsOf a)) q ∙ portIn-number (constantsOf a) x noEntry low (omega arith)
       ∙ rw (entriesIn-none (constantsOf a) x noEntry refl, port-leaf a w x h, ne-eqb (numberOf w) (kindNumber symbolKind) k)
 
 -- the symbol of a symbol word is one of the alphabet's

@@ -57,14 +57,14 @@ fn compile_fault(alphabet: &[u32], expression: &[u32], table_length: usize) -> u
 }
 
 // Writes the table of the rule into the first words of the slice and answers its word count. A refused call changes no word.
-pub fn compile(alphabet: &[u32], expression: &[u32], table: &mut [u32]) -> Compiled
-    ensures answer { λ r. ⌜ answerInCompiled r ≡ compileAnswer (now (alphabet .entry)) (now (expression .entry)) (now (table .entry)) ⌝ }
-    ensures table { λ _. ⌜ now (table .exit) ≡ compileExit (now (alphabet .entry)) (now (expression .entry)) (now (table .entry)) ⌝ }
+pub fn compile(alphabet: &[u32], rule: &[u32], table: &mut [u32]) -> Compiled
+    ensures answer { λ r. ⌜ answerInCompiled r ≡ compileAnswer (now (alphabet .entry)) (now (rule .entry)) (now (table .entry)) ⌝ }
+    ensures table { λ _. ⌜ now (table .exit) ≡ compileExit (now (alphabet .entry)) (now (rule .entry)) (now (table .entry)) ⌝ }
 {
-    let fault = compile_fault(alphabet, expression, table.len());
+    let fault = compile_fault(alphabet, rule, table.len());
     if fault != 0 {
         return Compiled::Refused(fault);
     }
-    let size = write_table(alphabet, expression, table);
+    let size = write_table(alphabet, rule, table);
     Compiled::Table(size)
 }

@@ -56,29 +56,37 @@ bytes-written-whole bs out out′ r p h =
     let z : 0 + length bs ≡ length bs = omega arith in
     (p .next (omega arith) ∙ z, p .bytes (omega arith) ∙ sets-whole bs out h)
 
--- ---- the loop over a text, after i of its bytes
+-- ---- a loop that writes the bytes of one member of a list after the other, after i of them
 
-pub record TextWritten (text : List ℕ) (at : ℕ) (out₀ out : List ℕ) (next i : ℕ) : Type 0 where
-  pub few : i ≤ length text
+pub record MembersWritten (bytesOf : List ℕ → List ℕ) (members : List ℕ) (at : ℕ) (out₀ out : List ℕ) (next i : ℕ) : Type 0 where
+  pub few : i ≤ length members
   pub long : length out ≡ length out₀
-  pub written : BytesWritten at (take i text) out₀ out next
+  pub written : BytesWritten at (bytesOf (take i members)) out₀ out next
 
-module _ (text : List ℕ) (at : ℕ) (out₀ : List ℕ) where
-  pub text-written-none : TextWritten text at out₀ out₀ at 0
-  text-written-none = record { few = omega arith; long = refl; written = bytes-written-none at out₀ }
+pub members-written-none : (bytesOf : List ℕ → List ℕ) (members : List ℕ) (at : ℕ) (out₀ : List ℕ) → bytesOf [] ≡ []
+    → MembersWritten bytesOf members at out₀ out₀ at 0
+members-written-none bytesOf members at out₀ e =
+    record { few = omega arith; long = refl; written = bytes-written-same (bytes-written-none at out₀) (sym e) }
 
-  pub text-written-more : (out : List ℕ) (next i : ℕ) → TextWritten text at out₀ out next i → i < length text
-      → (out′ : List ℕ) (r : ℕ) → length out′ ≡ length out → BytesWritten next (getD text i 0 ∷ []) out out′ r
-      → TextWritten text at out₀ out′ r (i + 1)
-  text-written-more out next i t h out′ r l w =
+module _ {bytesOf : List ℕ → List ℕ} {members : List ℕ} {at : ℕ} {out₀ out : List ℕ} {next i : ℕ}
+    (t : MembersWritten bytesOf members at out₀ out next i) where
+  -- bs are the next member's bytes
+  pub members-written-more : i < length members → (bs : List ℕ)
+      → bytesOf (take i members ++ getD members i 0 ∷ []) ≡ bytesOf (take i members) ++ bs
+      → (out′ : List ℕ) (r : ℕ) → length out′ ≡ length out → BytesWritten next bs out out′ r
+      → MembersWritten bytesOf members at out₀ out′ r (i + 1)
+  members-written-more h bs e out′ r l w =
       record {
         few = omega arith;
         long = l ∙ t .long;
         written =
             bytes-written-same (bytes-written-more (t .written) w)
-            (sym (ap (λ (k : ℕ). take k text) (add-one i) ∙ take-suc text i 0 h));
+            (sym (ap (λ (k : ℕ). bytesOf (take k members)) (add-one i) ∙ ap bytesOf (take-suc members i 0 h) ∙ e));
       }
 
-  pub text-written-end : (out : List ℕ) (next i : ℕ) → TextWritten text at out₀ out next i → length text ≤ i
-      → BytesWritten at text out₀ out next
-  text-written-end out next i t h = bytes-written-same (t .written) (take-all i text h)
+  pub members-written-end : length members ≤ i → BytesWritten at (bytesOf members) out₀ out next
+  members-written-end h = bytes-written-same (t .written) (ap bytesOf (take-all i members h))
+
+-- the bytes of a text
+abbrev pub TextWritten : List ℕ → ℕ → List ℕ → List ℕ → ℕ → ℕ → Type 0
+TextWritten = MembersWritten (λ bs. bs)

@@ -36,9 +36,10 @@ module _ (a : List ℕ) (most : length a ≤ alphabetMost) where
           })
 
   -- 4 and 5; 3 asks for the number of words alone
-  pub expression-accepted : (e : List ℕ) → ((notExpressionWords a e ≡ false) × (notOneTree a e ≡ false)) ↔ ExactlyOne (ExpressionOf a e)
+  pub expression-words-accepted : (e : List ℕ)
+      → ((notExpressionWords a e ≡ false) × (notOneTree a e ≡ false)) ↔ ExactlyOne (ExpressionOf a e)
   unfolding notExpressionWords notOneTree
-  expression-accepted e = (to, from)
+  expression-words-accepted e = (to, from)
     where
       to : (not (all (isExpressionWord a) e) ≡ false) × (not (oneTree a e) ≡ false) → ExactlyOne (ExpressionOf a e)
       to p = exactly-one-expression a most e (not-false (all (isExpressionWord a) e) (p .0)) (not-false (oneTree a e) (p .1))

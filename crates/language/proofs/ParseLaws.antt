@@ -16,7 +16,7 @@ use Rattle.words.specs.Limits.{alphabetMost}
 use Rattle.words.proofs.RankedTree.{Ranked, RankedAll}
 use Rattle.words.proofs.TreeFold.{fold, foldAll}
 use Rattle.words.proofs.TestLaws.{and-true, all-left, all-right}
-use Rattle.words.proofs.KindLaws.{kindOf-wordOf}
+use Rattle.words.proofs.KindLaws.{kindOf-wordOf, lowByte-symbol}
 use Rattle.words.proofs.AlphabetLaws.{isConstant-zero}
 use Rattle.words.proofs.WordLaws.{IsExpressionWord, isExpressionWord-facts}
 use Rattle.words.proofs.ExpressionWordLaws.{ExpressionWord, symbolWord, emptyWord, unionWord, productWord, closureWord, expressionWord}
@@ -130,8 +130,7 @@ module _ (a : List ℕ) where
     kind-back : (k : Kind) (b : ℕ) (es : List Expression) → b < symbolRange
         → ofKind (kindOf (wordOf k b)) (lowByte (wordOf k b)) es ≡ ofKind k b es
     kind-back k b es l =
-        let e : lowByte (wordOf k b) ≡ b = omega arith in
-        ap₂ (λ (x : Kind) (y : ℕ). ofKind x y es) (kindOf-wordOf k b (omega arith)) e
+        ap₂ (λ (x : Kind) (y : ℕ). ofKind x y es) (kindOf-wordOf k b (omega arith)) (lowByte-symbol k b l)
 
     mutual
       pub expression-back : (E : Expression) → ExpressionOver a E → treeExpression (syntaxTree E) ≡ E

@@ -8,19 +8,12 @@ use encoding::word_bytes::WORD_BYTES;
 use encoding::word_bytes::keep_words;
 use libc::STDIN_FILENO;
 use libc::STDOUT_FILENO;
-use report::CHAPTER_MOST;
+use report::input::ALPHABET_KEPT;
+use report::input::CHAPTER_KEPT;
+use report::input::RULE_KEPT;
 use report::input::kept_words;
 use report::input::part_bytes;
 use report::report;
-use words::limits::ALPHABET_MOST;
-use words::limits::EXPRESSION_MOST;
-
-// How many words are kept of each slice: one more than the most that is accepted. What follows makes no difference.
-const ALPHABET_KEPT: usize = ALPHABET_MOST + 1;
-
-const RULE_KEPT: usize = EXPRESSION_MOST + 1;
-
-const CHAPTER_KEPT: usize = CHAPTER_MOST + 1;
 
 // Reads the next `count` words, keeps as many as the slice has room for, and answers whether all were there. It asks for
 // no byte behind them, and for none where `complete` says that the input has ended before.

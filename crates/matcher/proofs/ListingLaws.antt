@@ -1,15 +1,15 @@
 -- Laws of the matches found one node after the other.
 use mathlib.Core.Path.{_≡_, refl, ap, ap₂, _∙_, sym}
-use mathlib.Core.Bool.{Bool, true, false, cond}
+use mathlib.Core.Bool.{true, false, cond}
 use mathlib.Core.List.{List, [], _∷_, _++_}
-use Prim.Native.Nat.{ℕ, suc, _+_, _-_, _*_, _<_, _≤_}
+use Prim.Native.Nat.{ℕ, suc, _+_, _-_, _<_, _≤_}
 use native.Mathlib.Omega.{arith}
 use native.Mathlib.Nat.{zero-add, add-zero, add-suc, suc-add}
 use lib.ListN.{length, take, drop, length-append}
 use lib.Seq.{sets, sets-eq, take-at, drop-append-add, drop-drop}
 use Rattle.words.specs.Lists.{listFrom, writtenOver}
 use Rattle.words.specs.Answer.{refused, accepted}
-use Rattle.words.proofs.ListLaws.{listFrom-add, length-listFrom}
+use Rattle.words.proofs.ListLaws.{cond-append, listFrom-add, length-listFrom}
 use Rattle.words.proofs.AnswerLaws.{answer-refused, answer-accepted, exit-refused, exit-accepted}
 use Rattle.automaton.specs.StateSet.{StateSet, contains}
 use Rattle.operations.specs.Marks.{sizeOf, finalOf, storedSet}
@@ -24,11 +24,7 @@ module _ (final : ℕ) where
       ap (λ (t : List ℕ). cond (contains r final) (i ∷ t) t)
       (matches-append l k (suc i)
       ∙ ap (λ (j : ℕ). matchesIn final (suc i) l ++ matchesIn final j k) (suc-add i (length l) ∙ sym (add-suc i (length l))))
-      ∙ go (contains r final) (matchesIn final (suc i) l) (matchesIn final (i + suc (length l)) k)
-    where
-      go : (b : Bool) (u v : List ℕ) → cond b (i ∷ (u ++ v)) (u ++ v) ≡ cond b (i ∷ u) u ++ v
-      go true u v = refl
-      go false u v = refl
+      ∙ cond-append (contains r final) i (matchesIn final (suc i) l) (matchesIn final (i + suc (length l)) k)
 
   -- one node
   pub match-here : (r : StateSet) (i : ℕ) → contains r final ≡ true → matchesIn final i (r ∷ []) ≡ i ∷ []
@@ -38,14 +34,6 @@ module _ (final : ℕ) where
   pub match-none : (r : StateSet) (i : ℕ) → contains r final ≡ false → matchesIn final i (r ∷ []) ≡ []
   unfolding matchesIn
   match-none r i h = rw h
-
--- the part of the marks that is node i's
-pub part-set : (size : ℕ) (table marks : List ℕ) (i : ℕ) → size ≡ sizeOf table
-    → take (i * size + size - i * size) (drop (i * size) marks) ≡ storedSet (sizeOf table) marks i
-unfolding storedSet
-part-set size table marks i e =
-    let q : i * size + size - i * size ≡ size = omega arith in
-    ap (λ (n : ℕ). take n (drop (i * size) marks)) q ∙ ap (λ (n : ℕ). take n (drop (i * n) marks)) e
 
 -- the matches among the first i nodes stand at the front of the list
 pub record FoundMatches (table marks list₀ list : List ℕ) (found i : ℕ) : Type 0 where

@@ -25,9 +25,13 @@ marksTooShort table n marksLength = ltb marksLength (n * sizeOf table)
 abbrev pub tableRefusals : List ℕ → List ℕ → Refusals
 tableRefusals a table = alphabetRefusals a ++ ((8, noTable a table) ∷ [])
 
+-- of a chapter's elements, behind their count: Run, Exchange and `marklist` have them
+abbrev pub elementRefusals : List ℕ → List ℕ → Refusals
+elementRefusals a ch = treeRefusals a ch
+
 -- of n elements and a marks slice of that length: Run and Exchange have them
 abbrev pub markedRefusals : List ℕ → List ℕ → ℕ → List ℕ → ℕ → Refusals
-markedRefusals a table n ch marksLength = treeRefusals a ch ++ ((12, marksTooShort table n marksLength) ∷ [])
+markedRefusals a table n ch marksLength = elementRefusals a ch ++ ((12, marksTooShort table n marksLength) ∷ [])
 
 abbrev pub runRefusals : List ℕ → List ℕ → List ℕ → ℕ → Refusals
 runRefusals a table ch marksLength =

@@ -1,5 +1,5 @@
 -- Laws of entries for all constants, and of ports as numbers: which entries they have.
-use mathlib.Core.Path.{_≡_, ap, _∙_, sym}
+use mathlib.Core.Path.{_≡_, ap, ap₂, _∙_, sym}
 use mathlib.Core.List.{List, [], _∷_, _++_}
 use Prim.Native.Nat.{ℕ, suc, _+_, _<_, _≤_}
 use native.Mathlib.Omega.{arith}
@@ -11,7 +11,8 @@ use Rattle.words.specs.Limits.{constantsMost}
 use Rattle.automaton.specs.Numbering.{fullEntries, exitEntry}
 use Rattle.automaton.proofs.TransitionLaws.{numbered-append}
 use Rattle.ports.specs.declared.port.Entry.the-variants.{Missing, State}
-use Rattle.ports.specs.Ports.{everyEntry, noEntry, exitRange, entriesIn, exitIn, codeIn, entryState, EachOnce, EntryRead}
+use Rattle.ports.specs.Ports.{everyEntry, noEntry, exitUnit, exitRange, entriesIn, exitIn, codeIn, portNumber, portIn}
+use Rattle.ports.specs.Ports.{entryState, EachOnce, EntryRead}
 
 -- the entries for one constant more
 pub entries-more : (cs : List ℕ) (x k : ℕ) → k < length cs
@@ -21,6 +22,14 @@ entries-more cs x k h =
     let n : suc x + length (take k cs) ≡ entryState x k = rw (length-take-le k cs (omega arith)) (omega arith) in
     ap (λ (l : List ℕ). fullEntries l x) (ap (λ (i : ℕ). take i cs) (add-one k) ∙ take-suc cs k 0 h)
     ∙ numbered-append (suc x) (take k cs) (c ∷ []) ∙ ap (λ (i : ℕ). fullEntries (take k cs) x ++ (c, i) ∷ []) n
+
+-- the exit and the entries of a number
+pub portIn-number : (cs : List ℕ) (x t : ℕ) → x < exitRange → t < exitUnit
+    → portIn cs (portNumber x t) ≡ record { exit = x; entries = entriesIn cs x t }
+portIn-number cs x t h l =
+    let e : exitIn (portNumber x t) ≡ x = omega arith in
+    let f : codeIn (portNumber x t) ≡ t = omega arith in
+    ap₂ (λ (y u : ℕ). record { exit = y; entries = entriesIn cs y u }) e f
 
 -- ---- the entries that a code says
 

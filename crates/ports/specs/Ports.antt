@@ -37,6 +37,11 @@ exitIn p = p / exitUnit % exitRange
 abbrev pub codeIn : ℕ → ℕ
 codeIn p = p % exitUnit
 
+-- the number with this exit and this code
+abbrev pub portNumber : ℕ → ℕ → ℕ
+portNumber x t = x * exitUnit + t
+
+-- the port that a number stands for
 abbrev pub portIn : List ℕ → ℕ → Port
 portIn cs p = record { exit = exitIn p; entries = entriesIn cs (exitIn p) (codeIn p) }
 

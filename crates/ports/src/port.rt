@@ -3,7 +3,7 @@ ghost use mathlib.Core.Path.{_≡_};
 ghost use Prim.Native.Nat.{_+_, _*_, _≤_, _<_};
 ghost use lib.ListN.{length, getD};
 ghost use Rattle.words.specs.Limits.{constantsMost};
-ghost use Rattle.ports.specs.Ports.{exitUnit, exitRange, exitIn, codeIn, entryState, EachOnce, EntryRead};
+ghost use Rattle.ports.specs.Ports.{exitUnit, exitRange, exitIn, codeIn, portNumber, entryState, EachOnce, EntryRead};
 use words::limits::ALPHABET_MOST;
 use words::word::COUNT_RANGE;
 
@@ -29,7 +29,7 @@ pub enum Entry {
 // The port with this exit and the entries of this code.
 pub fn port_of(exit: u32, code: u32) -> u32
     requires { ⌜ (exit < exitRange) × (code < exitUnit) ⌝ }
-    ensures { λ r. ⌜ r ≡ exit * exitUnit + code ⌝ }
+    ensures { λ r. ⌜ r ≡ portNumber exit code ⌝ }
 {
     exit * EXIT_UNIT + code
 }

@@ -14,7 +14,7 @@ use Rattle.operations.specs.Marks.{sizeOf, storedSet, sameWords}
 use Rattle.operations.proofs.MarksLaws.{same-words}
 use Rattle.slices.proofs.CopyLaws.{paste-same}
 use Rattle.sets.specs.Size.{marksMost, setMost}
-use Rattle.sets.proofs.StoredLaws.{row-inside, stored-written}
+use Rattle.sets.proofs.StoredLaws.{row-inside, stored-part, stored-written}
 use Rattle.sets.proofs.SizeLaws.{words-few}
 use Rattle.memo.proofs.MemoLaws.{remembered-later}
 use Rattle.nodes.specs.Nodes.{setFrom, markedAt}
@@ -61,11 +61,6 @@ module _ {a table index ch : List ℕ} {i : ℕ} {marks array : List ℕ} {heigh
   pub row-few : size ≤ setMost
   row-few = rw s (workable-size (g .workable))
 
-  stored-new : (marks′ : List ℕ) → i * size + size - i * size ≡ size
-      → take (i * size + size - i * size) (drop (i * size) marks′) ≡ storedSet (sizeOf table) marks′ i
-  unfolding storedSet
-  stored-new marks′ n = ap (λ (k : ℕ). take k (drop (i * size) marks′)) n ∙ ap (λ (k : ℕ). take k (drop (i * k) marks′)) s
-
   pub row-part : length (take (i * size + size - i * size) (drop (i * size) marks)) ≤ setMost
   row-part =
       let n : i * size + size - i * size ≡ size = omega arith in
@@ -74,10 +69,6 @@ module _ {a table index ch : List ℕ} {i : ℕ} {marks array : List ℕ} {heigh
 
   -- the words that are kept beside are the node's as they stood
   module _ (before rest : List ℕ) (e : before ≡ take (i * size + size - i * size) (drop (i * size) marks) ++ rest) where
-    row : take (i * size + size - i * size) (drop (i * size) marks) ≡ storedSet (sizeOf table) marks i
-    unfolding storedSet
-    row = let n : i * size + size - i * size ≡ size = omega arith in stored-new marks n
-
     row-length : length (storedSet (sizeOf table) marks i) ≡ size
     unfolding storedSet
     row-length =
@@ -85,7 +76,9 @@ module _ {a table index ch : List ℕ} {i : ℕ} {marks array : List ℕ} {heigh
         rw (← s) (length-take-le size (drop (i * size) marks) (omega (arith, length-drop (i * size) marks)))
 
     before-is : take size before ≡ storedSet (sizeOf table) marks i
-    before-is = ap (take size) (e ∙ ap (λ (l : List ℕ). l ++ rest) row) ∙ take-at (storedSet (sizeOf table) marks i) rest size row-length
+    before-is =
+        ap (take size) (e ∙ ap (λ (l : List ℕ). l ++ rest) (stored-part size (sizeOf table) marks i s))
+        ∙ take-at (storedSet (sizeOf table) marks i) rest size row-length
 
     pub before-length : size ≡ length (take size before)
     before-length = sym (ap length before-is ∙ row-length)
@@ -96,14 +89,13 @@ module _ {a table index ch : List ℕ} {i : ℕ} {marks array : List ℕ} {heigh
         → (marks′, not b) ≡ recomputeAt a table ch i marks
     unfolding recomputeAt markedAt
     node-recomputed marks′ m b q =
-        let n : i * size + size - i * size ≡ size = omega arith in
         let new : take (i * size + size - i * size) (drop (i * size) marks′) ≡ setFrom a table ch marks i
-        = written marks′ m n in
+        = written marks′ m in
         ap₂ (λ (l : List ℕ) (x : Bool). (l, not x)) m (q ∙ ap₂ sameWords new before-is)
       where
         written : (marks′ : List ℕ) → marks′ ≡ paste marks (i * sizeOf table) (setFrom a table ch marks i) (sizeOf table)
-            → i * size + size - i * size ≡ size → take (i * size + size - i * size) (drop (i * size) marks′) ≡ setFrom a table ch marks i
-        written marks′ m n = stored-new marks′ n ∙ ap (λ (l : List ℕ). storedSet (sizeOf table) l i) m
+            → take (i * size + size - i * size) (drop (i * size) marks′) ≡ setFrom a table ch marks i
+        written marks′ m = stored-part size (sizeOf table) marks′ i s ∙ ap (λ (l : List ℕ). storedSet (sizeOf table) l i) m
             ∙ stored-written (sizeOf table) marks i (setFrom a table ch marks i) (length-setFrom a table ch marks i) (rw (← s) row-fits)
 
 -- ---- one node is passed

@@ -30,7 +30,7 @@ use Rattle.report.specs.Output.{chapterMost, marklistOutput, outputOf}
 use Rattle.report.specs.Stages.{bufferLength, marksLength, ChapterReportable, HitsReportable}
 use Rattle.report.proofs.KeptLaws.{complete-output, early-output}
 use Rattle.report.proofs.OutputLength.{output-short}
-use Rattle.report.proofs.ReportedAnswerLaws.{compile-refused, chapter-over, run-refusal}
+use Rattle.report.proofs.ReportedAnswerLaws.{compile-refusal, chapter-over, run-refusal}
 use Rattle.report.proofs.ReportedAnswerLaws.{list-not-refused, listed-long, listed-output}
 
 -- the slices as they are lent first
@@ -69,7 +69,7 @@ module _ (a e ch : List ℕ) where
       → BytesWritten 0 (refusedLine n) out out′ x → BytesWritten 0 (marklistOutput a e ch) out out′ x
   refused-compiled {n} r q h w =
       let g : refused n ≡ compileAnswer a e (zeros tableMost) = rw q at h in
-      bytes-written-same w (sym (compile-refused a e ch (zeros tableMost) n (many tableMost) g))
+      bytes-written-same w (sym (compile-refusal a e ch (zeros tableMost) n (many tableMost) g))
 
 module _ (a e slice : List ℕ) {table : List ℕ} {k : ℕ} (r : Compiled) (told : r ≡ Table k)
     (h : answerInCompiled r ≡ compileAnswer a e slice) (exit : table ≡ compileExit a e slice) where

@@ -57,10 +57,10 @@ module _ (a e : List ℕ) where
           ∙ sym h
 
   -- a refused Compile: its number is printed
-  pub compile-refused : (ch slice : List ℕ) (n : ℕ) → length slice ≡ tableMost → refused n ≡ compileAnswer a e slice
+  pub compile-refusal : (ch slice : List ℕ) (n : ℕ) → length slice ≡ tableMost → refused n ≡ compileAnswer a e slice
       → marklistOutput a e ch ≡ refusedLine n
   unfolding compileAnswer
-  compile-refused ch slice n l h =
+  compile-refusal ch slice n l h =
       let q = refused-number (compileFault a e (length slice)) (length (compiledTable a e) ∷ []) n (sym h) in
       let f : n ≡ refusal (ruleRefusals a e) = sym (q .1) ∙ ap (compileFault a e) l ∙ compile-rule in
       let some = q .0 in

@@ -6,10 +6,10 @@ use lib.ListN.{length}
 use lib.Dec.{eqb}
 use Rattle.words.specs.Limits.{outside}
 use Rattle.words.specs.Refusal.{Refusals, refusal}
-use Rattle.words.specs.Chapter.{treeRefusals}
 use Rattle.automaton.specs.Numbering.{compiled}
 use Rattle.operations.specs.Compile.{compiledTable, ruleRefusals}
 use Rattle.operations.specs.Marks.{nodeSets}
+use Rattle.operations.specs.Run.{elementRefusals}
 use Rattle.operations.specs.Listing.{matchesIn}
 use Rattle.lines.specs.Line.{refusedLine, headLine, hitLines}
 
@@ -25,7 +25,7 @@ wrongChapter ch = outside chapterMost (length ch)
 
 -- of a chapter: Run's
 abbrev pub chapterRefusals : List ℕ → List ℕ → Refusals
-chapterRefusals a ch = (9, wrongChapter ch) ∷ treeRefusals a ch
+chapterRefusals a ch = (9, wrongChapter ch) ∷ elementRefusals a ch
 
 -- "the faults of Compile before those of Run"; its memory is so large that no refusal of a short slice can arise, nor one of a
 -- table, which is a compiled one

@@ -3,8 +3,18 @@ ghost use mathlib.Core.Path.{_≡_};
 ghost use Prim.Native.Nat.{_*_, min};
 ghost use Rattle.encoding.specs.Words.{wordBytes};
 ghost use Rattle.report.specs.Stages.{bufferWords};
+use super::CHAPTER_MOST;
 use encoding::word_bytes::WORD_BYTES;
 use encoding::word_bytes::least;
+use words::limits::ALPHABET_MOST;
+use words::limits::EXPRESSION_MOST;
+
+// How many words are kept of each slice: one more than the most that is accepted. What follows makes no difference.
+pub const ALPHABET_KEPT: usize = ALPHABET_MOST + 1;
+
+pub const RULE_KEPT: usize = EXPRESSION_MOST + 1;
+
+pub const CHAPTER_KEPT: usize = CHAPTER_MOST + 1;
 
 // The bytes of a buffer, and the words that it holds.
 const BUFFER_LENGTH: usize = 4096;

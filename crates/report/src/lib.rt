@@ -21,7 +21,7 @@ use words::limits::TABLE_MOST;
 pub mod input;
 
 // The most elements of a chapter here.
-pub const CHAPTER_MOST: usize = 256;
+pub(crate) const CHAPTER_MOST: usize = 256;
 
 // The words of the marks.
 const MARKS_LENGTH: usize = CHAPTER_MOST * SET_MOST;

@@ -15,6 +15,14 @@ use Rattle.slices.proofs.RefitLaws.{take-drop}
 pub row-inside : (i n size marksLength : ℕ) → i < n → n * size ≤ marksLength → i * size + size ≤ marksLength
 row-inside i n size marksLength h l = le-trans (rw (← suc-mul i size) (mul-le-mul-right size h)) l
 
+-- the part of the marks that begins at node i's first word and has a set's length
+pub stored-part : (size n : ℕ) (marks : List ℕ) (i : ℕ) → size ≡ n
+    → take (i * size + size - i * size) (drop (i * size) marks) ≡ storedSet n marks i
+unfolding storedSet
+stored-part size n marks i e =
+    let q : i * size + size - i * size ≡ size = omega arith in
+    ap (λ (k : ℕ). take k (drop (i * size) marks)) q ∙ ap (λ (k : ℕ). take k (drop (i * k) marks)) e
+
 -- equal words up to a place are equal sets before it
 part-same : (size at j : ℕ) (l m : List ℕ) → j * size + size ≤ at → take at l ≡ take at m → storedSet size l j ≡ storedSet size m j
 unfolding storedSet

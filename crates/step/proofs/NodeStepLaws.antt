@@ -1,4 +1,4 @@
--- Where every transition on the symbol is followed, the set is the node's state set: it holds the seeds, is closed under the
+-- Where every transition on the symbol is followed, the set is the node's state set: it holds the targets, is closed under the
 -- epsilon transitions and holds reached states only.
 use mathlib.Core.Path.{_≡_, refl, ap, _∙_, sym, subst}
 use mathlib.Core.Bool.{true, true≢false}

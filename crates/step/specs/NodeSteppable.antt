@@ -1,5 +1,5 @@
 -- What the node step asks of its caller: a checked table with its index, a symbol, as many children as its rank, and each
--- child's state set inside the marks.
+-- child's state set inside the marks. These definitions serve inner functions.
 use Prim.Native.Nat.{ℕ, _+_, _*_, _<_, _≤_}
 use mathlib.Core.Path.{_≡_}
 use mathlib.Core.List.{List, map}

@@ -9,7 +9,7 @@ use lib.Dec.{eqb}
 use borrow.Author.Tests.{eq-eqb, ne-eqb, eqb-true, lt-ltb, ltb-true}
 use Rattle.words.specs.Word.{Kind, entryKind, symbolKind, emptyKind, unionKind, productKind, closureKind, nodeKind, kindUnit}
 use Rattle.words.specs.Word.{headKind, transitionKind, epsilonKind, sourceKind, noKind, kinds, kindAmong, kindAt, kindNumber}
-use Rattle.words.specs.Word.{numberOf, kindOf, hasKind, bodyOf, fieldRange, spareBitsClear, isOf, wordOf, lowByte}
+use Rattle.words.specs.Word.{numberOf, kindOf, hasKind, bodyOf, fieldRange, spareBitsClear, isOf, wordOf, lowByte, symbolRange}
 use Rattle.words.proofs.TestLaws.{Tested, holds, fails, tested, and-true, true-and, and-none}
 
 -- ---- a kind and its number
@@ -75,6 +75,10 @@ module _ (k : Kind) (b : ℕ) (h : b < kindUnit) where
 
   pub lowByte-wordOf : lowByte (wordOf k b) ≡ lowByte b
   lowByte-wordOf = omega arith
+
+-- a symbol and no other field
+pub lowByte-symbol : (k : Kind) (s : ℕ) → s < symbolRange → lowByte (wordOf k s) ≡ s
+lowByte-symbol k s h = omega arith
 
 -- ---- `hasKind` and `kindOf` say the same, but of no kind
 

@@ -1,7 +1,7 @@
 -- Laws of lists: map over parts of a list, lists by their index, parts side by side and in reverse, runs of stores, words in front of
 -- a slice, and counts.
 use mathlib.Core.Path.{_≡_, refl, ap, ap₂, _∙_, sym}
-use mathlib.Core.Bool.{Bool, cond, _&&_}
+use mathlib.Core.Bool.{Bool, true, false, cond, _&&_}
 use mathlib.Core.List.{List, [], _∷_, _++_, map, reverse, reverseAux, reverse-append}
 use Prim.Native.Nat.{ℕ, zero, suc, _+_, _-_, _<_, _≤_}
 use native.Mathlib.Omega.{arith}
@@ -18,6 +18,11 @@ pub length-take-most : (l : List ℕ) (n : ℕ) → length (take n l) ≤ length
 length-take-most l zero = omega arith
 length-take-most [] (suc n) = omega arith
 length-take-most (x ∷ l) (suc n) = omega (arith, length-take-most l n)
+
+-- a member in front or not, and what stands behind
+pub cond-append : (b : Bool) (x : ℕ) (l k : List ℕ) → cond b (x ∷ (l ++ k)) (l ++ k) ≡ cond b (x ∷ l) l ++ k
+cond-append true x l k = refl
+cond-append false x l k = refl
 
 -- ---- map
 

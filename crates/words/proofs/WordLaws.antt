@@ -14,7 +14,7 @@ use Rattle.words.specs.Postfix.{arity, arityAt}
 use Rattle.words.specs.Chapter.{symbolOf, isNode}
 use Rattle.words.specs.ExpressionWords.{namesAt, isExpressionWord}
 use Rattle.words.proofs.TestLaws.{and-true, true-and}
-use Rattle.words.proofs.KindLaws.{kindOf-wordOf, bodyOf-wordOf, lowByte-wordOf, kindOf-hasKind}
+use Rattle.words.proofs.KindLaws.{kindOf-wordOf, bodyOf-wordOf, lowByte-wordOf, lowByte-symbol, kindOf-hasKind}
 use Rattle.words.proofs.KindLaws.{word-wordOf, fieldRange-fits, isOf-facts, isOf-wordOf}
 
 -- ---- arity
@@ -26,8 +26,7 @@ module _ (a : List ℕ) where
 
   pub arity-wordOf : (k : Kind) (b : ℕ) → b < symbolRange → arity a (wordOf k b) ≡ arityAt (rankOf a b) k
   arity-wordOf k b h =
-      let e : lowByte (wordOf k b) ≡ b = omega arith in
-      arity-kind (wordOf k b) k (kindOf-wordOf k b (omega arith)) ∙ ap (λ (s : ℕ). arityAt (rankOf a s) k) e
+      arity-kind (wordOf k b) k (kindOf-wordOf k b (omega arith)) ∙ ap (λ (s : ℕ). arityAt (rankOf a s) k) (lowByte-symbol k b h)
 
 -- no kind of word takes more children than the larger of its rank and two
 pub arityAt-most : (m r : ℕ) (k : Kind) → 2 ≤ m → r ≤ m → arityAt r k ≤ m
@@ -54,7 +53,7 @@ pub record IsNode (a : List ℕ) (w : ℕ) : Type 0 where
   pub arity-rank : arity a w ≡ rankOf a (symbolOf w)
 
 pub symbolOf-wordOf : (s : ℕ) → s < symbolRange → symbolOf (wordOf nodeKind s) ≡ s
-symbolOf-wordOf s h = omega arith
+symbolOf-wordOf s h = lowByte-symbol nodeKind s h
 
 module _ (a : List ℕ) where
   pub isNode-facts : (w : ℕ) → isNode a w ≡ true → IsNode a w

@@ -1,6 +1,6 @@
 -- `compiler::compile` meets its contract: where no refusal applies the table fits the slice, and the words behind it stay.
 use borrow.Author.Needs.{needs}
-use Rattle.compiler.proofs.FaultLaws.{compile-refuses, accepted-rule, compile-accepts}
+use Rattle.compiler.proofs.FaultLaws.{compile-refused, accepted-rule, compile-accepts}
 use Rattle.compiler.proofs.compile.Statement.{statement}
 use Rattle.compiler.proofs.compile.Tie as tie
 
@@ -8,7 +8,7 @@ compile-fault-requires : tie.Need-compile-fault-requires
 compile-fault-requires c κs = search needs
 
 returns : tie.Need-returns
-returns c = compile-refuses _ _ _ _ (c .before .compile-fault .ensures) (c .if1 .taken)
+returns c = compile-refused _ _ _ _ (c .before .compile-fault .ensures) (c .if1 .taken)
 
 write-table-requires : tie.Need-write-table-requires
 write-table-requires c κs =

@@ -5,8 +5,9 @@ use lib.ListN.{length}
 use borrow.Author.Needs.{needs}
 use Rattle.operations.proofs.AcceptedLaws.{list-accepted}
 use Rattle.operations.proofs.MatchLaws.{matchesOf-few}
+use Rattle.sets.proofs.StoredLaws.{stored-part}
 use Rattle.matcher.proofs.AcceptedCallLaws.{list-row}
-use Rattle.matcher.proofs.ListingLaws.{FoundMatches, found-none, found-more, found-end, part-set}
+use Rattle.matcher.proofs.ListingLaws.{FoundMatches, found-none, found-more, found-end}
 use Rattle.matcher.proofs.matches.write_matches.Statement.{statement}
 use Rattle.matcher.proofs.matches.write_matches.Tie as tie
 
@@ -73,7 +74,7 @@ loop-again c =
     let loop = test .before in
     let node = c .before .before .list-node in (
       search needs,
-      found-more _ _ _ _ _ _ _ _ _ _ (loop .loop .inv .1) (part-set _ _ _ (loop .loop .i) (loop .before .before .set-size .ensures))
+      found-more _ _ _ _ _ _ _ _ _ _ (loop .loop .inv .1) (stored-part _ _ _ (loop .loop .i) (loop .before .before .set-size .ensures))
           (loop .before .final-state .ensures) (omega (arith, test .loop-test .taken, list-accepted _ _ _ _ _ (start loop .pre) .list))
           (node .ensures .0) (node .ensures .1) (search needs),
     )
