@@ -1,19 +1,21 @@
 -- The outcomes of an exchange are whole state sets where the stored ones are: a recomputed set has the size of a state set, and
 -- a kept one is a stored one.
 use Prim.Native.Nat.{ℕ, zero, suc, _+_, _<_, _≤_}
-use mathlib.Core.Path.{_≡_}
+use mathlib.Core.Path.{_≡_, sym, subst}
 use mathlib.Core.Bool.{Bool, true, false, cond}
 use mathlib.Core.List.{List, [], _∷_, _++_, map}
 use native.Mathlib.Omega.{arith}
 use lib.ListN.{length, take, drop, length-drop}
 use Rattle.words.specs.Shape.{valueOnBy}
 use Rattle.words.specs.Postfix.{arity, startOf, isAncestor, valueOn, stackGiven}
+use Rattle.words.proofs.TestLaws.{Tested, holds, fails, tested}
 use Rattle.words.proofs.ListLaws.{map-append}
 use Rattle.words.proofs.PostfixLaws.{start-le}
 use Rattle.automaton.specs.StateSet.{StateSet}
 use Rattle.operations.specs.Marks.{sizeOf, nodeSet, nodeSets, sameWords}
 use Rattle.operations.specs.Exchange.{Outcome, kept, recomputed, setIn, keptFrom, propagate, rootSet, outcomesBehind, outcomesAfter}
 use Rattle.operations.proofs.MarksLaws.{Sized, sized-append, sized-nodeSets, length-nodeSet}
+use Rattle.operations.proofs.PropagateLaws.{propagate-beside, propagate-last, propagate-onward}
 use Rattle.operations.proofs.OutcomeLaws.{sets-recomputed}
 
 module _ (a table : List ℕ) (stored : ℕ → StateSet) (n : ℕ) (whole : (i : ℕ) → i < n → length (stored i) ≡ sizeOf table) where
@@ -29,21 +31,24 @@ module _ (a table : List ℕ) (stored : ℕ → StateSet) (n : ℕ) (whole : (i 
   unfolding propagate valueOnBy
   whole-propagate above [] j s h = tt
   whole-propagate above (w ∷ ws) j s h =
-      go (above j) (sameWords new (stored j)) (whole-propagate above ws (suc j) (stored j ∷ drop (arity a w) s) (omega arith))
+      go (tested (above j)) (tested (sameWords new (stored j)))
+      (whole-propagate above ws (suc j) (stored j ∷ drop (arity a w) s) (omega arith))
       (whole-propagate above ws (suc j) (new ∷ drop (arity a w) s) (omega arith))
     where
       new : StateSet
       new = valueOn a (nodeSet table) w s
 
-      go : (b c : Bool) → Whole (propagate a table stored above (suc j) ws (stored j ∷ drop (arity a w) s))
+      go : Tested (above j) → Tested (sameWords new (stored j))
+          → Whole (propagate a table stored above (suc j) ws (stored j ∷ drop (arity a w) s))
           → Whole (propagate a table stored above (suc j) ws (new ∷ drop (arity a w) s))
-          → Whole (cond b
-          (cond c (recomputed new ∷ keptFrom stored (suc j) (length ws))
-          (recomputed new ∷ propagate a table stored above (suc j) ws (new ∷ drop (arity a w) s)))
-          (kept (stored j) ∷ propagate a table stored above (suc j) ws (stored j ∷ drop (arity a w) s)))
-      go false c beside onward = (whole j (omega arith), beside)
-      go true true beside onward = (length-nodeSet table w _, whole-kept (length ws) (suc j) (omega arith))
-      go true false beside onward = (length-nodeSet table w _, onward)
+          → Whole (propagate a table stored above j (w ∷ ws) s)
+      go (fails x) y beside onward =
+          subst Whole (sym (propagate-beside a table stored above j w ws s x)) (whole j (omega arith), beside)
+      go (holds x) (holds y) beside onward =
+          subst Whole (sym (propagate-last a table stored above j w ws s x y))
+          (length-nodeSet table w _, whole-kept (length ws) (suc j) (omega arith))
+      go (holds x) (fails y) beside onward =
+          subst Whole (sym (propagate-onward a table stored above j w ws s x y)) (length-nodeSet table w _, onward)
 
   whole-behind : (used : List ℕ) (element : ℕ) (xs : List ℕ) → element < length used → length used ≤ n
       → Whole (outcomesBehind a table stored used element xs)
