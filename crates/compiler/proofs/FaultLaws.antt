@@ -1,5 +1,5 @@
 -- Compile's conditions 6 and 7 of what the code counts, and the answer and the table slice of a call.
-use mathlib.Core.Path.{_≡_, refl, ap, _∙_, sym}
+use mathlib.Core.Path.{_≡_, ap, _∙_, sym}
 use mathlib.Core.Bool.{true, false}
 use mathlib.Core.List.{List, [], _∷_}
 use Prim.Native.Nat.{ℕ, _+_, _<_, _≤_}
@@ -12,10 +12,9 @@ use Rattle.words.specs.Limits.{statesMost}
 use Rattle.words.specs.Refusal.{refusal}
 use Rattle.words.specs.Answer.{refused, accepted}
 use Rattle.words.proofs.ListLaws.{sets-whole}
-use Rattle.words.proofs.RefusalLaws.{part-passes}
 use Rattle.words.proofs.AnswerLaws.{answer-refused, answer-accepted, exit-refused, exit-accepted}
 use Rattle.automaton.specs.Numbering.{statesAfter, compiled}
-use Rattle.operations.specs.Compile.{compiledTable, tooManyStates, tableTooLong, ruleRefusals, compileRefusals, compileFault}
+use Rattle.operations.specs.Compile.{compiledTable, tooManyStates, tableTooLong, ruleRefusals, compileFault}
 use Rattle.operations.specs.Compile.{compileAnswer, compileExit}
 use Rattle.operations.proofs.AcceptedLaws.{compile-accepted}
 
@@ -47,8 +46,8 @@ module _ (a e slice : List ℕ) (f : ℕ) (h : f ≡ compileFault a e (length sl
   compile-refused n = (answer-refused h _ n, exit-refused h _ slice n)
 
   module _ (z : f ≡ 0) where
-    pub accepted-rule : refusal (ruleRefusals a e) ≡ 0
-    accepted-rule = part-passes (compileRefusals a e (length slice)) refl (sym h ∙ z) (ruleRefusals a e) refl
+    pub compile-rule : refusal (ruleRefusals a e) ≡ 0
+    compile-rule = compile-accepted a e (length slice) (sym h ∙ z) .rule
 
     pub compile-accepts : (n : ℕ) (out : List ℕ) → n ≡ 0 + length (compiledTable a e) → out ≡ sets slice 0 (compiledTable a e)
         → (accepted (n ∷ []) ≡ compileAnswer a e slice) × (out ≡ compileExit a e slice)

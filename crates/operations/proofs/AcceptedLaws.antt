@@ -51,8 +51,8 @@ rule-accepted a e h =
 
 -- `tableLength` is the length of the table slice
 pub record CompileAccepted (a e : List ℕ) (tableLength : ℕ) : Type 0 where
-  -- 1 to 6
-  pub rule : RuleAccepted a e
+  -- 1 to 6, of which RuleAccepted tells
+  pub rule : refusal (ruleRefusals a e) ≡ 0
   -- 7
   pub fits : length (compiledTable a e) ≤ tableLength
 
@@ -61,7 +61,7 @@ unfolding tableTooLong
 compile-accepted a e tableLength h =
     let rs = compileRefusals a e tableLength in
     record {
-      rule = rule-accepted a e (part-passes rs refl h (ruleRefusals a e) refl);
+      rule = part-passes rs refl h (ruleRefusals a e) refl;
       fits = ltb-false tableLength (length (compiledTable a e)) (none-applies rs refl h 7);
     }
 

@@ -22,7 +22,7 @@ use Rattle.automaton.proofs.DecodeLaws.{automatonOf-words}
 use Rattle.automaton.proofs.CompiledOver.{compiled-over}
 use Rattle.automaton.proofs.CompiledTable.{compiled-isTable, table-most}
 use Rattle.operations.specs.Compile.{compiledTable, compileFault, compileAnswer, compileExit}
-use Rattle.operations.proofs.AcceptedLaws.{compile-accepted}
+use Rattle.operations.proofs.AcceptedLaws.{rule-accepted, compile-accepted}
 
 -- an accepted call that answers k
 pub record CompileResult (a e slice : List ℕ) (k : ℕ) : Type 0 where
@@ -42,7 +42,7 @@ pub compile-result : (a e slice : List ℕ) (k : ℕ) → compileAnswer a e slic
 unfolding compileAnswer compileExit
 compile-result a e slice k h =
     let v = accepted-values (compileFault a e (length slice)) (length (compiledTable a e) ∷ []) (k ∷ []) h in
-    let f = compile-accepted a e (length slice) (v .0) .rule in
+    let f = rule-accepted a e (compile-accepted a e (length slice) (v .0) .rule) in
     let few = alphabet-accepted a (f .alphabet) .counted .few in
     let words = expression-accepted a e (f .expression) in
     let over = compiled-over a e (f .expression) (f .states) in
