@@ -46,8 +46,8 @@ module _ (a e slice : List ℕ) (f : ℕ) (h : f ≡ compileFault a e (length sl
   compile-refused n = (answer-refused h _ n, exit-refused h _ slice n)
 
   module _ (z : f ≡ 0) where
-    pub compile-rule : refusal (ruleRefusals a e) ≡ 0
-    compile-rule = compile-accepted a e (length slice) (sym h ∙ z) .rule
+    pub rule-passes : refusal (ruleRefusals a e) ≡ 0
+    rule-passes = compile-accepted a e (length slice) (sym h ∙ z) .rule
 
     pub compile-accepts : (n : ℕ) (out : List ℕ) → n ≡ 0 + length (compiledTable a e) → out ≡ sets slice 0 (compiledTable a e)
         → (accepted (n ∷ []) ≡ compileAnswer a e slice) × (out ≡ compileExit a e slice)

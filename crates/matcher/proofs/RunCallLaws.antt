@@ -22,7 +22,7 @@ use Rattle.nodes.specs.Nodes.{markedFrom, Workable}
 use Rattle.nodes.proofs.LoopLaws.{Recomputing}
 use Rattle.nodes.proofs.MarkedSets.{markedSets, markedSets-recomputing}
 use Rattle.nodes.proofs.MarkLaws.{holding-stored, markedFrom-rows}
-use Rattle.nodes.proofs.WorkableLaws.{workable-size, bounded-tree, marks-fit}
+use Rattle.nodes.proofs.WorkableLaws.{workable-size, bounded-tree, workable-marks}
 use Rattle.propagation.specs.Propagation.{propagateFrom}
 use Rattle.updates.specs.Updating.{updatedFrom, Updatable}
 
@@ -67,11 +67,11 @@ module _ (a table ch marks : List ℕ) (h : runFault a table ch (length marks) �
 
   module _ (marks′ : List ℕ) (count : ℕ) (e : (marks′, count) ≡ updatedFrom a table ch 0 (length ch) marks) where
     pub run-left : marks′ ≡ runMarks a table ch marks
-    run-left = tree-marked a table ch marks marks′ count e ∙ marked-run a table ch marks (marks-fit workable)
+    run-left = tree-marked a table ch marks marks′ count e ∙ marked-run a table ch marks (workable-marks workable)
 
     module _ (size : ℕ) (s : size ≡ sizeOf table) where
       pub run-fits : length ch * size ≤ length marks′
-      run-fits = rw (run-left, run-length a table ch marks (marks-fit workable), s) (marks-fit workable)
+      run-fits = rw (run-left, run-length a table ch marks (workable-marks workable), s) (workable-marks workable)
 
       pub run-few : length ch * size ≤ marksMost
       run-few = words-few (length ch) size (bounded-tree workable .few) (rw s (workable-size workable))

@@ -26,7 +26,7 @@ use Rattle.memo.proofs.NodeWritingLaws.{length-setOver}
 use Rattle.memo.proofs.MemoLaws.{stored-kept}
 use Rattle.nodes.specs.Nodes.{Pushable, setFrom, markedAt, BoundedTree, stackBase, stackLength}
 use Rattle.nodes.specs.Marking.{NodeMarkable, Maintained}
-use Rattle.nodes.proofs.WorkableLaws.{node-rank, bounded-tree, ranks-most, alphabet-few, table-checked, marks-fit}
+use Rattle.nodes.proofs.WorkableLaws.{node-rank, bounded-tree, ranks-most, alphabet-few, table-checked, workable-marks}
 use Rattle.nodes.proofs.RootStackLaws.{nodes-fit, stack-height, stack-pushable, represented-more}
 
 module _ {a table index ch : List ℕ} {i : ℕ} {marks array : List ℕ} {height : ℕ} {keys known places owners rows pending : List ℕ}
@@ -127,10 +127,10 @@ module _ {a table index ch : List ℕ} {i : ℕ} {marks array : List ℕ} {heigh
   rows-inside k l =
       let h = g .inside in
       row-inside (getD (drop (rankMost - r) four) k 0) (length ch) (sizeOf table) (length marks)
-      (omega (arith, each-getD (λ x. x < i) 0 (drop (rankMost - r) four) k part-below l)) (marks-fit (g .workable))
+      (omega (arith, each-getD (λ x. x < i) 0 (drop (rankMost - r) four) k part-below l)) (workable-marks (g .workable))
 
   row : i * sizeOf table + sizeOf table ≤ length marks
-  row = row-inside i (length ch) (sizeOf table) (length marks) (g .inside) (marks-fit (g .workable))
+  row = row-inside i (length ch) (sizeOf table) (length marks) (g .inside) (workable-marks (g .workable))
 
   steppable : NodeSteppable table index (symbolOf (getD ch i 0)) marks (drop (rankMost - r) four)
   steppable =

@@ -63,8 +63,8 @@ module _ {a table ch : List ℕ} {marksLength : ℕ} (g : Workable a table ch ma
   pub bounded-tree : BoundedTree a ch
   bounded-tree = record { accepted = run-facts .marked .tree; few = run-facts .counted .few }
 
-  pub marks-fit : length ch * sizeOf table ≤ marksLength
-  marks-fit = run-facts .marked .marks
+  pub workable-marks : length ch * sizeOf table ≤ marksLength
+  workable-marks = run-facts .marked .marks
 
   -- no state set has more words than there may be, and no table
   pub workable-size : sizeOf table ≤ setMost

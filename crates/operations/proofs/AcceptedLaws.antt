@@ -119,7 +119,7 @@ module _ (table : List ℕ) (n marksLength : ℕ) where
   unfolding marksTooShort
   marks-fit h = ltb-false marksLength (n * sizeOf table) h
 
-  fit-marks : n * sizeOf table ≤ marksLength → marksTooShort table n marksLength ≡ false
+  pub fit-marks : n * sizeOf table ≤ marksLength → marksTooShort table n marksLength ≡ false
   unfolding marksTooShort
   fit-marks h = le-ltb marksLength (n * sizeOf table) h
 

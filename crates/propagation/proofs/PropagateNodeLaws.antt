@@ -19,7 +19,7 @@ use Rattle.sets.proofs.SizeLaws.{words-few}
 use Rattle.memo.proofs.MemoLaws.{remembered-later}
 use Rattle.nodes.specs.Nodes.{setFrom, markedAt}
 use Rattle.nodes.specs.Marking.{NodeMarkable, Maintained}
-use Rattle.nodes.proofs.WorkableLaws.{workable-size, bounded-tree, marks-fit}
+use Rattle.nodes.proofs.WorkableLaws.{workable-size, bounded-tree, workable-marks}
 use Rattle.nodes.proofs.RootStackLaws.{represented-more}
 use Rattle.nodes.proofs.MarkLaws.{length-setFrom}
 use Rattle.propagation.specs.declared.Progress.{Progress}
@@ -51,7 +51,7 @@ module _ {a table index ch : List ℕ} {i : ℕ} {marks array : List ℕ} {heigh
     (g : NodeMarkable a table index ch i marks array height keys known places owners rows pending) (size : ℕ)
     (s : size ≡ sizeOf table) where
   pub row-fits : i * size + size ≤ length marks
-  row-fits = rw s (row-inside i (length ch) (sizeOf table) (length marks) (g .inside) (marks-fit (g .workable)))
+  row-fits = rw s (row-inside i (length ch) (sizeOf table) (length marks) (g .inside) (workable-marks (g .workable)))
 
   pub row-small : i * size + size ≤ marksMost
   row-small =

@@ -3,7 +3,7 @@
 use mathlib.Core.Path.{_≡_, refl, ap, _∙_, sym}
 use mathlib.Core.Bool.{false}
 use mathlib.Core.List.{List, [], _∷_, _++_, head-eq-of-cons-eq}
-use Prim.Native.Nat.{ℕ, zero, suc, _*_, _<_, _≤_}
+use Prim.Native.Nat.{ℕ, zero, suc, _<_, _≤_}
 use native.Mathlib.Omega.{arith}
 use native.Mathlib.Nat.{mul-le-mul}
 use lib.ListN.{length, take}
@@ -21,11 +21,11 @@ use Rattle.automaton.specs.Transition.{Automaton, automatonOf}
 use Rattle.automaton.specs.Numbering.{compiled}
 use Rattle.automaton.proofs.CompiledTable.{table-most}
 use Rattle.operations.specs.Compile.{compiledTable, tableTooLong, ruleRefusals, compileRefusals, compileFault, compileAnswer}
-use Rattle.operations.specs.Marks.{sizeOf, finalOf, nodeSets}
+use Rattle.operations.specs.Marks.{finalOf, nodeSets}
 use Rattle.operations.specs.Run.{wrongCount, marksTooShort, tableRefusals, runRefusals, runFault, runMarks, runAnswer, runExit}
 use Rattle.operations.specs.Listing.{listFault, matchesIn, matchesOf, listAnswer, listExit}
 use Rattle.operations.proofs.AcceptedLaws.{RuleAccepted, rule-accepted}
-use Rattle.operations.proofs.AcceptedLaws.{accepted-table, run-accepted, accepted-list}
+use Rattle.operations.proofs.AcceptedLaws.{accepted-table, fit-marks, run-accepted, accepted-list}
 use Rattle.operations.proofs.RunLaws.{run-exit, run-writes, run-length, matches-nodeSets}
 use Rattle.operations.proofs.CompileLaws.{CompileResult, compile-result}
 use Rattle.sets.proofs.SizeLaws.{set-small}
@@ -101,11 +101,8 @@ module _ (a e : List ℕ) where
 
     module _ (few : length ch ≤ chapterMost) where
       marks-enough : marksTooShort (compiledTable a e) (length ch) marksLength ≡ false
-      unfolding marksTooShort
       marks-enough =
-          let p : length ch * sizeOf (compiledTable a e) ≤ marksLength =
-          mul-le-mul few (set-small a (compiledTable a e) (known .checked)) in
-          le-ltb marksLength (length ch * sizeOf (compiledTable a e)) p
+          fit-marks (compiledTable a e) (length ch) marksLength (mul-le-mul few (set-small a (compiledTable a e) (known .checked)))
 
       -- 9 is judged alike
       same-count : wrongCount (length ch) ≡ wrongChapter ch

@@ -1,6 +1,6 @@
 -- `compiler::compile` meets its contract: where no refusal applies the table fits the slice, and the words behind it stay.
 use borrow.Author.Needs.{needs}
-use Rattle.compiler.proofs.FaultLaws.{compile-refused, compile-rule, compile-accepts}
+use Rattle.compiler.proofs.FaultLaws.{compile-refused, rule-passes, compile-accepts}
 use Rattle.compiler.proofs.compile.Statement.{statement}
 use Rattle.compiler.proofs.compile.Tie as tie
 
@@ -12,7 +12,7 @@ returns c = compile-refused _ _ _ _ (c .before .compile-fault .ensures) (c .if1 
 
 write-table-requires : tie.Need-write-table-requires
 write-table-requires c κs =
-    compile-rule _ _ (c .before .before .before .before .before .before .args .table .now) _ (c .before .before .compile-fault .ensures)
+    rule-passes _ _ (c .before .before .before .before .before .before .args .table .now) _ (c .before .before .compile-fault .ensures)
     (c .before .if1 .left)
 
 same-length : tie.Need-same-length
