@@ -96,7 +96,7 @@ type Exchange = fn(&mut Call) -> [u32; 2];
 
 fn by_library(call: &mut Call) -> [u32; 2] {
     let mut values = [0; 2];
-    library::perform(call, &mut values);
+    assert_eq!(library::perform(call, &mut values), 0, "a timed call is refused");
     values
 }
 
@@ -109,6 +109,11 @@ fn seconds(measure: &Measure, work: &Workload, pairs: &[Pair], exchange_by: Exch
     let mut call = exchange(work);
     let all = measure.seconds(|| recomputed(&mut call, pairs, exchange_by));
     all / (2 * pairs.len()) as f64
+}
+
+/// Seconds of one Exchange of the library: of a leaf, and of about 100 elements.
+pub fn library_exchanges(measure: &Measure, work: &Workload) -> [f64; 2] {
+    [leaves(work), subtree(work)].map(|pairs| seconds(measure, work, &pairs, by_library))
 }
 
 /// Makes both exchanges of every pair; answers how many elements were worked out in all.

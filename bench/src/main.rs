@@ -1,9 +1,11 @@
 //! Times Run, Exchange and Compile of the library beside two other simulations and an incremental Exchange on the same
 //! inputs, after checking that all results are equal: `bench [MILLISECONDS]`, the length of one batch. Prints tables of
-//! times and ratios, and what the ratios are held to.
+//! times and ratios, and what the ratios are held to. `bench beside OTHER` times the library beside that of another build of
+//! this program; both are started as `bench batch`, which prints the time of one batch of each call.
 //! HAQBYLUR_LIB_DIR names the folder of the static library when this is built.
 
 mod automaton;
+mod beside;
 mod books;
 mod byhand;
 mod compiles;
@@ -17,32 +19,58 @@ mod targets;
 mod textbook;
 mod workloads;
 
-use measure::Measure;
+use measure::{Measure, BATCHES};
 use peer::library;
+use std::path::Path;
 use std::process::ExitCode;
 use std::time::Duration;
 
+/// The length of a batch where none is given.
+const MILLISECONDS: u64 = 5;
+
+const USAGE: &str = "the arguments are [MILLISECONDS], beside OTHER or batch";
+
 fn main() -> ExitCode {
-    let milliseconds = match std::env::args().nth(1).map(|text| text.parse()) {
-        None => 5,
-        Some(Ok(milliseconds)) => milliseconds,
-        Some(Err(_)) => {
-            eprintln!("usage: bench [MILLISECONDS]");
-            return ExitCode::from(2);
-        }
-    };
     if !library::LINKED {
-        eprintln!("bench: {}", library::NOT_LINKED);
-        return ExitCode::from(2);
+        return failed(library::NOT_LINKED);
     }
-    let measure = Measure {
+    let arguments: Vec<String> = std::env::args().skip(1).collect();
+    match arguments.iter().map(String::as_str).collect::<Vec<_>>()[..] {
+        [] => print_tables(MILLISECONDS),
+        ["batch"] => {
+            beside::print_batch(&measure(MILLISECONDS, 1), &workloads::all());
+            ExitCode::SUCCESS
+        }
+        ["beside", other] => match beside::print(Path::new(other)) {
+            Ok(()) => ExitCode::SUCCESS,
+            Err(error) => failed(&error),
+        },
+        [text] => match text.parse() {
+            Ok(milliseconds) => print_tables(milliseconds),
+            Err(_) => failed(USAGE),
+        },
+        _ => failed(USAGE),
+    }
+}
+
+fn failed(error: &str) -> ExitCode {
+    eprintln!("bench: {error}");
+    ExitCode::from(2)
+}
+
+fn measure(milliseconds: u64, batches: usize) -> Measure {
+    Measure {
         batch: Duration::from_millis(milliseconds),
-        batches: 40,
-    };
+        batches,
+    }
+}
+
+fn print_tables(milliseconds: u64) -> ExitCode {
     let workloads = workloads::all();
     if !equal::all(&workloads) {
         return ExitCode::FAILURE;
     }
+    let measure = measure(milliseconds, BATCHES);
     println!(
         "All results are equal. Times are the best of {} batches.\n",
         measure.batches

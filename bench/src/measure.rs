@@ -6,6 +6,9 @@ use peer::library;
 use std::hint::black_box;
 use std::time::{Duration, Instant};
 
+/// How many batches of a call are made.
+pub const BATCHES: usize = 40;
+
 pub struct Measure {
     pub batch: Duration,
     pub batches: usize,
@@ -42,8 +45,13 @@ impl Measure {
     }
 }
 
-/// Seconds of one call of the library.
+/// Seconds of one call of the library, which must accept it: a refusal would be timed for nothing.
 pub fn library_call(measure: &Measure, mut call: Call) -> f64 {
     let mut values = [0; 2];
+    assert_eq!(
+        library::perform(&mut call, &mut values),
+        0,
+        "a timed call is refused"
+    );
     measure.seconds(|| library::perform(&mut call, &mut values))
 }
