@@ -1,5 +1,3 @@
-pub mod ComputedTest
-pub mod MaskLaws
 pub mod JoinLaws
 pub mod CompareLaws
 pub mod CellCountLaws

@@ -11,47 +11,12 @@ const WORD_BITS: usize = 32;
 // The most words of a set.
 pub const SET_MOST: usize = STATES_MOST / WORD_BITS;
 
-// The word with bit b alone, for each b.
-const MASKS: [u32; 32] = [
-    1,
-    2,
-    4,
-    8,
-    16,
-    32,
-    64,
-    128,
-    256,
-    512,
-    1024,
-    2048,
-    4096,
-    8192,
-    16384,
-    32768,
-    65536,
-    131072,
-    262144,
-    524288,
-    1048576,
-    2097152,
-    4194304,
-    8388608,
-    16777216,
-    33554432,
-    67108864,
-    134217728,
-    268435456,
-    536870912,
-    1073741824,
-    2147483648,
-];
-
+// The word with bit b alone, worked out by a shift: a table of masks would take room in the boards' image (document 02, U4).
 fn mask(b: usize) -> u32
     requires { ⌜ b < 32 ⌝ }
     ensures { λ r. ⌜ r ≡ 2 ^ b ⌝ }
 {
-    MASKS[b]
+    1 << b as u32
 }
 
 // Document 01's S: the words of a set of this many states.
@@ -62,8 +27,8 @@ pub fn size_for(states: usize) -> usize
     (states + 31) / WORD_BITS
 }
 
-// Whether the set has state s; a state beyond the set's words is not in it. The bit is shifted to the lowest place and not
-// masked, since a constant table is copied at each use.
+// Whether the set has state s; a state beyond the set's words is not in it. The bit is shifted to the lowest place, which needs
+// no mask.
 pub fn contains(set: &[u32], s: usize) -> bool
     ensures { λ r. ⌜ r ≡ StateSet·contains (now (set .entry)) s ⌝ }
 {
