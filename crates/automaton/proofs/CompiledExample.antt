@@ -18,10 +18,10 @@ rule =
     0x20000000 ∷ 0x20000001 ∷ 0x20000004 ∷ 0x20000002 ∷ 0x20000005 ∷ 0x20000003
     ∷ 0x50000002 ∷ 0x40000000 ∷ 0x60000003 ∷ []
 
--- 29 states, final state 24, 36 words
+-- 29 states, final state 24, 37 words
 abbrev table : List ℕ
 table =
-    0x80007418 ∷ 0x90000019 ∷ 0x9000041a ∷ 0x9000081b ∷ 0x90000c1c
+    0x80007418 ∷ 0xc0000025 ∷ 0x90000019 ∷ 0x9000041a ∷ 0x9000081b ∷ 0x90000c1c
     ∷ 0x90001002 ∷ 0xb0000000 ∷ 0xb0000001 ∷ 0xa0000c00 ∷ 0xa0001001
     ∷ 0x90001408 ∷ 0xb0000007 ∷ 0xa0002c07
     ∷ 0xa000200e ∷ 0xa000340b ∷ 0xa0003c09 ∷ 0xa000400a ∷ 0xa000480c ∷ 0xa000480d
@@ -41,7 +41,7 @@ smallAlphabet = 0x10000000 ∷ 0x10000002 ∷ []
 -- f(c, c): the entry for c leads to both children, the left one first
 pub twice-table :
     tableWords (compiled smallAlphabet (0x20000000 ∷ 0x20000000 ∷ 0x20000001 ∷ []))
-    ≡ 0x80001002 ∷ 0x90000003 ∷ 0x90000402 ∷ 0xb0000000 ∷ 0xb0000001 ∷ 0xa0000c00 ∷ 0xa0000c01 ∷ []
+    ≡ 0x80001002 ∷ 0xc0000008 ∷ 0x90000003 ∷ 0x90000402 ∷ 0xb0000000 ∷ 0xb0000001 ∷ 0xa0000c00 ∷ 0xa0000c01 ∷ []
 unfolding kindAt rankOf constantsFrom constantsOf arity hasEntries statesOf portOf ownTransitions portsFrom statesAfter transitionsFrom
     compiled flatMap
 twice-table = refl
@@ -49,7 +49,7 @@ twice-table = refl
 -- the closure over c of the empty language, which has no entry
 pub empty-table :
     tableWords (compiled smallAlphabet (0x30000000 ∷ 0x60000000 ∷ []))
-    ≡ 0x80000c01 ∷ 0x90000002 ∷ 0xa0000001 ∷ 0xa0000801 ∷ []
+    ≡ 0x80000c01 ∷ 0xc0000005 ∷ 0x90000002 ∷ 0xa0000001 ∷ 0xa0000801 ∷ []
 unfolding kindAt rankOf constantsFrom constantsOf arity hasEntries statesOf portOf ownTransitions portsFrom statesAfter transitionsFrom
     compiled flatMap
 empty-table = refl

@@ -1,4 +1,4 @@
--- The compiled table of an accepted expression with at most 1,024 states has at most 1,147 words, and refusal 8 lets it
+-- The compiled table of an accepted expression with at most 1,024 states has at most 1,148 words, and refusal 8 lets it
 -- pass.
 use Prim.Native.Nat.{ℕ, suc, _+_, _*_, _-_, _≤_}
 use mathlib.Core.Path.{_≡_, refl}
@@ -65,7 +65,7 @@ module _ (a : List ℕ) (h : AcceptedAlphabet a) where
       go false false e f g i = omega (arith, l, eqb-false r 0 e, leb-false 2 r f)
 
 -- T table words, B branching words, S states, n words, of which i have entries and l do not, and k constants
-few-words : (T B S n i l k : ℕ) → T + B ≤ S + (n + i) → S ≡ i * suc k + l → i + l ≡ n → n ≤ expressionMost → 1 ≤ l → l ≤ 1 + 3 * B
+few-words : (T B S n i l k : ℕ) → T + B ≤ S + (n + i) + 1 → S ≡ i * suc k + l → i + l ≡ n → n ≤ expressionMost → 1 ≤ l → l ≤ 1 + 3 * B
     → k ≤ constantsMost → S ≤ statesMost → T ≤ compiledMost
 few-words T B S n i l k t s c n≤ l≥ l≤ k≤ S≤ = go (decLe (suc k) constantsMost)
   where
@@ -76,7 +76,7 @@ few-words T B S n i l k t s c n≤ l≥ l≤ k≤ S≤ = go (decLe (suc k) const
         let s′ : S ≡ i * suc constantsMost + l = rw e at s in
         omega arith
 
--- "No compiled table takes more than 1,147 words."
+-- "the largest compiled table grows to 1,148 words" (U1)
 pub table-most : (a e : List ℕ) → alphabetFault a ≡ 0 → expressionFault a e ≡ 0 → compiled a e .states ≤ statesMost
     → length (tableWords (compiled a e)) ≤ compiledMost
 table-most a e g f m =

@@ -1,5 +1,5 @@
 -- Document 01's limits on compiled automata are attained: an accepted expression with exactly 1,024 states and a table of
--- 1,147 words, and one with 1,038 states.
+-- 1,148 words, and one with 1,038 states.
 use Prim.Native.Nat.{ℕ}
 use mathlib.Core.Path.{_≡_, refl}
 use mathlib.Core.List.{List, [], _∷_, _++_, flatMap}

@@ -33,5 +33,6 @@ pub mod LastWord
 pub mod WordNumbering
 pub mod DecodeLaws
 pub mod TransitionWordLaws
+pub mod LengthWordLaws
 pub mod TableLaws
 pub mod TransitionLaws

@@ -1,22 +1,25 @@
--- The words that refusal 8 lets through are exactly the tables of automata over the alphabet, of at most 2,048 words.
+-- The words that refusal 8 lets through are exactly the tables of automata over the alphabet, of at most 2,048 words; and a table
+-- in front of any words is the table in them.
 use mathlib.Core.Path.{_≡_, ap, ap₂, _∙_, sym, subst}
 use mathlib.Core.Logic.{_↔_}
-use mathlib.Core.Bool.{true, not, _&&_, false≢true}
-use mathlib.Core.List.{List, [], _∷_}
-use Prim.Native.Nat.{ℕ, _<_, _≤_}
+use mathlib.Core.Bool.{true, false, not, _&&_, false≢true}
+use mathlib.Core.List.{List, [], _∷_, _++_}
+use Prim.Native.Nat.{ℕ, zero, suc, _+_, _<_, _≤_}
 use native.Mathlib.Omega.{arith}
-use lib.ListN.{length}
-use lib.Dec.{ltb, leb}
-use borrow.Author.Tests.{lt-ltb, ltb-true, le-leb, leb-true, not-true}
-use Rattle.words.specs.Word.{headKind, fieldRange, isOf, wordOf, countAbove, stateBelow, aboveState, symbolRange, numberOf, kindNumber}
+use lib.ListN.{length, getD, drop}
+use lib.Dec.{ltb, eqb}
+use borrow.Author.Tests.{lt-ltb, ltb-true, eq-eqb, eqb-true, not-true}
+use Rattle.words.specs.Word.{headKind, lengthKind, hasKind, fieldRange, isOf, wordOf, countAbove, stateBelow, aboveState}
+use Rattle.words.specs.Word.{symbolRange, numberOf, kindNumber}
 use Rattle.words.specs.Limits.{outside, statesMost, tableMost}
 use Rattle.words.proofs.TestLaws.{and-true, true-and}
 use Rattle.words.proofs.LimitLaws.{not-outside, is-within}
 use Rattle.words.proofs.KindLaws.{isOf-facts, isOf-wordOf}
-use Rattle.automaton.specs.Transition.{Automaton, transitionsWords, headWord, tableWords, automatonOf}
-use Rattle.automaton.specs.Table.{isHead, areTransitions, isTable, AutomatonOver}
+use Rattle.automaton.specs.Transition.{Automaton, transitionsWords, headWord, lengthWord, tableWords, automatonOf}
+use Rattle.automaton.specs.Table.{tableWordCount, tableIn, isHead, isTableWord, sourcesLeft, areTransitions, isTable, AutomatonOver}
 use Rattle.automaton.proofs.DecodeLaws.{automatonOf-words}
-use Rattle.automaton.proofs.TransitionWordLaws.{transitions-parsed, transitions-pass}
+use Rattle.automaton.proofs.TransitionWordLaws.{no-length-word, transitions-parsed, transitions-pass}
+use Rattle.automaton.proofs.LengthWordLaws.{Counted, counted, counts, exact-in}
 
 -- ---- the head
 
@@ -60,18 +63,26 @@ head-passes n f some most final =
 
 -- ---- tables
 
--- what `isTable` says: not too many words, a head, and transitions behind it
+-- what `isTable` says: a head, a length word that counts all words, and transitions behind them
 pub record TableParts (a : List ℕ) (w : ℕ) (ws : List ℕ) : Type 0 where
-  pub fits : length (w ∷ ws) ≤ tableMost
+  pub exact : tableWordCount (w ∷ ws) ≡ length (w ∷ ws)
+  pub length-word : Counted (w ∷ ws) (length (w ∷ ws))
   pub head : Head w
-  pub rest : areTransitions a (countAbove w) 0 ws ≡ true
+  pub rest : areTransitions a (countAbove w) 0 (drop 1 ws) ≡ true
 
 pub isTable-parts : (a : List ℕ) (w : ℕ) (ws : List ℕ) → isTable a (w ∷ ws) ≡ true → TableParts a w ws
 unfolding isTable
 isTable-parts a w ws h =
-    let b = and-true (leb (length (w ∷ ws)) tableMost && isHead w) (areTransitions a (countAbove w) 0 ws) h in
-    let c = and-true (leb (length (w ∷ ws)) tableMost) (isHead w) (b .0) in
-    record { fits = leb-true (length (w ∷ ws)) tableMost (c .0); head = head-facts w (c .1); rest = b .1 }
+    let k = tableWordCount (w ∷ ws) in
+    let b = and-true (eqb k (length (w ∷ ws)) && isHead w) (areTransitions a (countAbove w) 0 (drop 1 ws)) h in
+    let c = and-true (eqb k (length (w ∷ ws))) (isHead w) (b .0) in
+    let e = eqb-true k (length (w ∷ ws)) (c .0) in
+    record {
+      exact = e;
+      length-word = subst (Counted (w ∷ ws)) e (counted (w ∷ ws) (omega arith));
+      head = head-facts w (c .1);
+      rest = b .1;
+    }
 
 -- the table of an automaton over the alphabet, of at most 2,048 words
 pub record TableOver (a table : List ℕ) : Type 0 where
@@ -84,15 +95,19 @@ module _ (a : List ℕ) (few : length a ≤ symbolRange) where
   isTable-over : (table : List ℕ) → isTable a table ≡ true → TableOver a table
   unfolding isTable
   isTable-over [] h = absurd (false≢true h)
-  isTable-over (w ∷ ws) h =
-      let p = isTable-parts a w ws h in
+  isTable-over (w ∷ []) h = let some = isTable-parts a w [] h .length-word .some in absurd (omega arith)
+  isTable-over (w ∷ l ∷ ws) h =
+      let p = isTable-parts a w (l ∷ ws) h in
       let i = p .head in
       let j = transitions-parsed a (countAbove w) ws (p .rest) in
+      let moves = j .words in
+      let e : lengthWord (2 + length (transitionsWords (j .transitions))) ≡ l =
+      ap (λ (ms : List ℕ). lengthWord (2 + length ms)) moves ∙ ap lengthWord (omega arith) ∙ sym (p .length-word .word) in
       record {
         automaton = record { states = countAbove w; final = stateBelow w; transitions = j .transitions };
         over = record { some = i .some; most = i .most; final = i .final; transitions = j .over };
-        words = ap₂ (λ x l. x ∷ l) (i .word) (j .words);
-        fits = p .fits;
+        words = ap₂ (λ x ls. x ∷ ls) (i .word) (ap₂ (λ x ls. x ∷ ls) e moves);
+        fits = p .length-word .few;
       }
 
   pub words-isTable : {A : Automaton} → AutomatonOver a A → length (tableWords A) ≤ tableMost → isTable a (tableWords A) ≡ true
@@ -101,9 +116,11 @@ module _ (a : List ℕ) (few : length a ≤ symbolRange) where
       let most = o .most in
       let final = o .final in
       let s : countAbove (headWord A) ≡ A .states = omega arith in
-      true-and (leb (length (tableWords A)) tableMost && isHead (headWord A))
+      let n = length (tableWords A) in
+      let k : Counted (tableWords A) n = record { word = ap lengthWord (omega arith); some = omega arith; few = l; inside = omega arith } in
+      true-and (eqb (tableWordCount (tableWords A)) n && isHead (headWord A))
       (areTransitions a (countAbove (headWord A)) 0 (transitionsWords (A .transitions)))
-      (true-and (leb (length (tableWords A)) tableMost) (isHead (headWord A)) (le-leb (length (tableWords A)) tableMost l)
+      (true-and (eqb (tableWordCount (tableWords A)) n) (isHead (headWord A)) (eq-eqb (tableWordCount (tableWords A)) n (counts k))
       (head-passes (A .states) (A .final) (o .some) (o .most) (o .final)))
       (rw s (transitions-pass a (A .states) few (o .most) (A .transitions) (o .transitions)))
 
@@ -121,7 +138,33 @@ module _ (a : List ℕ) (few : length a ≤ symbolRange) where
   pub isTable-automaton : (table : List ℕ) → isTable a table ≡ true → AutomatonOver a (automatonOf table)
   isTable-automaton table h = let i = isTable-over table h in subst (AutomatonOver a) (sym (automatonOf-table i)) (i .over)
 
--- ---- for any alphabet: how many states there are
+-- ---- for any alphabet: the table in a slice that begins with it, and how many states there are
+
+pub isTable-in : (a table : List ℕ) → isTable a table ≡ true → (behind : List ℕ) → tableIn (table ++ behind) ≡ table
+unfolding isTable
+isTable-in a [] h behind = absurd (false≢true h)
+isTable-in a (w ∷ ws) h behind = exact-in (w ∷ ws) (omega arith) (isTable-parts a w ws h .exact) behind
+
+-- no word behind the second is a length word
+transitions-once : (a : List ℕ) (n k : ℕ) (ws : List ℕ) → areTransitions a n k ws ≡ true → (i : ℕ) → i < length ws
+    → hasKind lengthKind (getD ws i 0) ≡ false
+unfolding areTransitions
+transitions-once a n k [] h i l = absurd (omega arith)
+transitions-once a n k (w ∷ ws) h zero l =
+    no-length-word a n k w (and-true (isTableWord a n k w) (areTransitions a n (sourcesLeft a k w) ws) h .0)
+transitions-once a n k (w ∷ ws) h (suc i) l =
+    transitions-once a n (sourcesLeft a k w) ws (and-true (isTableWord a n k w) (areTransitions a n (sourcesLeft a k w) ws) h .1) i
+    (omega arith)
+
+pub length-once : (a table : List ℕ) → isTable a table ≡ true → (i : ℕ) → 2 ≤ i → i < length table
+    → hasKind lengthKind (getD table i 0) ≡ false
+unfolding isTable
+length-once a [] h i l inside = absurd (omega arith)
+length-once a (w ∷ []) h i l inside = absurd (omega arith)
+length-once a (w ∷ v ∷ ws) h zero l inside = absurd (omega arith)
+length-once a (w ∷ v ∷ ws) h (suc zero) l inside = absurd (omega arith)
+length-once a (w ∷ v ∷ ws) h (suc (suc i)) l inside =
+    transitions-once a (countAbove w) 0 ws (isTable-parts a w (v ∷ ws) h .rest) i (omega arith)
 
 pub isTable-states : (a table : List ℕ) → isTable a table ≡ true → automatonOf table .states ≤ statesMost
 unfolding isTable automatonOf

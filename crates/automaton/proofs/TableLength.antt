@@ -166,14 +166,14 @@ module _ (a : List ℕ) where
       let ts = transitionsFrom a (n + statesOf a w) (v ∷ ws) (portOf a n w ∷ drop (arity a w) stack) in
       omega (arith, wordCount-append (ownTransitions w (portOf a n w) (childrenOn a w stack)) ts, word-length d, reading-length ws r)
 
-  -- the words of the whole table: its states, and less than two for each word
+  -- the words of the whole table: its states, less than two for each word, and the length word
   pub table-length : (e : List ℕ) → expressionFault a e ≡ 0
-      → length (tableWords (compiled a e)) + branchingWords a e ≤ compiled a e .states + (length e + innerWords a e)
+      → length (tableWords (compiled a e)) + branchingWords a e ≤ compiled a e .states + (length e + innerWords a e) + 1
   unfolding compiled
   table-length e f = go e (expression-accepted a e f .counted .some) (expression-reading a e f)
     where
       go : (e : List ℕ) → 0 < length e → AllRead a 0 e []
-          → length (tableWords (compiled a e)) + branchingWords a e ≤ statesAfter a 0 e + (length e + innerWords a e)
+          → length (tableWords (compiled a e)) + branchingWords a e ≤ statesAfter a 0 e + (length e + innerWords a e) + 1
       go [] l r = absurd (omega arith)
       go (w ∷ ws) l r =
           let P = lastPort a (w ∷ ws) in

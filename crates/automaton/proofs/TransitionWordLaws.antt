@@ -1,14 +1,14 @@
--- The words that may stand behind a table's head are exactly the words of transitions over the alphabet.
+-- The words that may stand behind a table's length word are exactly the words of transitions over the alphabet.
 use mathlib.Core.Path.{_≡_, refl, ap, ap₂, _∙_, sym}
 use mathlib.Core.Logic.{_⊎_, inl, inr}
-use mathlib.Core.Bool.{Bool, true, _&&_, _||_, or-true as or-right}
+use mathlib.Core.Bool.{Bool, true, false, _&&_, _||_, or-true as or-right}
 use mathlib.Core.List.{List, [], _∷_, _++_}
 use Prim.Native.Nat.{ℕ, zero, suc, _<_, _≤_}
 use native.Mathlib.Omega.{arith}
 use lib.ListN.{length}
 use lib.Dec.{ltb}
 use borrow.Author.Tests.{eq-eqb, ne-eqb, eqb-true, lt-ltb, ltb-true}
-use Rattle.words.specs.Word.{transitionKind, epsilonKind, sourceKind, numberOf, isOf, stateRange, symbolRange}
+use Rattle.words.specs.Word.{transitionKind, epsilonKind, sourceKind, lengthKind, numberOf, hasKind, isOf, stateRange, symbolRange}
 use Rattle.words.specs.Word.{fieldRange, wordOf, symbolAbove, stateAbove, stateBelow, kindNumber, aboveState}
 use Rattle.words.specs.Alphabet.{isSymbol, rankOf}
 use Rattle.words.specs.Lists.{AllBelow}
@@ -30,7 +30,7 @@ symbol-word w h = let i = isOf-facts transitionKind w h in omega arith
 epsilon-word : (w : ℕ) → isOf epsilonKind w ≡ true → w ≡ wordOf epsilonKind (aboveState (stateAbove w) (stateBelow w))
 epsilon-word w h = let i = isOf-facts epsilonKind w h in omega arith
 
--- the words of a table behind its head, where k source states are still to come: source states, and then transitions
+-- the words of a table behind its length word, where k source states are still to come: source states, and then transitions
 record Parsed (a : List ℕ) (n k : ℕ) (ws : List ℕ) : Type 0 where
   sources : List ℕ
   transitions : List Transition
@@ -87,6 +87,24 @@ module _ (a : List ℕ) (n : ℕ) where
         below = (ltb-true (stateBelow w) n (b .1), i .below);
         over = i .over;
       }
+
+  -- a length word may not stand there
+  pub no-length-word : (k w : ℕ) → isTableWord a n k w ≡ true → hasKind lengthKind w ≡ false
+  unfolding isTableWord
+  no-length-word (suc k) w h =
+      let i = isOf-facts sourceKind w (and-true (isOf sourceKind w) (ltb (stateBelow w) n) h .0) in
+      ne-eqb (numberOf w) (kindNumber lengthKind) (λ e. omega (arith, i .number))
+  no-length-word zero w h = pick (or-true (symbolTest w) (epsilonTest w) h)
+    where
+      pick : (symbolTest w ≡ true) ⊎ (epsilonTest w ≡ true) → hasKind lengthKind w ≡ false
+      pick (inl s) =
+          let b = and-true (isOf transitionKind w && isSymbol a (symbolAbove w)) (ltb (stateBelow w) n) s in
+          let i = isOf-facts transitionKind w (and-true (isOf transitionKind w) (isSymbol a (symbolAbove w)) (b .0) .0) in
+          ne-eqb (numberOf w) (kindNumber lengthKind) (λ e. omega (arith, i .number))
+      pick (inr s) =
+          let b = and-true (isOf epsilonKind w && ltb (stateAbove w) n) (ltb (stateBelow w) n) s in
+          let i = isOf-facts epsilonKind w (and-true (isOf epsilonKind w) (ltb (stateAbove w) n) (b .0) .0) in
+          ne-eqb (numberOf w) (kindNumber lengthKind) (λ e. omega (arith, i .number))
 
   -- how many source states follow a transition of either kind
   left-symbol : (w : ℕ) → symbolTest w ≡ true → sourcesLeft a 0 w ≡ rankOf a (symbolAbove w)

@@ -6,7 +6,7 @@ use mathlib.Core.Bool.{Bool, not, cond}
 use lib.ListN.{length, getD, take, drop}
 use lib.Dec.{eqb}
 use Rattle.words.specs.Word.{Kind, entryKind, symbolKind, emptyKind, unionKind, productKind, closureKind, nodeKind}
-use Rattle.words.specs.Word.{headKind, transitionKind, epsilonKind, sourceKind, noKind, kindOf, hasKind, lowByte}
+use Rattle.words.specs.Word.{headKind, transitionKind, epsilonKind, sourceKind, lengthKind, noKind, kindOf, hasKind, lowByte}
 use Rattle.words.specs.Alphabet.{constantsOf}
 use Rattle.words.specs.Postfix.{arity}
 use Rattle.automaton.specs.Transition.{Transition, Automaton, onSymbol, epsilon}
@@ -120,6 +120,7 @@ ownAt headKind s E P Ps = []
 ownAt transitionKind s E P Ps = []
 ownAt epsilonKind s E P Ps = []
 ownAt sourceKind s E P Ps = []
+ownAt lengthKind s E P Ps = []
 ownAt noKind s E P Ps = []
 
 -- the own transitions of word w; a constant and the empty language have none

@@ -1,10 +1,10 @@
--- Bottom-up tree automata with epsilon transitions, and their words (document 01's table, kinds 8 to 11): the encoder and
--- the decoder.
-use Prim.Native.Nat.{ℕ}
+-- Bottom-up tree automata with epsilon transitions, and their words (document 01's table, kinds 8 to 11, and document 02's
+-- length word, kind 12): the encoder and the decoder.
+use Prim.Native.Nat.{ℕ, _+_}
 use mathlib.Core.List.{List, [], _∷_, _++_, map}
 use mathlib.Core.Bool.{cond}
-use lib.ListN.{getD, drop}
-use Rattle.words.specs.Word.{headKind, transitionKind, epsilonKind, sourceKind, hasKind, aboveState}
+use lib.ListN.{length, getD, drop}
+use Rattle.words.specs.Word.{headKind, transitionKind, epsilonKind, sourceKind, lengthKind, hasKind, aboveState}
 use Rattle.words.specs.Word.{wordOf, symbolAbove, countAbove, stateAbove, stateBelow}
 
 -- a symbol move: on this symbol, from these states of the children, to a state; an empty move: from a state to a state
@@ -35,9 +35,13 @@ transitionsWords (t ∷ ts) = transitionWords t ++ transitionsWords ts
 abbrev pub headWord : Automaton → ℕ
 headWord A = wordOf headKind (aboveState (A .states) (A .final))
 
--- the table of an automaton: its head, and its transitions in order
+-- "A word of kind 12 with the table's word count in bits 11..0 becomes the second word" (U1)
+abbrev pub lengthWord : ℕ → ℕ
+lengthWord count = wordOf lengthKind count
+
+-- the table of an automaton: its head, the length word, which counts all of the table's words, and its transitions in order
 abbrev pub tableWords : Automaton → List ℕ
-tableWords A = headWord A ∷ transitionsWords (A .transitions)
+tableWords A = let moves = transitionsWords (A .transitions) in headWord A ∷ lengthWord (2 + length moves) ∷ moves
 
 -- The decoder: a symbol move takes the part states that follow it.
 abbrev pub sourcesAt : List ℕ → List ℕ
@@ -54,10 +58,10 @@ unfoldable pub transitionsAt : List ℕ → List Transition
 transitionsAt [] = []
 transitionsAt (w ∷ ws) = transitionAt w ws ++ transitionsAt ws
 
--- the automaton of a table's words
+-- the automaton of a table's words: the transitions stand behind the head and the length word
 unfoldable pub automatonOf : List ℕ → Automaton
 automatonOf table = record {
   states = countAbove (getD table 0 0);
   final = stateBelow (getD table 0 0);
-  transitions = transitionsAt (drop 1 table);
+  transitions = transitionsAt (drop 2 table);
 }

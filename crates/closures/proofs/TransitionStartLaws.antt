@@ -1,4 +1,4 @@
--- A table's transitions are those that begin at its words; its head begins none.
+-- A table's transitions are those that begin at its words; its head and its length word begin none.
 use mathlib.Core.Path.{_≡_, refl, ap, sym, subst}
 use mathlib.Core.Logic.{⊎-elim}
 use mathlib.Core.Bool.{true, false≢true}
@@ -8,7 +8,7 @@ use native.Mathlib.Omega.{arith}
 use native.Mathlib.Nat.{suc-add}
 use lib.ListN.{length, getD, drop}
 use borrow.Author.Tests.{ne-eqb}
-use Rattle.words.specs.Word.{numberOf, epsilonKind, transitionKind, kindNumber}
+use Rattle.words.specs.Word.{numberOf, epsilonKind, transitionKind, lengthKind, kindNumber}
 use Rattle.automaton.specs.Transition.{Transition, transitionAt, transitionsAt, automatonOf}
 use Rattle.automaton.specs.Table.{isTable}
 use Rattle.automaton.proofs.TableLaws.{isTable-parts}
@@ -49,11 +49,21 @@ starts-member (w ∷ ws) (suc i) t l m =
     subst (List·Memᴰ t) (sym (transitions-cons w ws))
     (Memᴰ·append-right (startsAt (w ∷ ws) 0) (starts-member ws i t (omega arith) (subst (List·Memᴰ t) (starts-suc w ws i) m)))
 
--- ---- the head
+-- ---- the head and the length word
 
 pub table-transitions : (a table : List ℕ) → isTable a table ≡ true → transitionsAt table ≡ automatonOf table .transitions
 unfolding isTable automatonOf transitionsAt
 table-transitions a [] h = absurd (false≢true h)
-table-transitions a (w ∷ ws) h =
-    let e = isTable-parts a w ws h .head .number in
-    rw (ne-eqb (numberOf w) (kindNumber transitionKind) (λ i. omega arith), ne-eqb (numberOf w) (kindNumber epsilonKind) (λ i. omega arith))
+table-transitions a (w ∷ []) h = let some = isTable-parts a w [] h .length-word .some in absurd (omega arith)
+table-transitions a (w ∷ l ∷ ws) h =
+    let p = isTable-parts a w (l ∷ ws) h in
+    let e = p .head .number in
+    let few = p .length-word .few in
+    let q = p .length-word .word in
+    let k : numberOf l ≡ kindNumber lengthKind = omega arith in
+    rw (
+      ne-eqb (numberOf w) (kindNumber transitionKind) (λ i. omega arith),
+      ne-eqb (numberOf w) (kindNumber epsilonKind) (λ i. omega arith),
+      ne-eqb (numberOf l) (kindNumber transitionKind) (λ i. omega arith),
+      ne-eqb (numberOf l) (kindNumber epsilonKind) (λ i. omega arith),
+    )

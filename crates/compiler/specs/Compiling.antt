@@ -21,9 +21,9 @@ wordStatesMost = 1 + constantsMost
 abbrev pub allOwnWordsMost : ℕ
 allOwnWordsMost = expressionMost * ownWordsMost
 
--- the most words of a table: its head, a symbol move of each constant, and the own transitions
+-- the most words of a table: its head, the length word, a symbol move of each constant, and the own transitions
 abbrev pub compiledWordsMost : ℕ
-compiledWordsMost = 1 + constantsMost + allOwnWordsMost
+compiledWordsMost = 2 + constantsMost + allOwnWordsMost
 
 -- the number of an alphabet's constants, by which the states of a word are counted
 pub record StatesCountable (a : List ℕ) (count : ℕ) : Type 0 where

@@ -1,4 +1,4 @@
-// The table of a rule: its head, the constants' symbol moves, and each word's own transitions.
+// The table of a rule: its head, its length word, the constants' symbol moves, and each word's own transitions.
 ghost use mathlib.Core.Path.{_≡_};
 ghost use mathlib.Core.List.{[]};
 ghost use Rattle.words.specs.Refusal.{refusal};
@@ -19,7 +19,11 @@ use words::limits::CONSTANTS_MOST;
 use words::limits::EXPRESSION_MOST;
 use words::word::HEAD;
 use words::word::KIND_UNIT;
+use words::word::LENGTH;
 use words::word::STATE_RANGE;
+
+// Where the moves begin: behind the head and the length word.
+const FIRST_MOVE: usize = 2;
 
 // The own transitions of the rule's words in order. The ports of the words that wait for their parent stand on a stack.
 fn write_words(
@@ -53,7 +57,8 @@ fn write_words(
     next
 }
 
-// The head, with the last word's exit as final state, the moves of the constants into its entries, and the own transitions.
+// The head, with the last word's exit as final state, the moves of the constants into its entries, the own transitions, and then
+// in front of the moves the length word, which counts all words of the table.
 fn write_parts(alphabet: &[u32], constants: &[u32], expression: &[u32], out: &mut [u32]) -> usize
     requires { ⌜ Compilable (now alphabet) (now constants) (now expression) 0 ⌝ }
     ensures { λ r. ⌜
@@ -66,9 +71,11 @@ fn write_parts(alphabet: &[u32], constants: &[u32], expression: &[u32], out: &mu
     let exit = states_after(alphabet, constants.len(), &expression[..last]);
     let states = exit + states_of(alphabet, constants.len(), w);
     let port = word_port(alphabet, exit, w);
-    let moves = push(out, 0, HEAD * KIND_UNIT + (states * STATE_RANGE + exit));
-    let next = push_constants(constants, port, out, moves);
-    write_words(alphabet, constants, expression, out, next)
+    push(out, 0, HEAD * KIND_UNIT + (states * STATE_RANGE + exit));
+    let next = push_constants(constants, port, out, FIRST_MOVE);
+    let size = write_words(alphabet, constants, expression, out, next);
+    push(out, 1, LENGTH * KIND_UNIT + size as u32);
+    size
 }
 
 // Writes the table of a rule, as far as the slice reaches, and answers its word count in both cases.

@@ -1,12 +1,12 @@
 -- Laws of words written one after the other, and of the loop that writes those of one member of a list after the other.
-use mathlib.Core.Path.{_≡_, refl, _∙_, sym}
+use mathlib.Core.Path.{_≡_, refl, ap, _∙_, sym}
 use mathlib.Core.List.{List, [], _∷_, _++_}
-use Prim.Native.Nat.{ℕ, _+_, _*_, _<_, _≤_}
+use Prim.Native.Nat.{ℕ, suc, _+_, _*_, _<_, _≤_}
 use native.Mathlib.Omega.{arith}
 use native.Mathlib.Nat.{add-zero, add-assoc, suc-mul}
 use native.Mathlib.Numerals.{add-one}
 use lib.ListN.{length, take, set, length-append}
-use lib.Seq.{take-all}
+use lib.Seq.{sets, set-comm, take-all}
 use Rattle.words.proofs.ListLaws.{sets-append}
 use Rattle.emitter.specs.Writing.{WordsWritten}
 
@@ -32,6 +32,25 @@ words-written-same m n at r vs us out out′ p h e =
 -- how far a writer came
 pub words-written-next : (m at r : ℕ) (ws out out′ : List ℕ) → WordsWritten m at ws out out′ r → r ≤ at + m
 words-written-next m at r ws out out′ p = let a = p .short in let b = p .next in omega arith
+
+-- a word that is written in front of words that stand already
+set-before : (ws out : List ℕ) (j i w : ℕ) → j < i → set (sets out i ws) j w ≡ sets (set out j w) i ws
+set-before [] out j i w h = refl
+set-before (v ∷ ws) out j i w h =
+    set-before ws (set out i v) j (suc i) w (omega arith)
+    ∙ ap (λ (o : List ℕ). sets o (suc i) ws) (set-comm out i j v w (λ e. omega arith))
+
+-- the first word, the words from the third on, and then the second
+pub words-written-around : (m r h l n₁ n₃ : ℕ) (ws out out′ out″ out‴ : List ℕ) → WordsWritten 1 0 (h ∷ []) out out′ n₁
+    → WordsWritten m 2 ws out′ out″ r → WordsWritten 1 1 (l ∷ []) out″ out‴ n₃ → WordsWritten (2 + m) 0 (h ∷ l ∷ ws) out out‴ r
+words-written-around m r h l n₁ n₃ ws out out′ out″ out‴ first rest second =
+    record {
+      words =
+          second .words ∙ ap (λ (o : List ℕ). set o 1 l) (rest .words) ∙ set-before ws out′ 1 2 l (omega arith)
+          ∙ ap (λ (o : List ℕ). sets (set o 1 l) 2 ws) (first .words);
+      next = let n = rest .next in omega arith;
+      short = let s = rest .short in omega arith;
+    }
 
 -- one word
 pub words-written-one : (at w : ℕ) (out out′ : List ℕ) → out′ ≡ set out at w → WordsWritten 1 at (w ∷ []) out out′ (at + 1)

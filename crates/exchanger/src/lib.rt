@@ -1,10 +1,12 @@
 // Exchange: one subtree of a marked chapter gives way to a replacement.
 ghost use mathlib.Core.Path.{_≡_};
+ghost use Rattle.automaton.specs.Table.{tableIn};
 ghost use Rattle.operations.specs.ExchangeCall.{exchangeCall};
 ghost use Rattle.operations.specs.Exchange.{exchangeAnswer, exchangeChapter, exchangeMarks};
 ghost use Rattle.exchanger.specs.ExchangeAnswer.{answerInExchanged};
 use refusals::exchange::exchange_fault;
 use subtree::replace_subtree;
+use tables::length::table_word_count;
 
 mod subtree;
 mod tail;
@@ -15,10 +17,11 @@ pub enum Exchanged {
     Refused(u32),
 }
 
-// Document 01's Exchange: the new element count and the number worked out, or a refusal.
+// Document 01's Exchange by the table in its slice: the new element count and the number worked out, or a refusal. What follows
+// the table is not read.
 pub fn exchange(
     alphabet: &[u32],
-    table: &[u32],
+    table_slice: &[u32],
     chapter: &mut [u32],
     count: usize,
     marks: &mut [u32],
@@ -28,22 +31,24 @@ pub fn exchange(
     ensures answer { λ r. ⌜
         answerInExchanged r
         ≡ exchangeAnswer
-        (exchangeCall (now (alphabet .entry)) (now (table .entry)) (now (chapter .entry)) (now (marks .entry)) count element
-        (now (replacement .entry)))
+        (exchangeCall (now (alphabet .entry)) (tableIn (now («table_slice» .entry))) (now (chapter .entry)) (now (marks .entry))
+        count element (now (replacement .entry)))
         ⌝ }
     ensures chapter { λ _. ⌜
         now (chapter .exit)
         ≡ exchangeChapter
-        (exchangeCall (now (alphabet .entry)) (now (table .entry)) (now (chapter .entry)) (now (marks .entry)) count element
-        (now (replacement .entry)))
+        (exchangeCall (now (alphabet .entry)) (tableIn (now («table_slice» .entry))) (now (chapter .entry)) (now (marks .entry))
+        count element (now (replacement .entry)))
         ⌝ }
     ensures marks { λ _. ⌜
         now (marks .exit)
         ≡ exchangeMarks
-        (exchangeCall (now (alphabet .entry)) (now (table .entry)) (now (chapter .entry)) (now (marks .entry)) count element
-        (now (replacement .entry)))
+        (exchangeCall (now (alphabet .entry)) (tableIn (now («table_slice» .entry))) (now (chapter .entry)) (now (marks .entry))
+        count element (now (replacement .entry)))
         ⌝ }
 {
+    let words = table_word_count(table_slice);
+    let table = &table_slice[..words];
     let fault = exchange_fault(
         alphabet,
         table,

@@ -3,6 +3,7 @@
 // declares them for C.
 ghost use mathlib.Core.Path.{_≡_};
 ghost use Rattle.words.specs.Answer.{valueOr};
+ghost use Rattle.automaton.specs.Table.{tableIn};
 ghost use Rattle.operations.specs.Compile.{compileAnswer, compileExit};
 ghost use Rattle.operations.specs.Run.{runAnswer, runExit};
 ghost use Rattle.operations.specs.Listing.{listAnswer, listExit};
@@ -56,20 +57,20 @@ pub extern "C" fn haqbylur_run(
     cells: &mut u32,
 ) -> u32
     ensures status { λ r. ⌜
-        r ≡ statusOf (runAnswer (now (alphabet .entry)) (now (table .entry)) (now (chapter .entry)) (now (marks .entry)))
+        r ≡ statusOf (runAnswer (now (alphabet .entry)) (tableIn (now (table .entry))) (now (chapter .entry)) (now (marks .entry)))
         ⌝ }
     ensures marks { λ _. ⌜
         now (marks .exit)
-        ≡ runExit (now (alphabet .entry)) (now (table .entry)) (now (chapter .entry)) (now (marks .entry))
+        ≡ runExit (now (alphabet .entry)) (tableIn (now (table .entry))) (now (chapter .entry)) (now (marks .entry))
         ⌝ }
     ensures elements { λ _. ⌜
         now (elements .exit)
-        ≡ valueOr (runAnswer (now (alphabet .entry)) (now (table .entry)) (now (chapter .entry)) (now (marks .entry))) 0
+        ≡ valueOr (runAnswer (now (alphabet .entry)) (tableIn (now (table .entry))) (now (chapter .entry)) (now (marks .entry))) 0
         (now (elements .entry))
         ⌝ }
     ensures cells { λ _. ⌜
         now (cells .exit)
-        ≡ valueOr (runAnswer (now (alphabet .entry)) (now (table .entry)) (now (chapter .entry)) (now (marks .entry))) 1
+        ≡ valueOr (runAnswer (now (alphabet .entry)) (tableIn (now (table .entry))) (now (chapter .entry)) (now (marks .entry))) 1
         (now (cells .entry))
         ⌝ }
 {
@@ -94,14 +95,14 @@ pub extern "C" fn haqbylur_list(
     hits: &mut u32,
 ) -> u32
     ensures status { λ r. ⌜
-        r ≡ statusOf (listAnswer (now (alphabet .entry)) (now (table .entry)) count (now (marks .entry)) (now (list .entry)))
+        r ≡ statusOf (listAnswer (now (alphabet .entry)) (tableIn (now (table .entry))) count (now (marks .entry)) (now (list .entry)))
         ⌝ }
     ensures list { λ _. ⌜
-        now (list .exit) ≡ listExit (now (alphabet .entry)) (now (table .entry)) count (now (marks .entry)) (now (list .entry))
+        now (list .exit) ≡ listExit (now (alphabet .entry)) (tableIn (now (table .entry))) count (now (marks .entry)) (now (list .entry))
         ⌝ }
     ensures hits { λ _. ⌜
         now (hits .exit)
-        ≡ valueOr (listAnswer (now (alphabet .entry)) (now (table .entry)) count (now (marks .entry)) (now (list .entry))) 0
+        ≡ valueOr (listAnswer (now (alphabet .entry)) (tableIn (now (table .entry))) count (now (marks .entry)) (now (list .entry))) 0
         (now (hits .entry))
         ⌝ }
 {
@@ -130,33 +131,33 @@ pub extern "C" fn haqbylur_exchange(
     ensures status { λ r. ⌜
         r
         ≡ statusOf
-        (exchangeAnswer (exchangeCall (now (alphabet .entry)) (now (table .entry)) (now (chapter .entry)) (now (marks .entry)) count element
-        (now (replacement .entry))))
+        (exchangeAnswer (exchangeCall (now (alphabet .entry)) (tableIn (now (table .entry))) (now (chapter .entry)) (now (marks .entry))
+        count element (now (replacement .entry))))
         ⌝ }
     ensures chapter { λ _. ⌜
         now (chapter .exit)
         ≡ exchangeChapter
-        (exchangeCall (now (alphabet .entry)) (now (table .entry)) (now (chapter .entry)) (now (marks .entry)) count element
+        (exchangeCall (now (alphabet .entry)) (tableIn (now (table .entry))) (now (chapter .entry)) (now (marks .entry)) count element
         (now (replacement .entry)))
         ⌝ }
     ensures marks { λ _. ⌜
         now (marks .exit)
         ≡ exchangeMarks
-        (exchangeCall (now (alphabet .entry)) (now (table .entry)) (now (chapter .entry)) (now (marks .entry)) count element
+        (exchangeCall (now (alphabet .entry)) (tableIn (now (table .entry))) (now (chapter .entry)) (now (marks .entry)) count element
         (now (replacement .entry)))
         ⌝ }
     ensures elements { λ _. ⌜
         now (elements .exit)
         ≡ valueOr
-        (exchangeAnswer (exchangeCall (now (alphabet .entry)) (now (table .entry)) (now (chapter .entry)) (now (marks .entry)) count element
-        (now (replacement .entry))))
+        (exchangeAnswer (exchangeCall (now (alphabet .entry)) (tableIn (now (table .entry))) (now (chapter .entry)) (now (marks .entry))
+        count element (now (replacement .entry))))
         0 (now (elements .entry))
         ⌝ }
     ensures worked { λ _. ⌜
         now («worked_out» .exit)
         ≡ valueOr
-        (exchangeAnswer (exchangeCall (now (alphabet .entry)) (now (table .entry)) (now (chapter .entry)) (now (marks .entry)) count element
-        (now (replacement .entry))))
+        (exchangeAnswer (exchangeCall (now (alphabet .entry)) (tableIn (now (table .entry))) (now (chapter .entry)) (now (marks .entry))
+        count element (now (replacement .entry))))
         1 (now («worked_out» .entry))
         ⌝ }
 {

@@ -123,7 +123,7 @@ table-keyed a [] h = absurd (false≢true h)
 table-keyed a (w ∷ ws) h =
     let p = isTable-parts a w ws h in
     let number = p .head .number in
-    record { few = p .fits; head = key-none w (λ e. omega arith) (λ e. omega arith) }
+    record { few = p .length-word .few; head = key-none w (λ e. omega arith) (λ e. omega arith) }
 
 module _ (table : List ℕ) (key : ℕ) where
   without-more : (j e : ℕ) → (keyOf (getD table j 0) ≡ key → ⊥) → Without table key (j + 1) e → Without table key j e

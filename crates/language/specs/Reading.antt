@@ -4,7 +4,7 @@ use Prim.Native.Nat.{ℕ}
 use mathlib.Core.List.{List, [], _∷_}
 use lib.ListN.{getD}
 use Rattle.words.specs.Word.{Kind, entryKind, symbolKind, emptyKind, unionKind, productKind, closureKind}
-use Rattle.words.specs.Word.{nodeKind, headKind, transitionKind, epsilonKind, sourceKind, noKind, kindOf, lowByte}
+use Rattle.words.specs.Word.{nodeKind, headKind, transitionKind, epsilonKind, sourceKind, lengthKind, noKind, kindOf, lowByte}
 use Rattle.words.specs.Postfix.{stackAfter}
 use Rattle.language.specs.Expression.{Expression, Expressions, symbol, empty, union, product, closure, noneᵉ, moreᵉ}
 
@@ -26,6 +26,7 @@ ofKind headKind s Es = empty
 ofKind transitionKind s Es = empty
 ofKind epsilonKind s Es = empty
 ofKind sourceKind s Es = empty
+ofKind lengthKind s Es = empty
 ofKind noKind s Es = empty
 
 abbrev pub expressionOn : ℕ → List Expression → Expression

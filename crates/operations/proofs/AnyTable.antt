@@ -1,14 +1,14 @@
 -- Run with any table that 8 lets pass, compiled or not: a bit of the marks is set exactly if its state is reached, at an
--- element from its children's marks, and by the tree of its subtree. A table that Compile writes is such a table.
+-- element from its children's marks, and by the tree of its subtree. A table that Compile writes is such a table (TableSlices).
 use Prim.Native.Nat.{ℕ, _*_, _<_, _≤_}
 use mathlib.Core.Path.{_≡_, sym, ap, _∙_, subst}
 use mathlib.Core.Logic.{_↔_}
-use mathlib.Core.Bool.{true, false}
+use mathlib.Core.Bool.{true}
 use mathlib.Core.List.{List, [], _∷_, map}
 use native.Mathlib.Omega.{arith}
 use lib.ListN.{length, getD, take, drop}
 use Rattle.words.specs.Tree.{Tree}
-use Rattle.words.specs.Limits.{alphabetMost, compiledMost}
+use Rattle.words.specs.Limits.{alphabetMost}
 use Rattle.words.specs.Chapter.{symbolOf}
 use Rattle.words.specs.Postfix.{arity, subtreeOf, childrenOf}
 use Rattle.words.specs.ExactlyOne.{ExactlyOne}
@@ -23,15 +23,13 @@ use Rattle.language.proofs.SubjectSubtreeLaws.{exactly-one-subtree}
 use Rattle.automaton.specs.Transition.{automatonOf}
 use Rattle.automaton.specs.StateSet.{StateSet, contains}
 use Rattle.automaton.specs.Reached.{Reaches}
-use Rattle.automaton.specs.Table.{isTable, noTable}
+use Rattle.automaton.specs.Table.{isTable}
 use Rattle.automaton.proofs.ClosureLaws.{TargetsBelow, targets-below, stateSet-reached, stateSet-beyond}
 use Rattle.automaton.proofs.TreeSets.{treeSet, treeSet-reaches}
 use Rattle.automaton.proofs.TableLaws.{isTable-automaton}
-use Rattle.operations.specs.Compile.{compileAnswer, compileExit}
 use Rattle.operations.specs.Marks.{sizeOf, nodeSet, ReachedSet, nodeSets, storedSet}
 use Rattle.operations.specs.Run.{runFault, runMarks, runAnswer, runExit}
 use Rattle.operations.proofs.AcceptedLaws.{RunAccepted, run-accepted}
-use Rattle.operations.proofs.CompileLaws.{compile-result}
 use Rattle.operations.proofs.MarksLaws.{length-nodeSet, sized-nodeSets, length-nodeSets, storedSet-flatten, stored-right}
 use Rattle.operations.proofs.RunLaws.{run-writes, run-exit, node-tree}
 
@@ -103,13 +101,3 @@ module _ (a table ch marks : List ℕ) (n cells : ℕ) (h : runAnswer a table ch
     reaches = λ i t l k q.
         rw (set-tree i t l k) (treeSet-reaches (automatonOf table) (below a table few (run .checked .automaton)) t q);
   }
-
--- ---- a table that Compile writes
-
--- 8 never refuses it, and it has at most 1,147 words
-pub compiled-passes : (a e slice : List ℕ) (k : ℕ) → compileAnswer a e slice ≡ accepted (k ∷ [])
-    → (noTable a (take k (compileExit a e slice)) ≡ false) × (k ≤ compiledMost)
-unfolding noTable
-compiled-passes a e slice k h =
-    let c = compile-result a e slice k h in
-    (rw (c .table, c .checked), rw (c .count) (c .most))

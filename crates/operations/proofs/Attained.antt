@@ -2,7 +2,7 @@
 -- one table of rows, one theorem.
 use Prim.Native.Nat.{ℕ}
 use mathlib.Core.Path.{_≡_, refl}
-use mathlib.Core.List.{List, [], _∷_, map}
+use mathlib.Core.List.{List, [], _∷_, _++_, map}
 use lib.ListN.{replicate}
 use Rattle.words.specs.Word.{kindAt, spareBitsClear, isOf}
 use Rattle.words.specs.Alphabet.{isEntry, rankOf, isConstant, constantsFrom, constantsOf, noAlphabet, wrongConstants}
@@ -13,28 +13,28 @@ use Rattle.words.specs.Chapter.{isNode, notNodes}
 use Rattle.words.specs.Answer.{Answer, refused}
 use Rattle.automaton.specs.Transition.{automatonOf}
 use Rattle.automaton.specs.Numbering.{hasEntries, statesOf, portOf, ownTransitions, portsFrom, statesAfter, transitionsFrom, compiled}
-use Rattle.automaton.specs.Table.{isHead, isTableWord, sourcesLeft, areTransitions, isTable, noTable}
+use Rattle.automaton.specs.Table.{tableWordCount, tableIn, isHead, isTableWord, sourcesLeft, areTransitions, isTable, noTable}
 use Rattle.automaton.specs.StateSet.{sizeFor}
 use Rattle.automaton.proofs.LargestRules.{overLimit}
 use Rattle.operations.specs.Compile.{tooManyStates, tableTooLong, compileAnswer}
 use Rattle.operations.specs.Marks.{sizeOf}
 use Rattle.operations.specs.Run.{wrongCount, marksTooShort, runAnswer}
 use Rattle.operations.specs.Listing.{listTooShort, listAnswer}
-use Rattle.operations.specs.ExchangeCall.{ExchangeCall, exchangeCall}
+use Rattle.operations.specs.ExchangeCall.{exchangeCall}
 use Rattle.operations.specs.Exchange.{wrongUsedCount, noElement, noReplacement, resultTooLong, fault, exchangeAnswer}
 
 -- a call of an operation, with all that is lent
 pub data Called : Type 0 where
   compile : (a e slice : List ℕ) → Called
-  run : (a table ch marks : List ℕ) → Called
-  list : (a table : List ℕ) (n : ℕ) (marks slice : List ℕ) → Called
-  exchange : ExchangeCall → Called
+  run : (a tableSlice ch marks : List ℕ) → Called
+  list : (a tableSlice : List ℕ) (n : ℕ) (marks slice : List ℕ) → Called
+  exchange : (a tableSlice ch marks : List ℕ) (n i : ℕ) (xs : List ℕ) → Called
 
 abbrev pub answerTo : Called → Answer
 answerTo (compile a e slice) = compileAnswer a e slice
-answerTo (run a table ch marks) = runAnswer a table ch marks
-answerTo (list a table n marks slice) = listAnswer a table n marks slice
-answerTo (exchange c) = exchangeAnswer c
+answerTo (run a tableSlice ch marks) = runAnswer a (tableIn tableSlice) ch marks
+answerTo (list a tableSlice n marks slice) = listAnswer a (tableIn tableSlice) n marks slice
+answerTo (exchange a tableSlice ch marks n i xs) = exchangeAnswer (exchangeCall a (tableIn tableSlice) ch marks n i xs)
 
 -- a constant 0 and a symbol 1 of rank 2; 16 constants
 abbrev two : List ℕ
@@ -45,7 +45,11 @@ sixteen = replicate 16 0x1000_0000
 
 -- the table of the rule 0: one state, reached by the constant 0
 abbrev one : List ℕ
-one = 0x8000_0400 ∷ 0x9000_0000 ∷ []
+one = 0x8000_0400 ∷ 0xC000_0003 ∷ 0x9000_0000 ∷ []
+
+-- a slice that begins with it and is longer than any table
+abbrev longer : List ℕ
+longer = one ++ replicate 2048 0xC000_0003
 
 abbrev leaf : ℕ
 leaf = 0x7000_0000
@@ -61,30 +65,41 @@ calls =
     ∷ (4, compile two (0x7000_0001 ∷ []) [])
     ∷ (5, compile two (0x2000_0001 ∷ []) [])
     ∷ (6, compile sixteen overLimit [])
-    ∷ (7, compile two (0x2000_0000 ∷ []) (0 ∷ []))
+    ∷ (7, compile two (0x2000_0000 ∷ []) (0 ∷ 0 ∷ []))
     ∷ (1, run (0 ∷ []) [] [] [])
     ∷ (2, run (0x1000_0001 ∷ []) [] [] [])
     ∷ (8, run two [] [] [])
+    -- the length word: missing, as in document 01's table; a count of 1, over the slice, of 2,049; a spare bit; given again
+    ∷ (8, run two (0x8000_0400 ∷ 0x9000_0000 ∷ []) [] [])
+    ∷ (8, run two (0x8000_0400 ∷ 0xC000_0001 ∷ []) [] [])
+    ∷ (8, run two (0x8000_0400 ∷ 0xC000_0003 ∷ []) [] [])
+    ∷ (8, run two (0x8000_0400 ∷ 0xC000_0801 ∷ replicate 2047 0xA000_0000) [] [])
+    ∷ (8, run two (0x8000_0400 ∷ 0xC000_1002 ∷ []) [] [])
+    ∷ (8, run two (0x8000_0400 ∷ 0xC000_0003 ∷ 0xC000_0003 ∷ []) [] [])
+    -- what follows the table is no ground for 8
+    ∷ (9, run two longer [] [])
     ∷ (9, run two one (replicate 4097 0x6000_0000) [])
     ∷ (10, run two one (0x6000_0000 ∷ []) [])
     ∷ (11, run two one (pair ∷ []) [])
     ∷ (12, run two one (leaf ∷ []) [])
     ∷ (1, list (0x1000_0005 ∷ []) [] 0 [] [])
     ∷ (2, list (replicate 17 0x1000_0000) [] 0 [] [])
-    ∷ (8, list two (0x8000_0000 ∷ []) 0 [] [])
+    ∷ (8, list two (0x8000_0000 ∷ 0xC000_0002 ∷ []) 0 [] [])
     ∷ (9, list two one 4097 [] [])
+    ∷ (9, list two longer 0 [] [])
     ∷ (12, list two one 1 [] [])
     ∷ (13, list two one 1 (0 ∷ []) [])
-    ∷ (1, exchange (exchangeCall [] [] [] [] 0 0 []))
-    ∷ (2, exchange (exchangeCall (0x1000_0004 ∷ []) [] [] [] 0 0 []))
-    ∷ (8, exchange (exchangeCall two (0x8000_0401 ∷ []) [] [] 0 0 []))
-    ∷ (9, exchange (exchangeCall two one (0x6000_0000 ∷ []) [] 2 2 []))
-    ∷ (10, exchange (exchangeCall two one (0x6000_0000 ∷ []) [] 1 1 []))
-    ∷ (11, exchange (exchangeCall two one (leaf ∷ leaf ∷ []) [] 2 2 []))
-    ∷ (12, exchange (exchangeCall two one (leaf ∷ []) [] 1 1 []))
-    ∷ (14, exchange (exchangeCall two one (leaf ∷ []) (0 ∷ []) 1 1 (leaf ∷ leaf ∷ [])))
-    ∷ (15, exchange (exchangeCall two one (leaf ∷ []) (0 ∷ []) 1 0 (leaf ∷ leaf ∷ [])))
-    ∷ (16, exchange (exchangeCall two one (leaf ∷ []) (0 ∷ []) 1 0 (leaf ∷ leaf ∷ pair ∷ [])))
+    ∷ (1, exchange [] [] [] [] 0 0 [])
+    ∷ (2, exchange (0x1000_0004 ∷ []) [] [] [] 0 0 [])
+    ∷ (8, exchange two (0x8000_0401 ∷ 0xC000_0002 ∷ []) [] [] 0 0 [])
+    ∷ (9, exchange two one (0x6000_0000 ∷ []) [] 2 2 [])
+    ∷ (9, exchange two longer [] [] 0 0 [])
+    ∷ (10, exchange two one (0x6000_0000 ∷ []) [] 1 1 [])
+    ∷ (11, exchange two one (leaf ∷ leaf ∷ []) [] 2 2 [])
+    ∷ (12, exchange two one (leaf ∷ []) [] 1 1 [])
+    ∷ (14, exchange two one (leaf ∷ []) (0 ∷ []) 1 1 (leaf ∷ leaf ∷ []))
+    ∷ (15, exchange two one (leaf ∷ []) (0 ∷ []) 1 0 (leaf ∷ leaf ∷ []))
+    ∷ (16, exchange two one (leaf ∷ []) (0 ∷ []) 1 0 (leaf ∷ leaf ∷ pair ∷ []))
     ∷ []
 
 -- each answers its number
@@ -93,7 +108,7 @@ unfolding kindAt spareBitsClear isOf isEntry rankOf isConstant constantsFrom con
     startFromBy spliceBy
     isExpressionWord wrongLength notExpressionWords isNode notNodes automatonOf hasEntries statesOf portOf ownTransitions portsFrom
     statesAfter transitionsFrom
-    compiled isHead isTableWord sourcesLeft areTransitions isTable noTable sizeFor tooManyStates tableTooLong compileAnswer sizeOf
-    wrongCount marksTooShort
+    compiled tableWordCount tableIn isHead isTableWord sourcesLeft areTransitions isTable noTable sizeFor tooManyStates tableTooLong
+    compileAnswer sizeOf wrongCount marksTooShort
     runAnswer listTooShort listAnswer wrongUsedCount noElement noReplacement resultTooLong fault exchangeAnswer
 attained = refl

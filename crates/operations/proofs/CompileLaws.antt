@@ -1,15 +1,14 @@
--- What is known of an accepted Compile: the table slice begins with the table of the numbered automaton, which is one over
+-- What is known of an accepted Compile: the table in the slice is that of the numbered automaton, which is one over
 -- the alphabet, and the decoder reads that automaton back.
 use Prim.Native.Nat.{ℕ, _≤_}
-use mathlib.Core.Path.{_≡_, sym}
+use mathlib.Core.Path.{_≡_}
 use mathlib.Core.Bool.{true}
 use mathlib.Core.List.{List, [], _∷_}
 use native.Mathlib.Omega.{arith}
-use lib.ListN.{length, take}
+use lib.ListN.{length, drop}
 use Rattle.words.specs.Limits.{alphabetMost, compiledMost}
 use Rattle.words.specs.ExactlyOne.{ExactlyOne}
 use Rattle.words.specs.Answer.{accepted}
-use Rattle.words.proofs.ListLaws.{take-over}
 use Rattle.words.proofs.AcceptedAlphabet.{alphabet-accepted}
 use Rattle.words.proofs.AcceptedExpression.{expression-accepted}
 use Rattle.words.proofs.AnswerLaws.{accepted-values}
@@ -17,10 +16,11 @@ use Rattle.language.specs.Expression.{ExpressionOf}
 use Rattle.language.proofs.ExpressionLaws.{exactly-one-expression}
 use Rattle.automaton.specs.Transition.{automatonOf}
 use Rattle.automaton.specs.Numbering.{compiled}
-use Rattle.automaton.specs.Table.{isTable, AutomatonOver}
+use Rattle.automaton.specs.Table.{tableIn, isTable, AutomatonOver}
 use Rattle.automaton.proofs.DecodeLaws.{automatonOf-words}
 use Rattle.automaton.proofs.CompiledOver.{compiled-over}
 use Rattle.automaton.proofs.CompiledTable.{compiled-isTable, table-most}
+use Rattle.automaton.proofs.TableLaws.{isTable-in}
 use Rattle.operations.specs.Compile.{compiledTable, compileFault, compileAnswer, compileExit}
 use Rattle.operations.proofs.AcceptedLaws.{rule-accepted, compile-accepted}
 
@@ -31,11 +31,11 @@ pub record CompileResult (a e slice : List ℕ) (k : ℕ) : Type 0 where
   pub over : AutomatonOver a (compiled a e)
   pub count : k ≡ length (compiledTable a e)
   -- "A rule that Compile accepts becomes exactly the numbered Thompson tree automaton of the rules."
-  pub table : take k (compileExit a e slice) ≡ compiledTable a e
+  pub table : tableIn (compileExit a e slice) ≡ compiledTable a e
   pub automaton : automatonOf (compiledTable a e) ≡ compiled a e
   -- 8 lets it pass
   pub checked : isTable a (compiledTable a e) ≡ true
-  -- "No compiled table takes more than 1,147 words."
+  -- "the largest compiled table grows to 1,148 words"
   pub most : length (compiledTable a e) ≤ compiledMost
 
 pub compile-result : (a e slice : List ℕ) (k : ℕ) → compileAnswer a e slice ≡ accepted (k ∷ []) → CompileResult a e slice k
@@ -47,13 +47,14 @@ compile-result a e slice k h =
     let words = expression-accepted a e (f .expression) in
     let over = compiled-over a e (f .expression) (f .states) in
     let n : k ≡ length (compiledTable a e) = cc in
+    let checked = compiled-isTable a e (f .alphabet) (f .expression) (f .states) in
     record {
       few = few;
       expression = exactly-one-expression a few e (words .words) (words .shape);
       over = over;
       count = n;
-      table = rw (v .0) (take-over (compiledTable a e) slice k (sym n));
+      table = rw (v .0) (isTable-in a (compiledTable a e) checked (drop (length (compiledTable a e)) slice));
       automaton = automatonOf-words a (omega arith) over;
-      checked = compiled-isTable a e (f .alphabet) (f .expression) (f .states);
+      checked = checked;
       most = table-most a e (f .alphabet) (f .expression) (f .states);
     }

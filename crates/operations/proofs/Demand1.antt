@@ -11,6 +11,7 @@ use Rattle.words.specs.Refusal.{Refusals, refusal}
 use Rattle.words.specs.Answer.{refused, answerOf}
 use Rattle.words.proofs.RefusalLaws.{positive, none-refusal, refusal-none, refusal-is-first, first-is-refusal, first-positive}
 use Rattle.words.proofs.AnswerLaws.{answer-refused, answer-accepted, refused-number, accepted-values, refused-exit}
+use Rattle.automaton.specs.Table.{tableIn}
 use Rattle.operations.specs.Compile.{compiledTable, compileRefusals, compileAnswer, compileExit}
 use Rattle.operations.specs.Marks.{sizeOf, nodeSets, refit}
 use Rattle.operations.specs.Run.{runRefusals, runAnswer, runExit, runMarks, cellsIn}
@@ -50,12 +51,14 @@ demand1 = record {
       judged vs rs _ refl
       (λ n h. (refused-exit (refusal rs) vs n (writtenOver (compiledTable a rule) slice) slice h, tt))
       (compile-length a rule slice, tt);
-  run = λ a table ch marks.
+  run = λ a tableSlice ch marks.
+      let table = tableIn tableSlice in
       let vs = length ch ∷ cellsIn (flatten (nodeSets a table ch)) ∷ [] in
       let rs = runRefusals a table ch (length marks) in
       judged vs rs _ refl (λ n h. (refused-exit (refusal rs) vs n (runMarks a table ch marks) marks h, tt))
       (run-exit-length a table ch marks, tt);
-  list = λ a table n marks slice.
+  list = λ a tableSlice n marks slice.
+      let table = tableIn tableSlice in
       let vs = length (matchesOf table n marks) ∷ [] in
       let rs = listRefusals a table n (length marks) (length slice) in
       judged vs rs _ refl

@@ -15,6 +15,7 @@ use Rattle.words.proofs.TestLaws.{Tested, holds, fails, tested}
 use Rattle.words.proofs.AcceptedTree.{tree-accepted}
 use Rattle.words.proofs.AnswerLaws.{accepted-values}
 use Rattle.automaton.specs.StateSet.{StateSet}
+use Rattle.automaton.specs.Table.{tableIn}
 use Rattle.operations.specs.Marks.{sizeOf, nodeSets, storedSet, refit}
 use Rattle.operations.specs.Run.{runFault, runMarks, runAnswer, runExit, cellsIn}
 use Rattle.operations.specs.Listing.{matchesOf, listFault, listAnswer, listExit}
@@ -217,7 +218,8 @@ related-end a table ch s calls h =
 
 -- demand 3
 pub demand3 : Demand3
-demand3 a table ch s calls h =
+demand3 a tableSlice ch s calls h =
+    let table = tableIn tableSlice in
     related-faithful a table (length (s .chapter)) (length (s .marks)) (plains a table (length (s .chapter)) (length (s .marks)) calls ch)
     (exchanges a table calls s) (related-end a table ch s calls h)
 

@@ -21,7 +21,7 @@ use Rattle.language.proofs.MembershipExamples.{con, fᵉ, f as fᵗ, closure-em
 use Rattle.language.proofs.MembershipExamples.{separately, put-once, not-twice, closure-joined}
 use Rattle.automaton.specs.Transition.{transitionsAt, automatonOf, headWord}
 use Rattle.automaton.specs.Numbering.{hasEntries, statesOf, portOf, ownTransitions, portsFrom, statesAfter, transitionsFrom, compiled}
-use Rattle.automaton.specs.Table.{isHead, isTableWord, sourcesLeft, areTransitions, isTable, noTable}
+use Rattle.automaton.specs.Table.{tableWordCount, isHead, isTableWord, sourcesLeft, areTransitions, isTable, noTable}
 use Rattle.automaton.specs.StateSet.{sizeFor, contains, insert, allContained, symbolPass, epsilonPass, epsilonClosure, stateSet}
 use Rattle.automaton.proofs.CompiledExample.{alphabet, rule}
 use Rattle.operations.specs.Compile.{compiledTable, compileFault, tooManyStates, tableTooLong}
@@ -129,12 +129,12 @@ inSource stored i xs answer left leftMarks hits = exchanging rule slice stored 7
 
 abbrev pub rows : List Row
 rows =
-    -- the source's own example: "29 states, 36 table words, head 0x80007418" and the program's lines
-    listing alphabet rule chapter 29 36 0x8000_7418 ((2, 4, 3) ∷ (3, 3, 1) ∷ (4, 5, 2) ∷ [])
+    -- the source's own example: "29 states, 36 table words, head 0x80007418" and the program's lines; with U1 it "takes 37"
+    listing alphabet rule chapter 29 37 0x8000_7418 ((2, 4, 3) ∷ (3, 3, 1) ∷ (4, 5, 2) ∷ [])
     -- the marks that Run leaves, which the exchanges below find
     ∷ marking alphabet rule chapter (0 ∷ 0 ∷ 0 ∷ 0 ∷ 0 ∷ 0 ∷ 0 ∷ 7 ∷ 7 ∷ 7 ∷ []) marks
     -- "Rule d alone, chapter d: one hit, one cell."
-    ∷ listing alphabet (0x2000_0003 ∷ []) (d ∷ []) 1 2 0x8000_0400 ((0, 3, 1) ∷ [])
+    ∷ listing alphabet (0x2000_0003 ∷ []) (d ∷ []) 1 3 0x8000_0400 ((0, 3, 1) ∷ [])
     ∷ running alphabet (0x2000_0003 ∷ []) (d ∷ []) (accepted (1 ∷ 1 ∷ []))
     -- "Exchange element 4 for d: 6 elements, 2 worked out, hits 2 and 3."
     ∷ inSource marks 4 (d ∷ []) (accepted (6 ∷ 2 ∷ []))
@@ -148,9 +148,9 @@ rows =
     (2 ∷ 5 ∷ 6 ∷ [])
     -- "Empty rule: no hit anywhere. Its closure over c: hits at c only."
     ∷ noHits (0x3000_0000 ∷ [])
-    ∷ listing alphabet (0x3000_0000 ∷ []) (d ∷ []) 1 1 0x8000_0400 []
+    ∷ listing alphabet (0x3000_0000 ∷ []) (d ∷ []) 1 2 0x8000_0400 []
     ∷ hitsAt (0x3000_0000 ∷ 0x6000_0002 ∷ []) 2
-    ∷ listing alphabet (0x3000_0000 ∷ 0x6000_0002 ∷ []) (c ∷ []) 6 7 0x8000_1801 ((0, 2, 1) ∷ [])
+    ∷ listing alphabet (0x3000_0000 ∷ 0x6000_0002 ∷ []) (c ∷ []) 6 8 0x8000_1801 ((0, 2, 1) ∷ [])
     ∷ running alphabet (0x3000_0000 ∷ 0x6000_0002 ∷ []) (c ∷ []) (accepted (1 ∷ 2 ∷ []))
     -- "f(a,b) by the empty rule over c keeps f(a,b); f(a,c) by it has no member."
     ∷ member (product 2 (fᵉ (con 0) (con 1)) empty) (fᵗ (constant 0) (constant 1))
@@ -221,8 +221,8 @@ pub examples : AllHold rows
 unfolding kindAt spareBitsClear isOf isEntry rankOf isConstant constantsFrom constantsOf noAlphabet wrongConstants arity treesBy
     notOneTree isExpressionWord wrongLength notExpressionWords hasEntries statesOf portOf ownTransitions portsFrom statesAfter
     transitionsFrom compiled
-    tooManyStates tableTooLong flatMap flatten isNode notNodes isHead isTableWord sourcesLeft areTransitions isTable noTable wrongCount
-    marksTooShort transitionsAt
+    tooManyStates tableTooLong flatMap flatten isNode notNodes tableWordCount isHead isTableWord sourcesLeft areTransitions isTable noTable
+    wrongCount marksTooShort transitionsAt
     automatonOf sizeFor contains insert allContained symbolPass epsilonPass epsilonClosure stateSet sizeOf finalOf nodeSet nodeSets valuesBy
     valueOnBy runMarks cellsIn runAnswer runExit storedSet startFromBy
     matchesIn matchesOf spliceBy isAncestorBy stackAfterBy stackGivenBy sameWords refit wrongUsedCount noElement noReplacement resultTooLong

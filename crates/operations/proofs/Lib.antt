@@ -14,6 +14,7 @@ pub mod CellLaws
 pub mod ValueLaws
 pub mod AnyTable
 pub mod Demand2
+pub mod TableSlices
 pub mod BehindLaws
 pub mod FromChildren
 pub mod OutcomeParts

@@ -1,13 +1,15 @@
--- The claims: what the three demands say of the four operations, over the definitions that their contracts cite. Each is
--- proved in the file of proofs/ that is named with it.
+-- The claims: what the three demands, and document 02's U1, say of the four operations, over the definitions that their contracts
+-- cite. Each is proved in the file of proofs/ that is named with it.
 use Prim.Native.Nat.{ℕ, _+_, _-_, _*_, _<_, _≤_}
 use mathlib.Core.Path.{_≡_}
 use mathlib.Core.Logic.{_↔_}
-use mathlib.Core.Bool.{cond}
-use mathlib.Core.List.{List, [], _∷_, map, flatten, List·Memᴰ}
-use lib.ListN.{length, getD, take}
+use mathlib.Core.Bool.{true, false, cond}
+use mathlib.Core.List.{List, [], _∷_, _++_, map, flatten, List·Memᴰ}
+use lib.ListN.{length, getD, take, drop}
 use Rattle.words.specs.Lists.{count, listFrom}
-use Rattle.words.specs.Refusal.{Refusals, First, NoneHolds}
+use Rattle.words.specs.Limits.{compiledMost}
+use Rattle.words.specs.Word.{lengthKind, hasKind}
+use Rattle.words.specs.Refusal.{Refusals, refusal, First, NoneHolds}
 use Rattle.words.specs.ExactlyOne.{ExactlyOne}
 use Rattle.words.specs.Postfix.{subtreeOf, childrenOf, depthOf}
 use Rattle.words.specs.Chapter.{symbolOf}
@@ -15,12 +17,15 @@ use Rattle.words.specs.Answer.{Answer, refused, accepted}
 use Rattle.language.specs.Expression.{ExpressionOf, SubjectOf}
 use Rattle.language.specs.Reading.{expressionOf}
 use Rattle.language.specs.Membership.{Member}
+use Rattle.automaton.specs.Transition.{transitionsWords, headWord, lengthWord}
+use Rattle.automaton.specs.Numbering.{compiled}
+use Rattle.automaton.specs.Table.{isLength, tableWordCount, tableIn, noTable}
 use Rattle.automaton.specs.StateSet.{StateSet}
-use Rattle.operations.specs.Compile.{compiledTable, compileRefusals, compileAnswer, compileExit}
+use Rattle.operations.specs.Compile.{compiledTable, ruleRefusals, compileRefusals, compileAnswer, compileExit}
 use Rattle.operations.specs.Marks.{sizeOf, nodeSet, ReachedSet, nodeSets, storedSet}
 use Rattle.operations.specs.Run.{runRefusals, runAnswer, runExit, cellsIn}
 use Rattle.operations.specs.Listing.{listRefusals, listAnswer, listExit, matchesOf}
-use Rattle.operations.specs.ExchangeCall.{ExchangeCall}
+use Rattle.operations.specs.ExchangeCall.{ExchangeCall, exchangeCall}
 use Rattle.operations.specs.Exchange.{kept, recomputed, recomputedIn, rootSet, used, refusalsOf, newTree, storedIn, outcomes}
 use Rattle.operations.specs.Exchange.{exchangeAnswer, exchangeChapter, exchangeMarks}
 use Rattle.operations.specs.Recomputation.{outcomeOf, setAfter, startIn, behindIn, oldNumber, newNumber, recomputes}
@@ -49,12 +54,14 @@ pub record Demand1 : Type 0 where
   pub compile : (alphabet rule slice : List ℕ)
       → Judged (compileRefusals alphabet rule (length slice)) (compileAnswer alphabet rule slice)
       (length (compiledTable alphabet rule) ∷ []) ((slice, compileExit alphabet rule slice) ∷ [])
-  pub run : (alphabet table chapter marks : List ℕ)
-      → Judged (runRefusals alphabet table chapter (length marks)) (runAnswer alphabet table chapter marks)
-      (length chapter ∷ cellsIn (flatten (nodeSets alphabet table chapter)) ∷ []) ((marks, runExit alphabet table chapter marks) ∷ [])
-  pub list : (alphabet table : List ℕ) (elements : ℕ) (marks slice : List ℕ)
-      → Judged (listRefusals alphabet table elements (length marks) (length slice)) (listAnswer alphabet table elements marks slice)
-      (length (matchesOf table elements marks) ∷ []) ((slice, listExit alphabet table elements marks slice) ∷ [])
+  pub run : (alphabet tableSlice chapter marks : List ℕ)
+      → Judged (runRefusals alphabet (tableIn tableSlice) chapter (length marks)) (runAnswer alphabet (tableIn tableSlice) chapter marks)
+      (length chapter ∷ cellsIn (flatten (nodeSets alphabet (tableIn tableSlice) chapter)) ∷ [])
+      ((marks, runExit alphabet (tableIn tableSlice) chapter marks) ∷ [])
+  pub list : (alphabet tableSlice : List ℕ) (elements : ℕ) (marks slice : List ℕ)
+      → Judged (listRefusals alphabet (tableIn tableSlice) elements (length marks) (length slice))
+      (listAnswer alphabet (tableIn tableSlice) elements marks slice) (length (matchesOf (tableIn tableSlice) elements marks) ∷ [])
+      ((slice, listExit alphabet (tableIn tableSlice) elements marks slice) ∷ [])
   pub exchange : (c : ExchangeCall)
       → Judged (refusalsOf c) (exchangeAnswer c) (length (newTree c) ∷ recomputedIn (outcomes c) ∷ [])
       ((c .chapter, exchangeChapter c) ∷ (c .marks, exchangeMarks c) ∷ [])
@@ -78,9 +85,10 @@ pub record ThreeCalls : Type 0 where
   pub cells : ℕ
   pub hits : ℕ
 
--- the table that Compile wrote, the marks that Run left, the numbers that List wrote
+-- the table in the slice that Compile wrote, which Run and List are lent as it is, with whatever stands behind the table; the marks
+-- that Run left, the numbers that List wrote
 abbrev pub tableOf : ThreeCalls → List ℕ
-tableOf c = take (c .words) (compileExit (c .alphabet) (c .rule) (c .tableSlice))
+tableOf c = tableIn (compileExit (c .alphabet) (c .rule) (c .tableSlice))
 
 abbrev pub marksOf : ThreeCalls → List ℕ
 marksOf c = runExit (c .alphabet) (tableOf c) (c .chapter) (c .marksSlice)
@@ -141,12 +149,13 @@ pub record Faithful (alphabet table plain : List ℕ) (s : Memory) : Type 0 wher
   pub elements : take (s .count) (s .chapter) ≡ plain
   pub fresh : (slice : List ℕ) → length slice ≡ length (s .marks) → Fresh alphabet table plain s slice
 
--- "This is one claim about the whole list and not one for each call."
+-- "This is one claim about the whole list and not one for each call." Run and each call are lent the same table slice.
 abbrev pub Demand3 : Type 0
 Demand3 =
-    (alphabet table chapter : List ℕ) (s : Memory) (calls : List Call) → Start alphabet table chapter s
-    → Faithful alphabet table (plains alphabet table (length (s .chapter)) (length (s .marks)) calls chapter)
-    (exchanges alphabet table calls s)
+    (alphabet tableSlice chapter : List ℕ) (s : Memory) (calls : List Call) → Start alphabet (tableIn tableSlice) chapter s
+    → Faithful alphabet (tableIn tableSlice)
+    (plains alphabet (tableIn tableSlice) (length (s .chapter)) (length (s .marks)) calls chapter)
+    (exchanges alphabet (tableIn tableSlice) calls s)
 
 -- ---- Demand 3's second half (Recomputed): "Whatever marks it is lent, true or false, each accepted Exchange works out, by
 -- document 01's rule from the parts' marks as they stand, only the new subtree and, unless its root gets the old one's marks,
@@ -187,3 +196,45 @@ abbrev pub Demand3Recomputation : Type 0
 Demand3Recomputation =
     (c : ExchangeCall) (elements workedOut : ℕ) → exchangeAnswer c ≡ accepted (elements ∷ workedOut ∷ [])
     → RecomputesOnly c elements workedOut
+
+-- ---- Tables end to end (document 02, U1; TableSlices): a table carries its own length.
+
+-- document 01's words of a rule's table: the head and the moves
+abbrev pub plainTable : List ℕ → List ℕ → List ℕ
+plainTable alphabet rule = headWord (compiled alphabet rule) ∷ transitionsWords (compiled alphabet rule .transitions)
+
+-- what each of the three answers and leaves is the same with either table
+pub record CalledAlike (alphabet table table′ : List ℕ) : Type 0 where
+  pub run : (chapter marks : List ℕ)
+      → (runAnswer alphabet table chapter marks ≡ runAnswer alphabet table′ chapter marks)
+      × (runExit alphabet table chapter marks ≡ runExit alphabet table′ chapter marks)
+  pub list : (elements : ℕ) (marks slice : List ℕ)
+      → (listAnswer alphabet table elements marks slice ≡ listAnswer alphabet table′ elements marks slice)
+      × (listExit alphabet table elements marks slice ≡ listExit alphabet table′ elements marks slice)
+  pub exchange : (chapter marks : List ℕ) (count element : ℕ) (replacement : List ℕ)
+      → (exchangeAnswer (exchangeCall alphabet table chapter marks count element replacement)
+      ≡ exchangeAnswer (exchangeCall alphabet table′ chapter marks count element replacement))
+      × (exchangeChapter (exchangeCall alphabet table chapter marks count element replacement)
+      ≡ exchangeChapter (exchangeCall alphabet table′ chapter marks count element replacement))
+      × (exchangeMarks (exchangeCall alphabet table chapter marks count element replacement)
+      ≡ exchangeMarks (exchangeCall alphabet table′ chapter marks count element replacement))
+
+pub record TableSlices : Type 0 where
+  -- "Compile is compared with document 01's words plus this one", which becomes the second word
+  pub words : (alphabet rule : List ℕ)
+      → compiledTable alphabet rule
+      ≡ take 1 (plainTable alphabet rule) ++ (lengthWord (length (plainTable alphabet rule) + 1) ∷ drop 1 (plainTable alphabet rule))
+  -- "the largest compiled table grows to 1,148 words": at most so many; law `limits-attained` has a rule with as many
+  pub most : (alphabet rule : List ℕ) → refusal (ruleRefusals alphabet rule) ≡ 0 → length (compiledTable alphabet rule) ≤ compiledMost
+  -- the slice that Compile wrote may be lent as it is: the table in it is the rule's, and 8 does not apply
+  pub compiles : (alphabet rule slice : List ℕ) (count : ℕ) → compileAnswer alphabet rule slice ≡ accepted (count ∷ [])
+      → (tableIn (compileExit alphabet rule slice) ≡ compiledTable alphabet rule)
+      × (noTable alphabet (tableIn (compileExit alphabet rule slice)) ≡ false)
+  -- "they answer 8 where the word is missing, or the count is under 2, over 2,048 or over the slice"
+  pub missing : (alphabet slice : List ℕ) → isLength (length slice) (getD slice 1 0) ≡ false → noTable alphabet (tableIn slice) ≡ true
+  -- the length word is the second word and no other
+  pub once : (alphabet slice : List ℕ) (i : ℕ) → 2 ≤ i → i < tableWordCount slice → hasKind lengthKind (getD slice i 0) ≡ true
+      → noTable alphabet (tableIn slice) ≡ true
+  -- they "use that many words and ignore what follows": the same call with other words behind the table
+  pub follows : (alphabet slice behind : List ℕ) → 0 < tableWordCount slice
+      → CalledAlike alphabet (tableIn (tableIn slice ++ behind)) (tableIn slice)

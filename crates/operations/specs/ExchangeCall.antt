@@ -4,6 +4,7 @@ use mathlib.Core.List.{List}
 
 pub record ExchangeCall : Type 0 where
   pub alphabet : List ℕ
+  -- the table in the slice that is lent
   pub table : List ℕ
   -- the chapter slice and the marks slice
   pub chapter : List ℕ

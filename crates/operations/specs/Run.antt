@@ -1,4 +1,5 @@
--- Run: its refusals (`runRefusals`), the answer, and the marks slice at exit.
+-- Run: its refusals (`runRefusals`), the answer, and the marks slice at exit. The table of Run, List and Exchange is the one in
+-- the slice that they are lent: their contracts apply these definitions to it (`tableIn`).
 use Prim.Native.Nat.{ℕ, _+_, _*_}
 use mathlib.Core.List.{List, [], _∷_, _++_, flatten}
 use mathlib.Core.Bool.{Bool}

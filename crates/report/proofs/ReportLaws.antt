@@ -4,16 +4,17 @@ use mathlib.Core.Bool.{Bool, true, false}
 use mathlib.Core.List.{List, [], _∷_, _++_, head-eq-of-cons-eq}
 use Prim.Native.Nat.{ℕ, _<_, _≤_}
 use native.Mathlib.Omega.{arith}
-use lib.ListN.{length, take, drop, replicate, length-replicate, length-take}
+use lib.ListN.{length, take, drop, replicate, length-replicate}
 use Rattle.words.specs.Limits.{tableMost}
 use Rattle.words.specs.Answer.{refused, accepted}
 use Rattle.words.proofs.AnswerLaws.{accepted-values}
 use Rattle.automaton.specs.Transition.{automatonOf}
-use Rattle.operations.specs.Compile.{compiledTable, compileAnswer, compileExit}
+use Rattle.automaton.specs.Table.{tableIn}
+use Rattle.operations.specs.Compile.{compiledTable, compileFault, compileAnswer, compileExit}
 use Rattle.operations.specs.Run.{runAnswer, runExit}
 use Rattle.operations.specs.Listing.{matchesOf, listFault, listAnswer, listExit}
 use Rattle.operations.proofs.AcceptedLaws.{list-accepted}
-use Rattle.operations.proofs.CompileLaws.{CompileResult, compile-result}
+use Rattle.operations.proofs.CompileLaws.{compile-result}
 use Rattle.operations.proofs.MatchLaws.{matchesOf-few}
 use Rattle.matcher.specs.declared.Ran.{Ran}
 use Rattle.matcher.specs.declared.Ran.the-variants.{Marked, Refused as Ran·Refused}
@@ -73,48 +74,41 @@ module _ (a e ch : List ℕ) where
 
 module _ (a e slice : List ℕ) {table : List ℕ} {k : ℕ} (r : Compiled) (told : r ≡ Table k)
     (h : answerInCompiled r ≡ compileAnswer a e slice) (exit : table ≡ compileExit a e slice) where
-  answer : accepted (k ∷ []) ≡ compileAnswer a e slice
-  answer = rw told at h
+  pub chapter-reportable : length slice ≡ tableMost → ChapterReportable a e table
+  chapter-reportable long = record { slice = slice; long = long; words = k; answer = rw told at h; same = exit }
 
-  known : CompileResult a e slice k
-  known = compile-result a e slice k (sym answer)
+-- the table in the slice is the compiled one, and the slice begins with its head
+module _ {a e table : List ℕ} (t : ChapterReportable a e table) where
+  table-in : tableIn table ≡ compiledTable a e
+  table-in = ap tableIn (t .same) ∙ compile-result a e (t .slice) (t .words) (sym (t .answer)) .table
 
-  table-is : take k table ≡ compiledTable a e
-  table-is = ap (take k) exit ∙ known .table
-
-  pub table-counted : k ≡ length (take k table)
-  table-counted = known .count ∙ sym (ap length table-is)
-
-  pub table-fits : k ≤ length table
-  table-fits = let l = length-take k table in omega (arith, table-counted)
-
-  pub chapter-reportable : length slice ≡ tableMost → ChapterReportable a e (take k table)
-  chapter-reportable long = record {
-    slice = slice;
-    long = long;
-    answer = ap (λ (n : ℕ). accepted (n ∷ [])) (sym table-counted) ∙ answer;
-    same = table-is;
-  }
+  table-states : automatonOf table .states ≡ automatonOf (compiledTable a e) .states
+  unfolding compileAnswer compileExit automatonOf
+  table-states =
+      let v = accepted-values (compileFault a e (length (t .slice))) (length (compiledTable a e) ∷ []) (t .words ∷ []) (sym (t .answer)) in
+      ap (λ (l : List ℕ). automatonOf l .states) (t .same) ∙ rw (v .0)
 
 -- ---- Run
 
 module _ {a e table : List ℕ} (t : ChapterReportable a e table) (ch : List ℕ) where
   pub refused-over : {x : ℕ} {out out′ : List ℕ} → chapterMost < length ch → BytesWritten 0 (refusedLine 9) out out′ x
       → BytesWritten 0 (marklistOutput a e ch) out out′ x
-  refused-over h w = bytes-written-same w (sym (chapter-over a e ch (t .slice) (length table) (t .long) (t .answer) h))
+  refused-over h w = bytes-written-same w (sym (chapter-over a e ch (t .slice) (t .words) (t .long) (t .answer) h))
 
   module _ (few : length ch ≤ chapterMost) where
-    pub refused-ran : {n x : ℕ} {out out′ : List ℕ} (r : Ran) → r ≡ Ran·Refused n → answerInRan r ≡ runAnswer a table ch (zeros marksLength)
+    pub refused-ran : {n x : ℕ} {out out′ : List ℕ} (r : Ran) → r ≡ Ran·Refused n
+        → answerInRan r ≡ runAnswer a (tableIn table) ch (zeros marksLength)
         → BytesWritten 0 (refusedLine n) out out′ x → BytesWritten 0 (marklistOutput a e ch) out out′ x
     refused-ran {n} r q h w =
-        let g : refused n ≡ runAnswer a table ch (zeros marksLength) = rw q at h in
+        let g : refused n ≡ runAnswer a (tableIn table) ch (zeros marksLength) = rw q at h in
         bytes-written-same w
         (sym
-        (run-refusal a e ch (t .slice) (length table) (t .long) (t .answer) few (zeros marksLength) n (many marksLength)
-        (g ∙ ap (λ (l : List ℕ). runAnswer a l ch (zeros marksLength)) (t .same))))
+        (run-refusal a e ch (t .slice) (t .words) (t .long) (t .answer) few (zeros marksLength) n (many marksLength)
+        (g ∙ ap (λ (l : List ℕ). runAnswer a l ch (zeros marksLength)) (table-in t))))
 
-    pub marked : {n cells : ℕ} {marks : List ℕ} (r : Ran) → r ≡ Marked n cells → answerInRan r ≡ runAnswer a table ch (zeros marksLength)
-        → marks ≡ runExit a table ch (zeros marksLength) → HitsReportable a e table ch marks
+    pub marked : {n cells : ℕ} {marks : List ℕ} (r : Ran) → r ≡ Marked n cells
+        → answerInRan r ≡ runAnswer a (tableIn table) ch (zeros marksLength)
+        → marks ≡ runExit a (tableIn table) ch (zeros marksLength) → HitsReportable a e table ch marks
     marked {n} {cells} r q h exit = record {
       chapter = t;
       few = few;
@@ -152,44 +146,44 @@ module _ {a e table ch marks : List ℕ} (m : HitsReportable a e table ch marks)
   left = runExit a (compiledTable a e) ch (m .slice)
 
   runs : accepted (m .nodes ∷ m .cells ∷ []) ≡ runAnswer a (compiledTable a e) ch (m .slice)
-  runs = m .answer ∙ ap (λ (l : List ℕ). runAnswer a l ch (m .slice)) (t .same)
+  runs = m .answer ∙ ap (λ (l : List ℕ). runAnswer a l ch (m .slice)) (table-in t)
 
   marks-are : marks ≡ left
-  marks-are = m .same ∙ ap (λ (l : List ℕ). runExit a l ch (m .slice)) (t .same)
+  marks-are = m .same ∙ ap (λ (l : List ℕ). runExit a l ch (m .slice)) (table-in t)
 
-  same-answer : listAnswer a table (length ch) marks (zeros chapterMost)
+  same-answer : listAnswer a (tableIn table) (length ch) marks (zeros chapterMost)
       ≡ listAnswer a (compiledTable a e) (length ch) left (zeros chapterMost)
-  same-answer = ap₂ (λ (l ms : List ℕ). listAnswer a l (length ch) ms (zeros chapterMost)) (t .same) marks-are
+  same-answer = ap₂ (λ (l ms : List ℕ). listAnswer a l (length ch) ms (zeros chapterMost)) (table-in t) marks-are
 
   pub never-refused : {f : ℕ} (q : Listed) → q ≡ Listed·Refused f
-      → answerInListed q ≡ listAnswer a table (length ch) marks (zeros chapterMost) → ⊥
+      → answerInListed q ≡ listAnswer a (tableIn table) (length ch) marks (zeros chapterMost) → ⊥
   never-refused {f} q told h =
-      let g : refused f ≡ listAnswer a table (length ch) marks (zeros chapterMost) = rw told at h in
-      list-not-refused a e ch (t .slice) (length table) (t .long) (t .answer) (m .few)
+      let g : refused f ≡ listAnswer a (tableIn table) (length ch) marks (zeros chapterMost) = rw told at h in
+      list-not-refused a e ch (t .slice) (t .words) (t .long) (t .answer) (m .few)
       (m .slice) (zeros chapterMost) (m .long) (many chapterMost)
       (m .nodes) (m .cells) runs f
       (g ∙ same-answer)
 
   pub lines-written : {hits states x : ℕ} {out out′ list : List ℕ} (q : Listed) → q ≡ Matches hits
-      → answerInListed q ≡ listAnswer a table (length ch) marks (zeros chapterMost)
-      → list ≡ listExit a table (length ch) marks (zeros chapterMost)
+      → answerInListed q ≡ listAnswer a (tableIn table) (length ch) marks (zeros chapterMost)
+      → list ≡ listExit a (tableIn table) (length ch) marks (zeros chapterMost)
       → states ≡ automatonOf table .states
       → BytesWritten 0 (headLine (length ch) states (length (take hits list)) ++ hitLines a ch (take hits list)) out out′ x
       → BytesWritten 0 (marklistOutput a e ch) out out′ x
   lines-written {hits} {states} {list = list} q told h wrote s w =
-      let g : accepted (hits ∷ []) ≡ listAnswer a table (length ch) marks (zeros chapterMost) = rw told at h in
+      let g : accepted (hits ∷ []) ≡ listAnswer a (tableIn table) (length ch) marks (zeros chapterMost) = rw told at h in
       let l : list ≡ listExit a (compiledTable a e) (length ch) left (zeros chapterMost) =
-      wrote ∙ ap₂ (λ (l ms : List ℕ). listExit a l (length ch) ms (zeros chapterMost)) (t .same) marks-are in
-      let z : states ≡ automatonOf (compiledTable a e) .states = s ∙ ap (λ (l : List ℕ). automatonOf l .states) (t .same) in
+      wrote ∙ ap₂ (λ (l ms : List ℕ). listExit a l (length ch) ms (zeros chapterMost)) (table-in t) marks-are in
+      let z : states ≡ automatonOf (compiledTable a e) .states = s ∙ table-states t in
       let n : hits ≡ length (take hits list) =
-      listed-long a e ch (t .slice) (length table) (t .long) (t .answer) (m .few)
+      listed-long a e ch (t .slice) (t .words) (t .long) (t .answer) (m .few)
       (m .slice) (zeros chapterMost) (m .long) (many chapterMost) (m .nodes)
       (m .cells) runs hits
       (g ∙ same-answer)
       ∙ sym (ap (λ (ls : List ℕ). length (take hits ls)) l) in
       bytes-written-same w
       (sym
-      (listed-output a e ch (t .slice) (length table) (t .long) (t .answer) (m .few)
+      (listed-output a e ch (t .slice) (t .words) (t .long) (t .answer) (m .few)
       (m .slice) (zeros chapterMost) (m .long) (many chapterMost) (m .nodes)
       (m .cells) runs hits
       (g ∙ same-answer)

@@ -5,7 +5,8 @@ use mathlib.Core.List.{List, [], _∷_}
 use lib.ListN.{length}
 use Rattle.words.specs.Limits.{alphabetMost, expressionMost, tableMost}
 use Rattle.words.specs.Answer.{accepted}
-use Rattle.operations.specs.Compile.{compiledTable, compileAnswer}
+use Rattle.automaton.specs.Table.{tableIn}
+use Rattle.operations.specs.Compile.{compileAnswer, compileExit}
 use Rattle.operations.specs.Run.{runAnswer, runExit}
 use Rattle.sets.specs.Size.{setMost}
 use Rattle.encoding.specs.Words.{wordBytes}
@@ -32,14 +33,15 @@ bufferWords = bufferLength / wordBytes
 abbrev pub marksLength : ℕ
 marksLength = chapterMost * setMost
 
--- the table of a rule that Compile accepts, with a slice for the longest table
+-- the slice that Compile leaves where it accepts a rule, with room for the longest table
 pub record ChapterReportable (a e table : List ℕ) : Type 0 where
   pub slice : List ℕ
   pub long : length slice ≡ tableMost
-  pub answer : accepted (length table ∷ []) ≡ compileAnswer a e slice
-  pub same : table ≡ compiledTable a e
+  pub words : ℕ
+  pub answer : accepted (words ∷ []) ≡ compileAnswer a e slice
+  pub same : table ≡ compileExit a e slice
 
--- the marks that Run leaves in that slice, where it accepts a chapter of no more elements than `marklist` takes
+-- the marks that Run leaves with the table in that slice, where it accepts a chapter of no more elements than `marklist` takes
 pub record HitsReportable (a e table ch marks : List ℕ) : Type 0 where
   pub chapter : ChapterReportable a e table
   pub few : length ch ≤ chapterMost
@@ -47,5 +49,5 @@ pub record HitsReportable (a e table ch marks : List ℕ) : Type 0 where
   pub long : length slice ≡ marksLength
   pub nodes : ℕ
   pub cells : ℕ
-  pub answer : accepted (nodes ∷ cells ∷ []) ≡ runAnswer a table ch slice
-  pub same : marks ≡ runExit a table ch slice
+  pub answer : accepted (nodes ∷ cells ∷ []) ≡ runAnswer a (tableIn table) ch slice
+  pub same : marks ≡ runExit a (tableIn table) ch slice

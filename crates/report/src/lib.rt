@@ -52,7 +52,7 @@ fn report_hits(
     }
 }
 
-// Marks the chapter by the table of a rule, and writes the output.
+// Marks the chapter by the table in the slice, and writes the output.
 fn report_chapter(alphabet: &[u32], table: &[u32], chapter: &[u32], out: &mut [u8]) -> usize
     ensures { λ r. ⌜
         ((rule : List ℕ) → ChapterReportable (now (alphabet .entry)) rule (now (table .entry))
@@ -90,7 +90,7 @@ pub fn report(
     }
     let mut table = [0u32; TABLE_MOST];
     match compile(alphabet, rule, &mut table) {
-        Compiled::Table(size) => report_chapter(alphabet, &table[..size], chapter, out),
+        Compiled::Table(_) => report_chapter(alphabet, &table, chapter, out),
         Compiled::Refused(number) => write_refused(out, number),
     }
 }

@@ -6,15 +6,15 @@ use Prim.Native.Nat.{ℕ, zero, suc, _+_, _<_, _≤_}
 use native.Mathlib.Omega.{arith}
 use native.Mathlib.Numerals.{add-one}
 use lib.ListN.{length}
-use lib.Dec.{ltb}
-use borrow.Author.Tests.{eq-eqb, ne-eqb, lt-ltb, le-ltb}
-use Rattle.words.specs.Word.{headKind, transitionKind, epsilonKind, sourceKind, kindNumber, numberOf}
-use Rattle.words.specs.Word.{spareBitsClear, isOf, symbolAbove, countAbove, stateAbove, stateBelow}
+use lib.Dec.{ltb, leb}
+use borrow.Author.Tests.{eq-eqb, ne-eqb, lt-ltb, le-ltb, le-leb, lt-leb}
+use Rattle.words.specs.Word.{headKind, transitionKind, epsilonKind, sourceKind, lengthKind, kindNumber, numberOf}
+use Rattle.words.specs.Word.{spareBitsClear, isOf, symbolAbove, countAbove, stateAbove, stateBelow, lengthBelow}
 use Rattle.words.specs.Alphabet.{rankOf}
-use Rattle.words.specs.Limits.{outside, statesMost}
+use Rattle.words.specs.Limits.{outside, statesMost, tableMost}
 use Rattle.words.proofs.TestLaws.{and-none}
 use Rattle.words.proofs.KindLaws.{not-clear, not-of, is-of}
-use Rattle.automaton.specs.Table.{isHead, isTableWord, sourcesLeft}
+use Rattle.automaton.specs.Table.{isLength, isHead, isTableWord, sourcesLeft}
 
 -- ---- the head
 
@@ -23,7 +23,29 @@ pub head-value : (w : ℕ) (p q s : Bool) → p ≡ isOf headKind w → q ≡ p 
 unfolding isHead
 head-value w p q s ep eq es = es ∙ rw (eq, ep)
 
--- ---- a word behind the head
+-- ---- the length word
+
+module _ (n w : ℕ) where
+  -- the word is of the kind, and each of the code's tests is one of the definition's
+  pub lengthWord-clear : spareBitsClear w ≡ false → false ≡ isLength n w
+  lengthWord-clear h = sym (rw (not-clear lengthKind w h))
+
+  pub lengthWord-other : (numberOf w ≡ kindNumber lengthKind → ⊥) → false ≡ isLength n w
+  lengthWord-other h = sym (rw (not-of lengthKind w h))
+
+  module _ (kind : numberOf w ≡ kindNumber lengthKind) (clear : spareBitsClear w ≡ true) where
+    pub lengthWord-under : lengthBelow w < 2 → false ≡ isLength n w
+    lengthWord-under h = sym (rw (is-of lengthKind w kind clear, lt-leb 2 (lengthBelow w) h))
+
+    module _ (some : 2 ≤ lengthBelow w) where
+      pub lengthWord-over : tableMost < lengthBelow w → false ≡ isLength n w
+      lengthWord-over h = sym (rw (is-of lengthKind w kind clear, le-leb 2 (lengthBelow w) some, lt-leb (lengthBelow w) tableMost h))
+
+      pub lengthWord-value : lengthBelow w ≤ tableMost → (r : Bool) → r ≡ leb (lengthBelow w) n → r ≡ isLength n w
+      lengthWord-value h r e =
+          e ∙ sym (rw (is-of lengthKind w kind clear, le-leb 2 (lengthBelow w) some, le-leb (lengthBelow w) tableMost h))
+
+-- ---- a word behind the length word
 
 module _ (a : List ℕ) (n w : ℕ) where
   -- where k part states are to come: one more than those to come behind the word, or 0 where it may not stand

@@ -5,9 +5,9 @@ ghost use Prim.Native.Nat.{_+_};
 ghost use lib.ListN.{drop};
 ghost use Rattle.automaton.specs.Table.{isHead, isTableWord, sourcesLeft, areTransitions, isTable};
 use super::head::state_count;
+use super::length::table_word_count;
 use alphabet::rank;
 use words::limits::STATES_MOST;
-use words::limits::TABLE_MOST;
 use words::limits::is_outside;
 use words::word::COUNT_RANGE;
 use words::word::Kind;
@@ -69,12 +69,12 @@ fn sources_next(alphabet: &[u32], states: usize, left: usize, w: u32) -> usize
     }
 }
 
-// Whether the words behind the head are transitions, each followed by its part states.
+// Whether the words behind the head and the length word are transitions, each followed by its part states.
 fn are_transitions(alphabet: &[u32], states: usize, table: &[u32]) -> bool
-    ensures { λ r. ⌜ r ≡ areTransitions (now (alphabet .entry)) states 0 (drop 1 (now (table .entry))) ⌝ }
+    ensures { λ r. ⌜ r ≡ areTransitions (now (alphabet .entry)) states 0 (drop 2 (now (table .entry))) ⌝ }
 {
     let mut left: usize = 0;
-    let mut i = 1;
+    let mut i = 2;
     while i < table.len() {
         let next = sources_next(alphabet, states, left, table[i]);
         if next == 0 {
@@ -86,11 +86,14 @@ fn are_transitions(alphabet: &[u32], states: usize, table: &[u32]) -> bool
     left == 0
 }
 
-// Whether the words are a table for the alphabet.
+// Whether the words are a table for the alphabet, no more and no fewer.
 pub fn is_table(alphabet: &[u32], table: &[u32]) -> bool
     ensures { λ r. ⌜ r ≡ isTable (now (alphabet .entry)) (now (table .entry)) ⌝ }
 {
-    if is_outside(TABLE_MOST, table.len()) {
+    if table.len() == 0 {
+        return false;
+    }
+    if table_word_count(table) != table.len() {
         return false;
     }
     if !is_head(table[0]) {

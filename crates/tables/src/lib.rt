@@ -1,3 +1,4 @@
-// The table layer: whether words are a table, and what its head says.
+// The table layer: how many words of a slice are its table, whether words are a table, and what its head says.
 pub mod check;
 pub mod head;
+pub mod length;

@@ -6,7 +6,7 @@ use mathlib.Core.List.{List}
 use lib.ListN.{length}
 use borrow.Author.Tests.{ltb-true}
 use Rattle.words.specs.Word.{Kind, entryKind, symbolKind, emptyKind, unionKind, productKind, closureKind, nodeKind}
-use Rattle.words.specs.Word.{headKind, transitionKind, epsilonKind, sourceKind, noKind, kindOf, spareBitsClear, lowByte}
+use Rattle.words.specs.Word.{headKind, transitionKind, epsilonKind, sourceKind, lengthKind, noKind, kindOf, spareBitsClear, lowByte}
 use Rattle.words.specs.Alphabet.{rankOf, isConstant}
 use Rattle.words.specs.Postfix.{arity}
 use Rattle.words.specs.ExpressionWords.{namesAt, isExpressionWord}
@@ -33,6 +33,7 @@ module _ (a : List ℕ) (w : ℕ) where
   named transitionKind e h = absurd (false≢true h)
   named epsilonKind e h = absurd (false≢true h)
   named sourceKind e h = absurd (false≢true h)
+  named lengthKind e h = absurd (false≢true h)
   named noKind e h = absurd (false≢true h)
 
   pub expressionWord : isExpressionWord a w ≡ true → ExpressionWord a w

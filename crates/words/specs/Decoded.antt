@@ -1,11 +1,11 @@
 -- The kinds as the code has them: the enum `Kind` of src/word.rt.
 use Rattle.words.specs.Word.{Kind, entryKind, symbolKind, emptyKind, unionKind, productKind, closureKind}
-use Rattle.words.specs.Word.{nodeKind, headKind, transitionKind, epsilonKind, sourceKind, noKind}
+use Rattle.words.specs.Word.{nodeKind, headKind, transitionKind, epsilonKind, sourceKind, lengthKind, noKind}
 use Rattle.words.specs.declared.word.Kind.{Kind as Case}
 use Rattle.words.specs.declared.word.Kind.the-variants.{Entry, Symbol, Empty, Union, Product, Closure}
-use Rattle.words.specs.declared.word.Kind.the-variants.{Node, Head, Transition, Epsilon, Source, Other}
+use Rattle.words.specs.declared.word.Kind.the-variants.{Node, Head, Transition, Epsilon, Source, Length, Other}
 
--- document 01's kind of each case; `kindNumber` has its number
+-- the documents' kind of each case; `kindNumber` has its number
 abbrev pub kindIn : Case → Kind
 kindIn Entry = entryKind
 kindIn Symbol = symbolKind
@@ -18,4 +18,5 @@ kindIn Head = headKind
 kindIn Transition = transitionKind
 kindIn Epsilon = epsilonKind
 kindIn Source = sourceKind
+kindIn Length = lengthKind
 kindIn Other = noKind

@@ -7,7 +7,7 @@ use Rattle.words.specs.Lists.{all}
 use Rattle.words.specs.Limits.{outside, expressionMost}
 use Rattle.words.specs.Refusal.{Refusals, refusal}
 use Rattle.words.specs.Word.{Kind, entryKind, symbolKind, emptyKind, unionKind, productKind, closureKind, nodeKind}
-use Rattle.words.specs.Word.{headKind, transitionKind, epsilonKind, sourceKind, noKind, kindOf, spareBitsClear, lowByte}
+use Rattle.words.specs.Word.{headKind, transitionKind, epsilonKind, sourceKind, lengthKind, noKind, kindOf, spareBitsClear, lowByte}
 use Rattle.words.specs.Alphabet.{isSymbol, isConstant}
 use Rattle.words.specs.Postfix.{notOneTree}
 
@@ -24,6 +24,7 @@ namesAt a s headKind = false
 namesAt a s transitionKind = false
 namesAt a s epsilonKind = false
 namesAt a s sourceKind = false
+namesAt a s lengthKind = false
 namesAt a s noKind = false
 
 -- a rule word over the alphabet

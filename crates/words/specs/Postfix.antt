@@ -4,7 +4,7 @@ use Prim.Native.Nat.{ℕ}
 use mathlib.Core.List.{List}
 use mathlib.Core.Bool.{Bool}
 use Rattle.words.specs.Word.{Kind, entryKind, symbolKind, emptyKind, unionKind, productKind, closureKind, nodeKind}
-use Rattle.words.specs.Word.{headKind, transitionKind, epsilonKind, sourceKind, noKind, kindOf, lowByte}
+use Rattle.words.specs.Word.{headKind, transitionKind, epsilonKind, sourceKind, lengthKind, noKind, kindOf, lowByte}
 use Rattle.words.specs.Alphabet.{rankOf}
 use Rattle.words.specs.Shape.{treesBy, oneTreeBy, notOneTreeBy, startFromBy, startOfBy, subtreeOfBy, isAncestorBy}
 use Rattle.words.specs.Shape.{depthOfBy, spliceBy, valueOnBy, valuesBy, stackAfterBy, stackGivenBy, rootsBy, childrenOfBy}
@@ -22,6 +22,7 @@ arityAt rank headKind = 0
 arityAt rank transitionKind = 0
 arityAt rank epsilonKind = 0
 arityAt rank sourceKind = 0
+arityAt rank lengthKind = 0
 arityAt rank noKind = 0
 
 unfoldable pub arity : List ℕ → ℕ → ℕ

@@ -5,12 +5,12 @@ use mathlib.Core.Bool.{Bool, cond, _&&_}
 use lib.Dec.{ltb, eqb}
 
 -- document 01's kinds: alphabet entry; the rule words symbol, empty language, union, product, closure; chapter element;
--- table head, symbol move, empty move, part state of a move; and no kind of document 01
+-- table head, symbol move, empty move, part state of a move; document 02's length word (U1); and no kind of theirs
 pub data Kind : Type 0 where
   entryKind symbolKind emptyKind unionKind productKind closureKind nodeKind : Kind
-  headKind transitionKind epsilonKind sourceKind noKind : Kind
+  headKind transitionKind epsilonKind sourceKind lengthKind noKind : Kind
 
--- document 01's number of a kind; 0 is that of none
+-- the documents' number of a kind; 0 is that of none
 abbrev pub kindNumber : Kind → ℕ
 kindNumber entryKind = 0x1
 kindNumber symbolKind = 0x2
@@ -23,6 +23,7 @@ kindNumber headKind = 0x8
 kindNumber transitionKind = 0x9
 kindNumber epsilonKind = 0xA
 kindNumber sourceKind = 0xB
+kindNumber lengthKind = 0xC
 kindNumber noKind = 0x0
 
 -- the one of these kinds that has the number n, or no kind
@@ -30,11 +31,11 @@ abbrev pub kindAmong : List Kind → ℕ → Kind
 kindAmong [] n = noKind
 kindAmong (k ∷ ks) n = cond (eqb n (kindNumber k)) k (kindAmong ks n)
 
--- document 01's kinds
+-- the documents' kinds
 abbrev pub kinds : List Kind
 kinds =
     entryKind ∷ symbolKind ∷ emptyKind ∷ unionKind ∷ productKind ∷ closureKind ∷ nodeKind ∷ headKind ∷ transitionKind
-    ∷ epsilonKind ∷ sourceKind ∷ []
+    ∷ epsilonKind ∷ sourceKind ∷ lengthKind ∷ []
 
 -- the kind that has the number n
 unfoldable pub kindAt : ℕ → Kind
@@ -51,7 +52,7 @@ kindUnit = 0x1000_0000
 abbrev pub numberOf : ℕ → ℕ
 numberOf w = w / kindUnit
 
--- whether a word is of k, one of document 01's kinds
+-- whether a word is of k, one of the documents' kinds
 abbrev pub hasKind : Kind → ℕ → Bool
 hasKind k w = eqb (numberOf w) (kindNumber k)
 
@@ -63,8 +64,8 @@ kindOf w = kindAt (numberOf w)
 abbrev pub bodyOf : ℕ → ℕ
 bodyOf w = w % kindUnit
 
--- the range of each field: a rank, a symbol and a substitution symbol (document 01's c) have eight bits, a state has ten, and
--- a state count eleven
+-- the range of each field: a rank, a symbol and a substitution symbol (document 01's c) have eight bits, a state has ten, a
+-- state count eleven, and a word count twelve
 abbrev pub symbolRange : ℕ
 symbolRange = 0x100
 
@@ -73,6 +74,9 @@ stateRange = 0x400
 
 abbrev pub countRange : ℕ
 countRange = 0x800
+
+abbrev pub lengthRange : ℕ
+lengthRange = 0x1000
 
 -- The named bits of each kind are its lowest ones: a word's other 28 bits stay below this number.
 abbrev pub fieldRange : Kind → ℕ
@@ -87,6 +91,7 @@ fieldRange headKind = countRange * stateRange
 fieldRange transitionKind = symbolRange * stateRange
 fieldRange epsilonKind = stateRange * stateRange
 fieldRange sourceKind = stateRange
+fieldRange lengthKind = lengthRange
 fieldRange noKind = 0x0
 
 -- "Bits not named are zero."
@@ -120,6 +125,10 @@ stateAbove w = w / stateRange % stateRange
 -- bits 9..0: a state
 abbrev pub stateBelow : ℕ → ℕ
 stateBelow w = w % stateRange
+
+-- bits 11..0: the word count of a length word
+abbrev pub lengthBelow : ℕ → ℕ
+lengthBelow w = w % lengthRange
 
 -- the named bits of a word of a table: x stands above state s
 abbrev pub aboveState : ℕ → ℕ → ℕ

@@ -42,17 +42,23 @@ pub const EPSILON: u32 = 0xA;
 // A part state of a symbol move.
 pub const SOURCE: u32 = 0xB;
 
+// The length word of a table.
+pub const LENGTH: u32 = 0xC;
+
 // Bits 7..0 of an entry are its rank, those of rule words and elements a symbol or a constant.
 pub const SYMBOL_RANGE: u32 = 0x100;
 
-// Bits 9..0 of a word of a table are a state. Above them stand a head's state count, a symbol transition's symbol, or the
-// from state of an epsilon transition.
+// Bits 9..0 of a word of a table, but for the length word, are a state. Above them stand a head's state count, a symbol
+// transition's symbol, or the from state of an epsilon transition.
 pub const STATE_RANGE: u32 = 0x400;
 
 // A head's state count is below this.
 pub const COUNT_RANGE: u32 = 0x800;
 
-// The kinds of document 01, in the order of their numbers, and no kind of it.
+// Bits 11..0 of a length word are the table's word count.
+pub const LENGTH_RANGE: u32 = 0x1000;
+
+// The kinds of documents 01 and 02, in the order of their numbers, and no kind of theirs.
 pub enum Kind {
     Entry,
     Symbol,
@@ -65,6 +71,7 @@ pub enum Kind {
     Transition,
     Epsilon,
     Source,
+    Length,
     Other,
 }
 
@@ -85,6 +92,7 @@ pub fn kind_of(w: u32) -> Kind
         TRANSITION => Kind::Transition,
         EPSILON => Kind::Epsilon,
         SOURCE => Kind::Source,
+        LENGTH => Kind::Length,
         _ => Kind::Other,
     }
 }
@@ -105,6 +113,7 @@ fn field_range(kind: Kind) -> u32
         Kind::Transition => SYMBOL_RANGE * STATE_RANGE,
         Kind::Epsilon => STATE_RANGE * STATE_RANGE,
         Kind::Source => STATE_RANGE,
+        Kind::Length => LENGTH_RANGE,
         Kind::Other => 0x0,
     }
 }

@@ -1,5 +1,11 @@
--- `exchanger::exchange` meets its contract: a refused call changes nothing, and an accepted one does what the definitions say.
+-- `exchanger::exchange` meets its contract: the slice is cut behind its table, a refused call changes nothing, and an accepted
+-- one does what the definitions say.
+use mathlib.Core.Path.{sym}
+use native.Mathlib.Omega.{arith}
+use lib.ListN.{take}
+use lib.Seq.{length-take-le}
 use borrow.Author.Needs.{needs}
+use Rattle.automaton.proofs.LengthWordLaws.{tableWordCount-inside, cut-in}
 use Rattle.operations.specs.ExchangeCall.{ExchangeCall, exchangeCall}
 use Rattle.exchanger.proofs.ExchangeAnswerLaws.{call-refused, call-passes}
 use Rattle.exchanger.proofs.exchange.Statement.{statement}
@@ -7,8 +13,17 @@ use Rattle.exchanger.proofs.exchange.Tie as tie
 
 abbrev call : tie.After-exchange-fault → ExchangeCall
 call c =
-    let q = c .before .before .before .before .before .before .before .args in
-    exchangeCall (q .alphabet .now) (q .table .now) (q .chapter .now) (q .marks .now) (q .count) (q .element) (q .replacement .now)
+    let q = c .before .before .before .before .before .before .before .before .before .args in
+    let table = take (c .before .before .before .table-word-count .result) (q .table-slice .now) in
+    exchangeCall (q .alphabet .now) table (q .chapter .now) (q .marks .now) (q .count) (q .element) (q .replacement .now)
+
+table-word-count-requires : tie.Need-table-word-count-requires
+table-word-count-requires c κs = search needs
+
+slice-aggregate-table : tie.Need-slice-aggregate-table
+slice-aggregate-table c =
+    let inside = tableWordCount-inside (c .before .before .before .before .before .before .before .args .table-slice .now) in
+    sym (length-take-le _ _ (omega (arith, c .before .table-word-count .ensures)))
 
 exchange-fault-requires : tie.Need-exchange-fault-requires
 exchange-fault-requires c κs = search needs
@@ -18,7 +33,8 @@ same-length c = search needs
 
 returns : tie.Need-returns
 returns c =
-    call-refused (call (c .before)) _ (c .before .exchange-fault .ensures) (c .if1 .taken)
+    rw (← cut-in _ (c .before .before .before .before .table-word-count .ensures))
+    (call-refused (call (c .before)) _ (c .before .exchange-fault .ensures) (c .if1 .taken))
 
 replace-subtree-requires : tie.Need-replace-subtree-requires
 replace-subtree-requires c κs =
@@ -33,12 +49,16 @@ same-length-3 c = search needs
 
 returns-2 : tie.Need-returns-2
 returns-2 c =
-    c .before .before .before .before .replace-subtree .ensures
+    let done = c .before .before .before .before in
+    let cut = done .before .before .before .before .before .before .before in
+    rw (← cut-in _ (cut .table-word-count .ensures)) (done .replace-subtree .ensures)
 
 pub exchange-spec : {M : Type 1} → statement M
 exchange-spec =
     tie.close
     (tie.spec
+    table-word-count-requires
+    slice-aggregate-table
     exchange-fault-requires
     same-length
     returns

@@ -3,7 +3,7 @@
 use borrow.Author.Tests.{not-true, not-false}
 use borrow.Author.Needs.{needs}
 use Rattle.words.specs.Limits.{tableMost}
-use Rattle.report.proofs.ReportLaws.{complete-whole, early-whole, refused-compiled, table-counted, table-fits}
+use Rattle.report.proofs.ReportLaws.{complete-whole, early-whole, refused-compiled}
 use Rattle.report.proofs.ReportLaws.{chapter-reportable, many}
 use Rattle.report.proofs.report.Statement.{statement}
 use Rattle.report.proofs.report.Tie as tie
@@ -25,18 +25,11 @@ slice-aggregate-compile c = search needs
 compile-requires : tie.Need-compile-requires
 compile-requires c κs = tt
 
-enum-known-size : tie.Need-enum-known-size
-enum-known-size c = search needs
-
-array-share-prefix-table : tie.Need-array-share-prefix-table
-array-share-prefix-table c =
-    table-fits _ _ _ _ (c .before .size .given .1) (c .before .before .before .before .compile .ensures .0)
-    (c .before .before .before .before .compile .ensures .1)
+enum-told : tie.Need-enum-told
+enum-told c = search needs
 
 slice-aggregate-report-chapter : tie.Need-slice-aggregate-report-chapter
-slice-aggregate-report-chapter c =
-    table-counted _ _ _ _ (c .before .before .size .given .1) (c .before .before .before .before .before .compile .ensures .0)
-    (c .before .before .before .before .before .compile .ensures .1)
+slice-aggregate-report-chapter c = search needs
 
 report-chapter-requires : tie.Need-report-chapter-requires
 report-chapter-requires c κs = tt
@@ -52,12 +45,12 @@ same-length-2 c = c .before .before .report-chapter .kept .1 .1 .1 .0
 
 returns-2 : tie.Need-returns-2
 returns-2 c =
-    let call = c .before .before .before .before .before .before .before .before .before .compile in
+    let call = c .before .before .before .before .before .before .before .before .compile in
     complete-whole _ _ _ _
-    (c .before .before .before .before .before .before .before .before .before .before .before .before .before .before .before .before .pre)
-    (not-false _ (c .before .before .before .before .before .before .before .before .before .before .before .if1 .left))
+    (c .before .before .before .before .before .before .before .before .before .before .before .before .before .before .before .pre)
+    (not-false _ (c .before .before .before .before .before .before .before .before .before .before .if1 .left))
     (c .before .before .report-chapter .ensures _
-    (chapter-reportable _ _ _ _ (c .before .before .before .before .before .before .size .given .1) (call .ensures .0) (call .ensures .1)
+    (chapter-reportable _ _ _ _ (c .before .before .before .before .before .enum-told .given .1) (call .ensures .0) (call .ensures .1)
     (many tableMost)))
 
 same-length-3 : tie.Need-same-length-3
@@ -80,8 +73,7 @@ report-spec =
     returns
     slice-aggregate-compile
     compile-requires
-    enum-known-size
-    array-share-prefix-table
+    enum-told
     slice-aggregate-report-chapter
     report-chapter-requires
     enum-known-number

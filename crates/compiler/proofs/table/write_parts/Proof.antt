@@ -1,4 +1,4 @@
--- `compiler::table::write_parts` meets its contract: its three writers leave the three parts of the table.
+-- `compiler::table::write_parts` meets its contract: its four writers leave the four parts of the table.
 use native.Mathlib.Omega.{arith}
 use mathlib.Core.Path.{ap, sym}
 use Prim.Native.Nat.{_-_, _*_, _≤_}
@@ -8,7 +8,7 @@ use borrow.Author.Needs.{needs}
 use Rattle.words.specs.Limits.{expressionMost}
 use Rattle.words.proofs.ListLaws.{length-take-most}
 use Rattle.emitter.proofs.WritingLaws.{words-written-next}
-use Rattle.compiler.specs.Compiling.{wordStatesMost}
+use Rattle.compiler.specs.Compiling.{wordStatesMost, compiledWordsMost}
 use Rattle.compiler.proofs.KnownConstants.{constants-symbols}
 use Rattle.compiler.proofs.AcceptedRuleLaws.{rule-alphabet, rule-expression, states-countable, states-few}
 use Rattle.compiler.proofs.TablePartLaws.{word-last, table-written}
@@ -98,7 +98,6 @@ push-constants-requires : tie.Need-push-constants-requires
 push-constants-requires c κs =
     let p = c .before .before .before .before .before .before .before .before .before .before .before .before .before .before .pre in
     let h = rule-alphabet _ _ (p .accepted) in
-    let n = words-written-next _ _ _ _ _ _ (c .before .before .before .push .ensures) in
     record {
       few = rw (p .constants) (h .constants .few);
       symbols = constants-symbols _ _ (p .constants) (h .counted .few);
@@ -110,30 +109,50 @@ write-words-requires c κs =
     let p =
     c .before .before .before .before .before .before .before .before .before .before .before .before .before .before .before .before
     .before .before .pre in
-    let m = words-written-next _ _ _ _ _ _ (c .before .before .before .before .before .before .before .push .ensures) in
     let n = words-written-next _ _ _ _ _ _ (c .before .before .before .push-constants .ensures) in
     record { accepted = p .accepted; constants = p .constants; fits = omega arith }
+
+mul-push-3 : tie.Need-mul-push-3
+mul-push-3 c = search needs
+
+-- the table is short
+size-low : (c : tie.After-write-words) → c .write-words .result ≤ compiledWordsMost
+size-low c =
+    let m = words-written-next _ _ _ _ _ _ (c .write-words .ensures) in
+    let n = words-written-next _ _ _ _ _ _ (c .before .before .before .before .push-constants .ensures) in
+    omega arith
+
+cast-push : tie.Need-cast-push
+cast-push c = let s = size-low (c .before .before .before) in omega arith
+
+add-push-3 : tie.Need-add-push-3
+add-push-3 c = let s = size-low (c .before .before .before) in omega arith
+
+push-requires-2 : tie.Need-push-requires-2
+push-requires-2 c κs = search needs
 
 same-length : tie.Need-same-length
 same-length c = search needs
 
 returns : tie.Need-returns
 returns c =
-    let p =
-    c .before .before .before .before .before .before .before .before .before .before .before .before .before .before .before .before
-    .before .before .before .before .before .pre in
-    let a =
-    c .before .before .before .before .before .before .before .before .before .before .before .before .before .before .before .before
-    .before .before .before .before .before .args in
-    let e = rule-expression _ _ (p .accepted) in
-    table-written (a .alphabet .now) (a .constants .now) (a .expression .now) (e .counted .some) _ _ _ _ _ _ _ _ _ _ (p .constants)
-    (c .before .before .before .before .before .before .before .before .before .before .before .before .before .before .states-after
-    .ensures .0)
-    (c .before .before .before .before .before .before .before .before .before .before .before .before .before .states-of .ensures .0)
-    (c .before .before .before .before .before .before .before .before .before .before .before .before .word-port .ensures)
-    (c .before .before .before .before .before .before .before .before .before .before .push .ensures)
-    (c .before .before .before .before .before .before .push-constants .ensures)
-    (c .before .before .write-words .ensures)
+    let counted = c .before .before in
+    let written = counted .before .before .before .before in
+    let constants = written .before .before .before .before in
+    let headed = constants .before .before .before .before in
+    let port = headed .before .before in
+    let start = port .before .before .before .before .before .before .before .before .before in
+    let a = start .args in
+    let e = rule-expression _ _ (start .pre .accepted) in
+    table-written (a .alphabet .now) (a .constants .now) (a .expression .now) (e .counted .some) _ _ _ _ _ _ _ _ _ _ _ _
+    (start .pre .constants)
+    (port .before .before .states-after .ensures .0)
+    (port .before .states-of .ensures .0)
+    (port .word-port .ensures)
+    (headed .push .ensures)
+    (constants .push-constants .ensures)
+    (written .write-words .ensures)
+    (counted .push2 .ensures)
 
 pub write-parts-spec : {M : Type 1} → statement M
 write-parts-spec =
@@ -154,5 +173,9 @@ write-parts-spec =
     push-requires
     push-constants-requires
     write-words-requires
+    mul-push-3
+    cast-push
+    add-push-3
+    push-requires-2
     same-length
     returns)

@@ -1,32 +1,29 @@
 -- `tables::check::is_table` meets its contract: each refusal is one test of the definition, in its order.
 use mathlib.Core.Path.{sym, _∙_}
+use native.Mathlib.Omega.{arith}
 use borrow.Author.Needs.{needs}
 use borrow.Author.Tests.{not-true, not-false}
-use lib.ListN.{length}
-use Rattle.words.specs.Limits.{tableMost}
-use Rattle.words.proofs.LimitLaws.{Within, not-outside}
-use Rattle.tables.proofs.TableScanLaws.{table-outside, table-no-head, table-value}
+use Rattle.tables.proofs.TableScanLaws.{table-empty, table-miscounted, table-no-head, table-value}
 use Rattle.tables.proofs.check.is_table.Statement.{statement}
 use Rattle.tables.proofs.check.is_table.Tie as tie
 
--- there are words, and not too many
-within : (c : tie.Else1) → Within tableMost (length (c .before .before .before .before .args .table .now))
-within c = not-outside _ _ (sym (c .before .is-outside .ensures) ∙ c .if1 .left)
-
-is-outside-requires : tie.Need-is-outside-requires
-is-outside-requires c κs = search needs
-
 returns : tie.Need-returns
-returns c = table-outside _ _ (sym (c .before .is-outside .ensures) ∙ c .if1 .taken)
+returns c = table-empty _ _ (c .if1 .taken)
+
+table-word-count-requires : tie.Need-table-word-count-requires
+table-word-count-requires c κs = search needs
+
+returns-2 : tie.Need-returns-2
+returns-2 c = table-miscounted _ _ (λ e. omega (arith, c .if2 .taken, c .before .table-word-count .ensures))
 
 shared-slice-read-is-head : tie.Need-shared-slice-read-is-head
-shared-slice-read-is-head c = within (c .before) .some
+shared-slice-read-is-head c = search needs
 
 is-head-requires : tie.Need-is-head-requires
 is-head-requires c κs = search needs
 
-returns-2 : tie.Need-returns-2
-returns-2 c = table-no-head _ _ (within (c .before .before .before)) (sym (c .before .is-head .ensures) ∙ not-true _ (c .if2 .taken))
+returns-3 : tie.Need-returns-3
+returns-3 c = table-no-head _ _ (sym (c .before .is-head .ensures) ∙ not-true _ (c .if3 .taken))
 
 state-count-requires : tie.Need-state-count-requires
 state-count-requires c κs = search needs
@@ -34,21 +31,24 @@ state-count-requires c κs = search needs
 are-transitions-requires : tie.Need-are-transitions-requires
 are-transitions-requires c κs = search needs
 
-returns-3 : tie.Need-returns-3
-returns-3 c =
+returns-4 : tie.Need-returns-4
+returns-4 c =
     let head = c .before .before in
-    table-value _ _ (within (head .before .before .before)) (sym (head .before .is-head .ensures) ∙ not-false _ (head .if2 .left)) _
-    (c .before .state-count .ensures) _ (c .are-transitions .ensures)
+    let counted = head .before .before .before in
+    table-value _ _ (counted .before .before .if1 .left) (omega (arith, counted .if2 .left, counted .before .table-word-count .ensures))
+    (sym (head .before .is-head .ensures) ∙ not-false _ (head .if3 .left)) _ (c .before .state-count .ensures) _
+    (c .are-transitions .ensures)
 
 pub is-table-spec : {M : Type 1} → statement M
 is-table-spec =
     tie.close
     (tie.spec
-    is-outside-requires
     returns
+    table-word-count-requires
+    returns-2
     shared-slice-read-is-head
     is-head-requires
-    returns-2
+    returns-3
     state-count-requires
     are-transitions-requires
-    returns-3)
+    returns-4)
