@@ -1,7 +1,9 @@
 //! Document 01's "Numbered automaton": the table words of an expression. The transitions of every word are listed as
-//! the document names them and only then sorted, so nothing here depends on an order of writing.
+//! the document names them and only then sorted, so nothing here depends on an order of writing. Document 02's U1 adds the
+//! length word.
 
 use crate::language::Expression;
+use crate::length_word::with_length_word;
 use crate::words::{self, Operator, TableWord};
 use std::collections::BTreeMap;
 
@@ -52,7 +54,7 @@ pub fn table(alphabet: &[u32], words: &[u32]) -> Option<Vec<u32>> {
     for place in 0..words.len() {
         table.extend(transitions(&expression, &ends, place));
     }
-    Some(table.into_iter().map(TableWord::word).collect())
+    Some(with_length_word(&table))
 }
 
 /// Consecutive states from 0: the exit, then for a word that is no leaf one entry for each constant.

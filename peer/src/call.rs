@@ -47,6 +47,8 @@ pub struct Answer {
     pub after: Call,
     /// Whether the words around each slice are as they were.
     pub surroundings_kept: bool,
+    /// Whether the call came to its end: it does not where it touches memory that is not there.
+    pub ended: bool,
 }
 
 /// What stands behind an out-parameter before a call.
@@ -55,6 +57,12 @@ const UNWRITTEN: [u32; 2] = [0xcafe_0001, 0xcafe_0002];
 pub trait Matcher {
     /// Performs the call on copies of its slices.
     fn answer(&mut self, call: &Call) -> Answer;
+
+    /// Performs the call where the table slice is said to have so many words, and those that the call does not have are
+    /// not in memory. A matcher that is given no pointers cannot find out.
+    fn answer_said(&mut self, call: &Call, _said: usize) -> Answer {
+        self.answer(call)
+    }
 }
 
 impl Call {
@@ -173,6 +181,7 @@ impl Answer {
             values: UNWRITTEN,
             after: call.clone(),
             surroundings_kept: true,
+            ended: true,
         }
     }
 

@@ -81,8 +81,18 @@ impl Comparison {
 
     /// Compares one call. `wrong` says what would be wrong if they differed. Answers what the model answers.
     pub fn call(&mut self, wrong: &str, call: &Call) -> Answer {
-        let expected = Model.answer(call);
         let found = self.matcher.answer(call);
+        self.compare(wrong, call, found)
+    }
+
+    /// Compares one call whose table slice is said to have so many words. Only those that the call has are in memory.
+    pub fn call_said(&mut self, wrong: &str, call: &Call, said: usize) -> Answer {
+        let found = self.matcher.answer_said(call, said);
+        self.compare(&format!("{wrong} (a table slice of {said} words)"), call, found)
+    }
+
+    fn compare(&mut self, wrong: &str, call: &Call, found: Answer) -> Answer {
+        let expected = Model.answer(call);
         let counts = self.numbers.entry(call.operation).or_default();
         *counts.entry(expected.number).or_default() += 1;
         let agrees = found == expected;
@@ -135,6 +145,9 @@ impl Comparison {
 
 /// The first thing in which two answers differ.
 fn difference(expected: &Answer, found: &Answer) -> String {
+    if !found.ended {
+        return "memory was touched that is not there".to_string();
+    }
     if expected.number != found.number {
         return format!("number {} instead of {}", found.number, expected.number);
     }

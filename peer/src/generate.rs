@@ -2,7 +2,8 @@
 
 use crate::chance::Random;
 use crate::language::Tree;
-use crate::limits::{ARITY_LIMIT, CONSTANT_LIMIT, STATE_LIMIT, SYMBOL_LIMIT};
+use crate::length_word::with_length_word;
+use crate::limits::{ARITY_LIMIT, CONSTANT_LIMIT, STATE_LIMIT, SYMBOL_LIMIT, TABLE_LIMIT};
 use crate::words::{self, Operator, TableWord};
 
 /// An alphabet: mostly small, so that symbols meet each other often; sometimes up to the limits.
@@ -142,7 +143,17 @@ pub fn table(random: &mut Random, alphabet: &[u32]) -> Vec<u32> {
             }
         }
     }
-    table.into_iter().map(TableWord::word).collect()
+    with_length_word(&table)
+}
+
+/// Words that follow a table in its slice: none, a few, or so many that the slice is longer than any table.
+pub fn behind(random: &mut Random) -> Vec<u32> {
+    let length = match random.below(8) {
+        0..=2 => 0,
+        3..=6 => random.between(1, 9),
+        _ => random.between(TABLE_LIMIT, 2 * TABLE_LIMIT),
+    };
+    random.words(length)
 }
 
 /// Changes one bit of one word.

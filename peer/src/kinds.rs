@@ -1,4 +1,5 @@
-//! Document 01's kinds of words, each number once. The kind is in the highest bits of a word, its fields are below.
+//! Document 01's kinds of words and document 02's, each number once. The kind is in the highest bits of a word, its fields
+//! are below.
 
 /// An alphabet entry.
 pub const ENTRY: u32 = 1;
@@ -19,11 +20,17 @@ pub const TRANSITION: u32 = 9;
 pub const EPSILON: u32 = 10;
 pub const CHILD: u32 = 11;
 
+/// How many words a table has, as its second word (document 02, U1).
+pub const LENGTH: u32 = 12;
+
 /// How many bits the fields have together.
 pub const FIELD_BITS: u32 = 28;
 
-/// How many bits a state has, which is the lowest field of a table word.
+/// How many bits a state has, which is the lowest field of a table word but for the length.
 pub const STATE_BITS: u32 = 10;
+
+/// How many bits a table's word count has, which is the only field of its word.
+pub const LENGTH_BITS: u32 = 12;
 
 #[inline]
 pub fn kind(word: u32) -> u32 {
@@ -55,6 +62,12 @@ pub fn symbol(word: u32) -> usize {
 #[inline]
 pub fn state(word: u32) -> usize {
     (word & ((1 << STATE_BITS) - 1)) as usize
+}
+
+/// The word count in a length word.
+#[inline]
+pub fn length(word: u32) -> usize {
+    (word & ((1 << LENGTH_BITS) - 1)) as usize
 }
 
 /// The field above the state in a table word, of so many bits.

@@ -4,7 +4,10 @@
 //! nothing differed, 1 with a difference, and 2 without a library or with wrong arguments.
 //! HAQBYLUR_LIB_DIR names the folder of the static library when this is built, HAQBYLUR_MARKLIST the program when it runs.
 
-use peer::cases::{damage, examples, faults, histories, largest, lengths, limits, program, random};
+use peer::cases::{
+    behind, damage, examples, faults, histories, largest, length_words, lengths, limits, packed, program,
+    random,
+};
 use peer::compare::{Comparison, Tally};
 use peer::library;
 use std::process::ExitCode;
@@ -45,6 +48,9 @@ fn main() -> ExitCode {
     section("largest table", &mut |all| {
         largest::compare(all, seed, cases / 10)
     });
+    section("length words", &mut length_words::compare);
+    section("tables end to end", &mut packed::compare);
+    section("nothing behind a table", &mut behind::compare);
     section("two faults at once", &mut faults::compare);
     section("damaged words", &mut |all| damage::compare(all, seed, cases / 4));
     section("random rules and chapters", &mut |all| {

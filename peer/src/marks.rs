@@ -1,7 +1,8 @@
 //! Document 01's "Marks": the set of states each subtree reaches, as the smallest set closed under the table's
 //! transitions, found by adding states until nothing new is found; and the words such a set is written in.
 
-use crate::limits::{STATE_LIMIT, TABLE_LIMIT};
+use crate::length_word::table_in;
+use crate::limits::STATE_LIMIT;
 use crate::postfix;
 use crate::words::{self, TableWord};
 
@@ -17,12 +18,11 @@ pub struct Table {
 pub type StateSet = Vec<bool>;
 
 impl Table {
-    /// The table that the words are; None where document 01 refuses them by 8.
-    pub fn read(alphabet: &[u32], words: &[u32]) -> Option<Table> {
-        if words.len() > TABLE_LIMIT {
+    /// The table at the front of a slice; None where documents 01 and 02 refuse it by 8.
+    pub fn read(alphabet: &[u32], slice: &[u32]) -> Option<Table> {
+        let [head, _, moves @ ..] = table_in(slice)? else {
             return None;
-        }
-        let (head, moves) = words.split_first()?;
+        };
         let TableWord::Head { states, accepting } = TableWord::read(*head)? else {
             return None;
         };
@@ -49,7 +49,7 @@ impl Table {
                     table.transitions.push((symbol, target, children));
                 }
                 TableWord::Epsilon { from, to } => table.epsilons.push((from, to)),
-                TableWord::Head { .. } | TableWord::Child(_) => return None,
+                TableWord::Head { .. } | TableWord::Length(_) | TableWord::Child(_) => return None,
             }
         }
         table.names_no_missing_state().then_some(table)

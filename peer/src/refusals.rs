@@ -1,10 +1,11 @@
-//! Document 01's "Refused calls". Every condition is judged by itself, so that a call has a list of faults in the order
-//! of the document; the first of them is its refusal, and a call without a fault is accepted.
+//! Document 01's "Refused calls", with document 02's U1. Every condition is judged by itself, so that a call has a list
+//! of faults in the order of the document; the first of them is its refusal, and a call without a fault is accepted.
 //! A condition that rests on something missing (the table of a rule that is none, say) is judged by what holds of every
-//! such thing: a table has a word, a state set has a word, a result has the replacement's nodes.
+//! such thing: a table has two words, a state set has a word, a result has the replacement's nodes.
 
 use crate::automaton;
 use crate::call::{Call, Operation};
+use crate::length_word::LEAST_WORDS;
 use crate::limits::{CONSTANT_LIMIT, EXPRESSION_LIMIT, NODE_LIMIT, STATE_LIMIT, SYMBOL_LIMIT};
 use crate::marks::Table;
 use crate::postfix;
@@ -89,7 +90,8 @@ fn expression(call: &Call) -> Judged {
 
 fn compiled(call: &Call) -> Judged {
     let table = automaton::table(&call.alphabet, &call.expression);
-    vec![(7, table.map_or(1, |table| table.len()) > call.table.len())]
+    let words = table.map_or(LEAST_WORDS, |table| table.len());
+    vec![(7, words > call.table.len())]
 }
 
 fn table(own: &Marked) -> Judged {

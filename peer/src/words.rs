@@ -19,6 +19,7 @@ pub enum Operator {
 #[derive(Clone, Copy, Debug, PartialEq, Eq)]
 pub enum TableWord {
     Head { states: usize, accepting: usize },
+    Length(usize),
     Transition { symbol: usize, target: usize },
     Epsilon { from: usize, to: usize },
     Child(usize),
@@ -63,6 +64,7 @@ impl TableWord {
     pub fn word(self) -> u32 {
         match self {
             TableWord::Head { states, accepting } => kinds::table_word(kinds::HEAD, states, accepting),
+            TableWord::Length(words) => kinds::word(kinds::LENGTH) + words as u32,
             TableWord::Transition { symbol, target } => kinds::table_word(kinds::TRANSITION, symbol, target),
             TableWord::Epsilon { from, to } => kinds::table_word(kinds::EPSILON, from, to),
             TableWord::Child(state) => kinds::table_word(kinds::CHILD, 0, state),
@@ -77,6 +79,7 @@ impl TableWord {
                 states: above(11),
                 accepting: state,
             },
+            kinds::LENGTH => TableWord::Length(kinds::length(word)),
             kinds::TRANSITION => TableWord::Transition {
                 symbol: above(8),
                 target: state,

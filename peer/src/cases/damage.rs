@@ -12,9 +12,11 @@ use crate::marks::Table;
 use crate::model;
 use crate::words;
 
-/// One accepted call of each operation on this alphabet, rule and tree.
+/// One accepted call of each operation on this alphabet, rule and tree, with so much to spare in each slice: words that no
+/// rule writes, and behind the table words that are none of it.
 pub fn accepted_calls(alphabet: &[u32], expression: &[u32], tree: &[u32], spare: usize) -> Vec<Call> {
-    let table = automaton::table(alphabet, expression).expect("an expression");
+    let mut table = automaton::table(alphabet, expression).expect("an expression");
+    table.resize(table.len() + spare, 0x2468_ace0);
     let read = Table::read(alphabet, &table).expect("a table");
     let mut sets = model::state_sets(alphabet, &read, tree);
     let count = tree.len();
@@ -23,7 +25,7 @@ pub fn accepted_calls(alphabet: &[u32], expression: &[u32], tree: &[u32], spare:
     chapter.resize(count + spare, 0x1234_5678);
     let leaf = words::node_words(&words::constants(alphabet)[..1]);
     vec![
-        Call::compile(alphabet, expression, vec![0x3c3c_3c3c; table.len() + spare]),
+        Call::compile(alphabet, expression, vec![0x3c3c_3c3c; table.len()]),
         Call::run(alphabet, &table, tree, vec![0x5a5a_5a5a; sets.len()]),
         Call::list(alphabet, &table, count, &sets, vec![0x6b6b_6b6b; count + spare]),
         Call::exchange(alphabet, &table, chapter, count, sets, count / 2, &leaf),

@@ -5,6 +5,7 @@ use crate::call::{Call, Operation};
 use crate::cases::damage::accepted_calls;
 use crate::cases::examples::{self, A, D, G, H};
 use crate::compare::Comparison;
+use crate::length_word::{say, table_in};
 use crate::limits::{ARITY_LIMIT, CONSTANT_LIMIT, EXPRESSION_LIMIT, NODE_LIMIT, SYMBOL_LIMIT, TABLE_LIMIT};
 use crate::refusals;
 use crate::words::{self, entry_word, node_word, Operator, TableWord};
@@ -121,7 +122,8 @@ fn compile() -> Vec<Fault> {
             pad(&mut call.expression, 1 + 61, Operator::Closure(D).word());
             pad(&mut call.table, TABLE_LIMIT, 0);
         }),
-        (7, |call| call.table.truncate(35)),
+        (7, |call| call.table.truncate(36)),
+        (7, |call| call.table.truncate(1)),
         (7, |call| call.table.clear()),
     ]
 }
@@ -141,30 +143,58 @@ fn table() -> Vec<Fault> {
             )
         }),
         (8, |call| set_bit(&mut call.table, 0, 27)),
-        (8, |call| call.table.push(TableWord::Child(0).word())),
-        (8, |call| call.table.extend(call.table.first().copied())),
+        (8, |call| append(call, TableWord::Child(0))),
         (8, |call| {
-            call.table
-                .push(TableWord::Transition { symbol: G, target: 0 }.word());
+            append(
+                call,
+                TableWord::Head {
+                    states: 29,
+                    accepting: 24,
+                },
+            )
         }),
         (8, |call| {
-            call.table.push(
+            append(call, TableWord::Transition { symbol: G, target: 0 })
+        }),
+        (8, |call| {
+            append(
+                call,
                 TableWord::Transition {
                     symbol: 200,
                     target: 0,
-                }
-                .word(),
-            );
+                },
+            )
         }),
+        (8, |call| append(call, TableWord::Epsilon { from: 0, to: 29 })),
+        (8, |call| append(call, TableWord::Length(38))),
+        (8, |call| call.table.truncate(1)),
+        (8, |call| call.table.truncate(36)),
         (8, |call| {
-            call.table.push(TableWord::Epsilon { from: 0, to: 29 }.word())
-        }),
-        (8, |call| {
+            call.table.truncate(37);
             pad(
                 &mut call.table,
                 TABLE_LIMIT + 1,
                 TableWord::Epsilon { from: 0, to: 0 }.word(),
-            )
+            );
+            say(&mut call.table, TABLE_LIMIT + 1);
+        }),
+        (8, |call| say(&mut call.table, 0)),
+        (8, |call| say(&mut call.table, 1)),
+        (8, |call| say(&mut call.table, 4095)),
+        (8, |call| {
+            let over = call.table.len() + 1;
+            say(&mut call.table, over);
+        }),
+        (8, |call| set_bit(&mut call.table, 1, 12)),
+        (8, |call| set_bit(&mut call.table, 1, 27)),
+        (8, |call| {
+            put(&mut call.table, 1, TableWord::Epsilon { from: 0, to: 0 }.word())
+        }),
+        (8, |call| {
+            // Document 01's table.
+            if call.table.len() > 1 {
+                call.table.remove(1);
+            }
         }),
     ]
 }
@@ -263,6 +293,13 @@ fn put(words: &mut [u32], place: usize, word: u32) {
     if let Some(old) = words.get_mut(place) {
         *old = word;
     }
+}
+
+/// Puts a word behind the table, before all that follows it, and counts it.
+fn append(call: &mut Call, word: TableWord) {
+    let end = table_in(&call.table).map_or(call.table.len(), <[u32]>::len);
+    call.table.insert(end, word.word());
+    say(&mut call.table, end + 1);
 }
 
 fn put_last(words: &mut [u32], word: u32) {

@@ -34,7 +34,7 @@ pub fn compare(comparison: &mut Comparison, seed: u64, cases: u64) {
 
 /// A rule's or any other table, a tree that Run marked, and slices with room to grow.
 fn start(comparison: &mut Comparison, random: &mut Random, budget: usize) -> History {
-    let (alphabet, expression, table) = if random.once_in(4) {
+    let (alphabet, expression, mut table) = if random.once_in(4) {
         let alphabet = generate::alphabet(random);
         let table = generate::table(random, &alphabet);
         (alphabet, None, table)
@@ -44,6 +44,7 @@ fn start(comparison: &mut Comparison, random: &mut Random, budget: usize) -> His
         let read = Expression::read(&alphabet, &expression);
         (alphabet, read, table)
     };
+    table.extend(generate::behind(random));
     let width = Table::read(&alphabet, &table).expect("a table").width();
     let nodes = random.between(1, budget);
     let mut tree = words::node_words(&draw_tree(random, &alphabet, &expression, nodes));

@@ -1,8 +1,8 @@
-//! The largest compiled table: no rule takes more words than document 01 says, and one takes as many.
+//! The largest compiled table: no rule takes more words than document 02's U1 says, and one takes as many.
 //!
-//! Every table word but the head belongs to one rule word. Into each entry of a rule word leads exactly one word: from
-//! the entry of the word above, for F of a product and its c from G's exit, and for the last word from the constants. A
-//! word with entries has one for each constant, a constant one, the empty word none. The other words are the symbol's
+//! Every table word but the head and the length word belongs to one rule word. Into each entry of a rule word leads exactly
+//! one word: from the entry of the word above, for F of a product and its c from G's exit, and for the last word from the
+//! constants. A word with entries has one for each constant, a constant one, the empty word none. The other words are the symbol's
 //! own (1 and its arity), both exits of a union, F's exit of a product, and at most three of a closure. So the most
 //! words follow from how many rule words there are of each arity, and every such number is tried.
 
@@ -11,6 +11,7 @@ use crate::call::Call;
 use crate::chance::Random;
 use crate::compare::Comparison;
 use crate::generate;
+use crate::length_word::LEAST_WORDS;
 use crate::limits::{ARITY_LIMIT, COMPILED_LIMIT, CONSTANT_LIMIT, EXPRESSION_LIMIT, STATE_LIMIT};
 use crate::words::{entry_word, Operator};
 
@@ -46,7 +47,7 @@ fn words_with(constants: usize, inner: [usize; ARITY_LIMIT]) -> Option<usize> {
     let own: usize = (0..ARITY_LIMIT)
         .map(|place| inner[place] * MOST_OWN[place + 1])
         .sum();
-    Some(1 + count * constants + leaves + own)
+    Some(LEAST_WORDS + count * constants + leaves + own)
 }
 
 /// A symbol of arity 4 over 4 constants under 59 closures.
@@ -63,7 +64,7 @@ pub fn compare(comparison: &mut Comparison, seed: u64, cases: u64) {
     let bounds: Vec<usize> = (1..=CONSTANT_LIMIT).map(most_words).collect();
     let is_largest = bounds.iter().max() == Some(&COMPILED_LIMIT);
     comparison.check(
-        "the most table words are not document 01's figure",
+        "the most table words are not document 02's figure",
         is_largest,
         || format!("    {bounds:?}"),
     );
@@ -85,7 +86,7 @@ fn attained(comparison: &mut Comparison) {
         let is_attained =
             answer.number == number && (number != 0 || answer.values[0] as usize == COMPILED_LIMIT);
         comparison.check(
-            "the largest table has not document 01's figure of words",
+            "the largest table has not document 02's figure of words",
             is_attained,
             || call.to_string(),
         );

@@ -8,6 +8,7 @@ use crate::cases::limits::{alphabet, expect, run_and_list};
 use crate::chance::Random;
 use crate::compare::Comparison;
 use crate::generate;
+use crate::length_word::with_length_word;
 use crate::limits::{ARITY_LIMIT, NODE_LIMIT};
 use crate::postfix;
 use crate::words::{self, entry_word, node_word, Operator, TableWord};
@@ -57,10 +58,10 @@ fn trees(comparison: &mut Comparison) {
 
 /// One node of each arity behind any number of leaves.
 fn parts(comparison: &mut Comparison) {
-    let head = TableWord::Head {
+    let table = with_length_word(&[TableWord::Head {
         states: 1,
         accepting: 0,
-    };
+    }]);
     for arity in 0..=ARITY_LIMIT {
         let own = [0, arity].map(entry_word);
         for leaves in 0..ARITY_LIMIT + 2 {
@@ -68,7 +69,7 @@ fn parts(comparison: &mut Comparison) {
             tree.push(node_word(1));
             comparison.call(
                 "too few or too many parts are judged otherwise",
-                &Call::run(&own, &[head.word()], &tree, vec![1; 9]),
+                &Call::run(&own, &table, &tree, vec![1; 9]),
             );
         }
     }
@@ -81,7 +82,7 @@ fn slices(comparison: &mut Comparison) {
     let tree = examples::tree();
     let table = automaton::table(&own, &rule).expect("an expression");
     let wrong = "a slice's length is judged otherwise";
-    for (length, number) in [(0, 7), (35, 7), (36, 0), (37, 0)] {
+    for (length, number) in [(0, 7), (36, 7), (37, 0), (38, 0)] {
         expect(
             comparison,
             wrong,

@@ -9,6 +9,7 @@ use crate::compare::Comparison;
 use crate::generate;
 use crate::language::membership::Membership;
 use crate::language::Expression;
+use crate::length_word::with_length_word;
 use crate::limits::{
     ARITY_LIMIT, CONSTANT_LIMIT, EXPRESSION_LIMIT, SET_LIMIT, STATE_LIMIT, SYMBOL_LIMIT, TABLE_LIMIT,
 };
@@ -149,38 +150,34 @@ fn tables(comparison: &mut Comparison) {
             let head = TableWord::Head {
                 states,
                 accepting: accepting.min(LAST),
-            }
-            .word();
+            };
             let into_last = TableWord::Transition {
                 symbol: 0,
                 target: states.clamp(1, STATE_LIMIT) - 1,
-            }
-            .word();
-            run_and_list(comparison, &own, &[head, into_last], &tree);
+            };
+            run_and_list(comparison, &own, &with_length_word(&[head, into_last]), &tree);
         }
     }
-    for length in [
-        1,
-        2,
-        TABLE_LIMIT - 1,
-        TABLE_LIMIT,
-        TABLE_LIMIT + 1,
-        2 * TABLE_LIMIT,
-    ] {
-        let mut table = vec![FULL_HEAD.word()];
-        table.extend((1..length).map(|place| {
-            let from = (place * 5) % STATE_LIMIT;
-            TableWord::Epsilon {
-                from,
-                to: (from + 5) % STATE_LIMIT,
-            }
-            .word()
-        }));
+    for length in [2, 3, TABLE_LIMIT - 1, TABLE_LIMIT, TABLE_LIMIT + 1] {
+        let table = long_table(length);
         let call = Call::run(&own, &table, &tree, vec![1; tree.len() * SET_LIMIT]);
         let number = if length <= TABLE_LIMIT { 0 } else { 8 };
         expect(comparison, "a table's length is judged otherwise", &call, number);
     }
     run_and_list(comparison, &own, &long_chain(), &tree);
+}
+
+/// A table of so many words, head and length word among them, whose epsilon transitions go round through the most states.
+fn long_table(length: usize) -> Vec<u32> {
+    let mut table = vec![FULL_HEAD];
+    table.extend((2..length).map(|place| {
+        let from = (place * 5) % STATE_LIMIT;
+        TableWord::Epsilon {
+            from,
+            to: (from + 5) % STATE_LIMIT,
+        }
+    }));
+    with_length_word(&table)
 }
 
 /// The head of a table with the most states, of which the last accepts.
@@ -198,7 +195,7 @@ fn long_chain() -> Vec<u32> {
             .map(|from| TableWord::Epsilon { from, to: from + 1 }),
     );
     table.push(TableWord::Transition { symbol: 0, target: 0 });
-    table.into_iter().map(TableWord::word).collect()
+    with_length_word(&table)
 }
 
 /// Runs and lists, with room for the largest state sets.

@@ -1,11 +1,15 @@
 //! The inputs of the comparison, by subject.
 
+pub mod behind;
 pub mod damage;
 pub mod examples;
 pub mod faults;
 pub mod histories;
+pub mod in_slices;
 pub mod largest;
+pub mod length_words;
 pub mod lengths;
 pub mod limits;
+pub mod packed;
 pub mod program;
 pub mod random;

@@ -60,13 +60,17 @@ pub fn compare(comparison: &mut Comparison, seed: u64, cases: u64) {
 /// A rule and a tree: table, marks, list, and the language.
 fn pattern_case(comparison: &mut Comparison, random: &mut Random) {
     let Pattern { alphabet, expression } = pattern(random);
-    let table = automaton::table(&alphabet, &expression).expect("an expression");
+    let mut table = automaton::table(&alphabet, &expression).expect("an expression");
     let length = length_near(random, table.len());
     let lent = random.words(length);
-    comparison.call(
+    let compiled = comparison.call(
         "a rule has another table",
         &Call::compile(&alphabet, &expression, lent),
     );
+    // The slice that Compile was lent, as it left it, is lent on.
+    if compiled.number == 0 {
+        table = compiled.after.table;
+    }
 
     let read = Expression::read(&alphabet, &expression).expect("an expression");
     let budget = match random.below(100) {
@@ -97,7 +101,8 @@ fn pattern_case(comparison: &mut Comparison, random: &mut Random) {
 /// A table that need not come from a rule.
 fn table_case(comparison: &mut Comparison, random: &mut Random) {
     let alphabet = generate::alphabet(random);
-    let table = generate::table(random, &alphabet);
+    let mut table = generate::table(random, &alphabet);
+    table.extend(generate::behind(random));
     let budget = random.between(1, 30);
     let tree = generate::tree(random, &alphabet, budget);
     marked_hits(comparison, random, &alphabet, &table, &tree);

@@ -2,15 +2,17 @@
 
 use crate::call::{Answer, Call, Matcher, Operation};
 use crate::guard::Guarded;
+use crate::mapping::{comes_to_its_end, Mapped};
+use std::ptr;
 
 pub struct Library;
 
-/// Each slice is lent from the middle of a longer run of words, so that a write outside it is seen.
 impl Matcher for Library {
+    /// Each slice is lent from the middle of a longer run of words, so that a write outside it is seen.
     fn answer(&mut self, call: &Call) -> Answer {
         let mut answer = Answer::unwritten(0, call);
         let mut guarded = call.slices().map(|(_, words)| Guarded::around(words));
-        answer.number = call_exported(
+        answer.number = call_on(
             call.operation,
             guarded.each_mut().map(Guarded::slice),
             call.count,
@@ -23,13 +25,71 @@ impl Matcher for Library {
         }
         answer
     }
+
+    /// Each slice is lent from the end of a mapping, so that a touch of anything behind it is seen.
+    fn answer_said(&mut self, call: &Call, said: usize) -> Answer {
+        let mut answer = Answer::unwritten(0, call);
+        let mapped = call.slices().map(|(_, words)| Mapped::holding(words));
+        let mut lent = mapped.each_ref().map(|words| Lent {
+            first: words.pointer(),
+            length: words.count(),
+        });
+        lent[TABLE].length = said;
+        // The number and then the values.
+        let answered = Mapped::holding(&[answer.number, answer.values[0], answer.values[1]]);
+        let [number, first, second] = [0, 1, 2].map(|place| answered.pointer().wrapping_add(place));
+        // The words that are lent and not there are what is tried: they are not to be touched.
+        answer.ended = comes_to_its_end(|| unsafe {
+            number.write(call_exported(
+                call.operation,
+                lent,
+                call.count,
+                call.node,
+                [first, second],
+            ));
+        });
+        let [number, first, second] = answered.content()[..] else {
+            unreachable!("three words");
+        };
+        answer.number = number;
+        answer.values = [first, second];
+        for (slice, mapped) in answer.after.slices_mut().into_iter().zip(&mapped) {
+            *slice = mapped.content();
+        }
+        answer
+    }
 }
 
 /// Performs a call on its own slices and answers its number: for timing, since nothing is copied.
 pub fn perform(call: &mut Call, values: &mut [u32; 2]) -> u32 {
     let (operation, count, node) = (call.operation, call.count, call.node);
     let slices = call.slices_mut().map(Vec::as_mut_slice);
-    call_exported(operation, slices, count, node, values)
+    call_on(operation, slices, count, node, values)
+}
+
+/// Calls the exported function of an operation with the slices of a call.
+fn call_on(
+    operation: Operation,
+    slices: [&mut [u32]; 7],
+    count: usize,
+    element: usize,
+    values: &mut [u32; 2],
+) -> u32 {
+    let lent = slices.map(|words| Lent {
+        first: words.as_mut_ptr(),
+        length: words.len(),
+    });
+    // Each pointer comes from a reference that lives through the call, with that slice's own length, and no two overlap:
+    // this is all that the exported functions ask of a caller.
+    unsafe {
+        call_exported(
+            operation,
+            lent,
+            count,
+            element,
+            values.each_mut().map(ptr::from_mut),
+        )
+    }
 }
 
 // A slice is a pointer and then a length.
@@ -88,69 +148,75 @@ extern "C" {
     ) -> u32;
 }
 
-/// Calls the exported function of an operation with the slices of a call, in the order of `Call::slices`.
-fn call_exported(
+/// A slice as the exported functions take it.
+#[derive(Clone, Copy)]
+struct Lent {
+    first: *mut u32,
+    length: usize,
+}
+
+/// Where `Call::slices` has the table.
+const TABLE: usize = 2;
+
+/// Calls the exported function of an operation with slices in the order of `Call::slices`. The pointers are aligned, what
+/// the call touches is there, and no two slices overlap.
+unsafe fn call_exported(
     operation: Operation,
-    slices: [&mut [u32]; 7],
+    slices: [Lent; 7],
     count: usize,
     element: usize,
-    values: &mut [u32; 2],
+    [first, second]: [*mut u32; 2],
 ) -> u32 {
     let [alphabet, rule, table, chapter, marks, replacement, list] = slices;
-    let [first, second] = values;
-    // Each pointer comes from a reference that lives through the call, with that slice's own length, and no two overlap:
-    // this is all that the exported functions ask of a caller.
-    unsafe {
-        match operation {
-            Operation::Compile => haqbylur_compile(
-                alphabet.as_ptr(),
-                alphabet.len(),
-                rule.as_ptr(),
-                rule.len(),
-                table.as_mut_ptr(),
-                table.len(),
-                first,
-            ),
-            Operation::Run => haqbylur_run(
-                alphabet.as_ptr(),
-                alphabet.len(),
-                table.as_ptr(),
-                table.len(),
-                chapter.as_ptr(),
-                chapter.len(),
-                marks.as_mut_ptr(),
-                marks.len(),
-                first,
-                second,
-            ),
-            Operation::List => haqbylur_list(
-                alphabet.as_ptr(),
-                alphabet.len(),
-                table.as_ptr(),
-                table.len(),
-                count,
-                marks.as_ptr(),
-                marks.len(),
-                list.as_mut_ptr(),
-                list.len(),
-                first,
-            ),
-            Operation::Exchange => haqbylur_exchange(
-                alphabet.as_ptr(),
-                alphabet.len(),
-                table.as_ptr(),
-                table.len(),
-                chapter.as_mut_ptr(),
-                chapter.len(),
-                count,
-                marks.as_mut_ptr(),
-                marks.len(),
-                element,
-                replacement.as_ptr(),
-                replacement.len(),
-                first,
-                second,
-            ),
-        }
+    match operation {
+        Operation::Compile => haqbylur_compile(
+            alphabet.first,
+            alphabet.length,
+            rule.first,
+            rule.length,
+            table.first,
+            table.length,
+            first,
+        ),
+        Operation::Run => haqbylur_run(
+            alphabet.first,
+            alphabet.length,
+            table.first,
+            table.length,
+            chapter.first,
+            chapter.length,
+            marks.first,
+            marks.length,
+            first,
+            second,
+        ),
+        Operation::List => haqbylur_list(
+            alphabet.first,
+            alphabet.length,
+            table.first,
+            table.length,
+            count,
+            marks.first,
+            marks.length,
+            list.first,
+            list.length,
+            first,
+        ),
+        Operation::Exchange => haqbylur_exchange(
+            alphabet.first,
+            alphabet.length,
+            table.first,
+            table.length,
+            chapter.first,
+            chapter.length,
+            count,
+            marks.first,
+            marks.length,
+            element,
+            replacement.first,
+            replacement.length,
+            first,
+            second,
+        ),
     }
 }
