@@ -2,6 +2,7 @@
 //! state they leave. Both simulations arrange them in each call, as the library does with the table it is lent.
 
 use peer::kinds;
+use peer::length_word::{table_in, LEAST_WORDS};
 use peer::words::{self, TableWord};
 
 pub struct Transition {
@@ -17,9 +18,10 @@ pub struct Automaton {
 }
 
 impl Automaton {
-    /// Arranges a table that is known to be well-formed.
-    pub fn arrange(alphabet: &[u32], table: &[u32]) -> Automaton {
+    /// Arranges the table at the front of a slice, which is known to be well-formed.
+    pub fn arrange(alphabet: &[u32], slice: &[u32]) -> Automaton {
         let arities = words::arities(alphabet);
+        let table = table_in(slice).expect("a table has a length");
         let Some(TableWord::Head { states, .. }) = TableWord::read(table[0]) else {
             panic!("a table has a head");
         };
@@ -29,7 +31,7 @@ impl Automaton {
             epsilons: vec![Vec::new(); states],
             arities,
         };
-        let mut place = 1;
+        let mut place = LEAST_WORDS;
         while place < table.len() {
             let own = TableWord::read(table[place]).expect("a table word");
             place += 1;

@@ -1,6 +1,7 @@
 //! A table that no rule compiles to: many targets, of which each leads into one long chain of empty moves, and a chapter in
 //! which almost every step is new. A matcher that works out a closure for each target at each node is slow here.
 
+use peer::length_word::with_length_word;
 use peer::words::{entry_word, TableWord};
 
 const CONSTANTS: usize = 8;
@@ -41,7 +42,7 @@ pub fn table() -> (Vec<u32>, Vec<u32>) {
     }
     table.extend((0..targets).map(|from| TableWord::Epsilon { from, to: targets }));
     table.extend((targets..states - 1).map(|from| TableWord::Epsilon { from, to: from + 1 }));
-    (alphabet, table.into_iter().map(TableWord::word).collect())
+    (alphabet, with_length_word(&table))
 }
 
 /// One chain of the unary symbol over each constant, joined by the binary one. The binary nodes stand above each other: a chain is

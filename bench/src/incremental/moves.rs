@@ -2,7 +2,8 @@
 //! each state together, in flat vectors; and the textbook node step over them.
 
 use super::shape::Alphabet;
-use peer::kinds::{self, kind, CHILD, EPSILON, HEAD, TRANSITION};
+use peer::kinds::{self, kind, CHILD, EPSILON, HEAD, LENGTH, TRANSITION};
+use peer::length_word::LEAST_WORDS;
 use peer::limits::{STATE_LIMIT, SYMBOL_LIMIT, TABLE_LIMIT};
 
 pub struct Moves {
@@ -27,14 +28,19 @@ fn high(word: u32) -> u32 {
 }
 
 impl Moves {
-    /// None where document 01 refuses the table by 8.
-    pub fn check(alphabet: &Alphabet, table: &[u32]) -> Option<Moves> {
-        let (head, words) = table.split_first()?;
-        let states = high(*head);
-        if table.len() > TABLE_LIMIT || kind(*head) != HEAD {
+    /// None where the table at the front of the slice is refused by 8.
+    pub fn check(alphabet: &Alphabet, slice: &[u32]) -> Option<Moves> {
+        let [head, length, ..] = *slice else {
+            return None;
+        };
+        // Where spare bits are set or the kind is another, no table is so long.
+        let count = (length ^ kinds::word(LENGTH)) as usize;
+        if kind(head) != HEAD || count > TABLE_LIMIT {
             return None;
         }
-        if states > STATE_LIMIT as u32 || low(*head) >= states {
+        let words = slice.get(LEAST_WORDS..count)?;
+        let states = high(head);
+        if states > STATE_LIMIT as u32 || low(head) >= states {
             return None;
         }
         let mut moves = Moves {
@@ -49,7 +55,7 @@ impl Moves {
         Some(moves)
     }
 
-    /// Checks the words behind the head, and leaves at each symbol and state how many words it will have.
+    /// Checks the words behind head and length, and leaves at each symbol and state how many words it will have.
     fn count(&mut self, alphabet: &Alphabet, words: &[u32], states: u32) -> Option<()> {
         let mut place = 0;
         while place < words.len() {
