@@ -1,5 +1,5 @@
-"""Document 01's words and limits, each number once, for words.py and ./judge. A word has its kind in bits 31..28 and the kind's
-fields below; every other bit is zero."""
+"""Document 01's words and limits and document 02's length word (U1), each number once, for words.py and ./judge. A word has its
+kind in bits 31..28 and the kind's fields below; every other bit is zero."""
 
 # ---- kinds
 
@@ -16,11 +16,13 @@ HEAD = 8
 SYMBOL_MOVE = 9
 EMPTY_MOVE = 10
 PART = 11
+# How many words a table has, as its second word.
+LENGTH = 12
 
-# The bits of each kind's fields. In a word of a table the lowest STATE_BITS are a state.
+# The bits of each kind's fields. In a word of a table, but for its length, the lowest STATE_BITS are a state.
 FIELDS = {
     ENTRY: 0xFF, SYMBOL: 0xFF, EMPTY: 0, UNION: 0, PRODUCT: 0xFF, CLOSURE: 0xFF, ELEMENT: 0xFF,
-    HEAD: 0x1FFFFF, SYMBOL_MOVE: 0x3FFFF, EMPTY_MOVE: 0xFFFFF, PART: 0x3FF,
+    HEAD: 0x1FFFFF, SYMBOL_MOVE: 0x3FFFF, EMPTY_MOVE: 0xFFFFF, PART: 0x3FF, LENGTH: 0xFFF,
 }
 STATE_BITS = 10
 
@@ -69,6 +71,16 @@ def state_in(w):
 def upper_in(w):
     """What stands above the state in a word of a table: the state count, a symbol, or the state that an empty move leaves."""
     return (w & word(1) - 1) >> STATE_BITS
+
+
+def length_word(words):
+    """The second word of a table that has so many words, this one among them."""
+    return word(LENGTH, words)
+
+
+def length_in(w):
+    """The word count in the second word of a table."""
+    return w & FIELDS[LENGTH]
 
 
 def is_of(of_kind, w):

@@ -1,4 +1,4 @@
-/* How much stack each C function takes: it is called on a painted stack with the largest rule (1,024 states, 1,147 table
+/* How much stack each C function takes: it is called on a painted stack with the largest rule (1,024 states, 1,148 table
  * words) and a chapter of 4,089 elements, and with the source's rule. Printed are the bytes below the caller's frame that
  * were written, the return address included; the lowest may lie in the red zone (docs/FIRMWARE.md). What is measured is this
  * build on this machine: no theorem bounds a stack.

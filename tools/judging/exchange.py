@@ -128,7 +128,7 @@ def left_by(call):
     number = refusals.first(refusals.of_exchange(call))
     if number:
         return Left(['refused', number], call.chapter, call.marks)
-    steps = Steps(call.table)
+    steps = Steps(refusals.table_in(call.table))
     tree, start = spliced(call)
     sets, worked_out = recompute(call, steps, start)
     count = call.count[0]

@@ -34,9 +34,10 @@ def answer_text(answer):
     return f'abbrev pub answer : Answer\nanswer = {value}\n'
 
 
+# `table` has the words that are lent, of which the table is the first ones.
 CALL = '''\
 abbrev pub call : ExchangeCall
-call = exchangeCall alphabet table chapter marks count element replacement
+call = exchangeCall alphabet (tableIn table) chapter marks count element replacement
 '''
 
 

@@ -1,7 +1,7 @@
 """Finds the answer that a certificate then has to prove. Nothing here is trusted: the checker computes the definition."""
 
-from document01 import (CLOSURE, EMPTY_MOVE, HEAD, PART, PRODUCT, SYMBOL, SYMBOL_MOVE, UNION, arity, constants, kind, low_byte,
-                        state_in, table_word, upper_in)
+from document01 import (CLOSURE, EMPTY_MOVE, HEAD, PART, PRODUCT, SYMBOL, SYMBOL_MOVE, UNION, arity, constants, kind, length_word,
+                        low_byte, state_in, table_word, upper_in)
 from . import refusals
 from .book import Truncated
 from .postfix import pop, starts_of
@@ -57,20 +57,20 @@ class Automaton:
         return own + [('empty', *move) for move in moves]
 
     def table(self):
-        words = [table_word(HEAD, self.states, self.final)]
+        words = []
         for name, *fields in self.transitions:
             if name == 'empty':
                 words.append(table_word(EMPTY_MOVE, *fields))
             else:
                 words.append(table_word(SYMBOL_MOVE, fields[0], fields[2]))
                 words += [table_word(PART, 0, state) for state in fields[1]]
-        return words
+        return [table_word(HEAD, self.states, self.final), length_word(2 + len(words)), *words]
 
 
 def automaton_of(table):
     """States, final state and transitions of a table's words."""
     transitions = []
-    for word in table[1:]:
+    for word in table[2:]:
         if kind(word) == SYMBOL_MOVE:
             transitions.append(('symbol', upper_in(word), [], state_in(word)))
         elif kind(word) == EMPTY_MOVE:

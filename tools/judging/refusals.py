@@ -1,8 +1,10 @@
-"""Document 01's refusals, each number once: lists of a number and whether its condition holds, in the order in which they are
-judged. A condition is worked out only where none before it holds. Nothing here is trusted: the checker computes the definition."""
+"""The refusals of documents 01 and 02 (U1), each number once: lists of a number and whether its condition holds, in the order in
+which they are judged. A condition is worked out only where none before it holds. Nothing here is trusted: the checker computes
+the definition."""
 
-from document01 import (EMPTY_MOVE, HEAD, MOST_CONSTANTS, MOST_ELEMENTS, MOST_RULE_WORDS, MOST_STATES, MOST_SYMBOLS, MOST_TABLE_WORDS,
-                        PART, SYMBOL_MOVE, arity, constants, is_element, is_entry, is_of, is_rule_word, low_byte, state_in, upper_in)
+from document01 import (EMPTY_MOVE, HEAD, LENGTH, MOST_CONSTANTS, MOST_ELEMENTS, MOST_RULE_WORDS, MOST_STATES, MOST_SYMBOLS,
+                        MOST_TABLE_WORDS, PART, SYMBOL_MOVE, arity, constants, is_element, is_entry, is_of, is_rule_word, length_in,
+                        low_byte, state_in, upper_in)
 from .postfix import one_tree, starts_of
 
 
@@ -81,14 +83,25 @@ def is_tree(alphabet, words):
     return all(is_element(alphabet, word) for word in words) and one_tree(alphabet, words)
 
 
-def is_table(alphabet, table):
-    if outside(len(table), MOST_TABLE_WORDS) or not is_of(HEAD, table[0]):
+def table_in(lent):
+    """The table with which the lent words begin: as many as its second word says. None where that word is missing, or says under
+    2, over the most or more than are lent."""
+    if len(lent) < 2 or not is_of(LENGTH, lent[1]):
+        return None
+    count = length_in(lent[1])
+    return lent[:count] if 2 <= count <= min(MOST_TABLE_WORDS, len(lent)) else None
+
+
+def is_table(alphabet, lent):
+    table = table_in(lent)
+    if table is None or not is_of(HEAD, table[0]):
         return False
-    states = upper_in(table[0])
-    if outside(states, MOST_STATES) or any(state_in(word) >= states for word in table):
+    head, _, *moves = table
+    states = upper_in(head)
+    if outside(states, MOST_STATES) or any(state_in(word) >= states for word in [head, *moves]):
         return False
     sources = 0
-    for word in table[1:]:
+    for word in moves:
         if sources:
             fits = is_of(PART, word)
             sources -= 1
