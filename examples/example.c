@@ -1,4 +1,5 @@
-/* The source's own example through the C interface: Compile, Run and List, and then Exchange of element 4 for d. */
+/* The source's own example through the C interface: Compile, Run and List, and then Exchange of element 4 for d. Its table stands end
+ * to end with another rule's in one image, and each is used from its own first word. */
 #include <stdio.h>
 
 #include "haqbylur.h"
@@ -16,20 +17,29 @@ static const uint32_t rule[] = {
     HAQBYLUR_SYMBOL(A), HAQBYLUR_SYMBOL(B), HAQBYLUR_SYMBOL(F), HAQBYLUR_SYMBOL(C), HAQBYLUR_SYMBOL(G),
     HAQBYLUR_SYMBOL(D), HAQBYLUR_PRODUCT(C), HAQBYLUR_UNION, HAQBYLUR_CLOSURE(D)};
 
+/* The other rule: d h. */
+static const uint32_t other_rule[] = {HAQBYLUR_SYMBOL(D), HAQBYLUR_SYMBOL(H)};
+
 static const uint32_t d[] = {HAQBYLUR_ELEMENT(D)};
 
 /* Chapter a b f d g h f. The slices are lent to the calls. */
 static uint32_t chapter[] = {
     HAQBYLUR_ELEMENT(A), HAQBYLUR_ELEMENT(B), HAQBYLUR_ELEMENT(F), HAQBYLUR_ELEMENT(D),
     HAQBYLUR_ELEMENT(G), HAQBYLUR_ELEMENT(H), HAQBYLUR_ELEMENT(F)};
-static uint32_t table[HAQBYLUR_MOST_COMPILED_WORDS];
+static uint32_t image[2 * HAQBYLUR_MOST_COMPILED_WORDS];
 static uint32_t marks[HAQBYLUR_MARK_WORDS(LENGTH(chapter), HAQBYLUR_MOST_STATES)];
 static uint32_t list[LENGTH(chapter)];
 
-static void print_hits(const char *name, uint32_t words, uint32_t elements)
+/* The length of the slice from a table's first word to the image's end. What follows the table is not read. */
+static size_t rest(const uint32_t *table)
+{
+    return LENGTH(image) - (size_t)(table - image);
+}
+
+static void print_hits(const char *name, const uint32_t *table, uint32_t elements)
 {
     uint32_t hits;
-    uint32_t status = haqbylur_list(alphabet, LENGTH(alphabet), table, words, elements, marks, LENGTH(marks),
+    uint32_t status = haqbylur_list(alphabet, LENGTH(alphabet), table, rest(table), elements, marks, LENGTH(marks),
                                     list, LENGTH(list), &hits);
     if (status != HAQBYLUR_ACCEPTED) {
         printf("%s refused %u\n", name, (unsigned)status);
@@ -43,31 +53,44 @@ static void print_hits(const char *name, uint32_t words, uint32_t elements)
 
 int main(void)
 {
-    uint32_t words, elements, cells, worked_out;
-    uint32_t status = haqbylur_compile(alphabet, LENGTH(alphabet), rule, LENGTH(rule), table, LENGTH(table), &words);
+    const uint32_t *table = image;
+    uint32_t words, other_words, elements, cells, worked_out;
+    uint32_t status = haqbylur_compile(alphabet, LENGTH(alphabet), rule, LENGTH(rule), image, LENGTH(image), &words);
+    if (status != HAQBYLUR_ACCEPTED)
+        return 1;
+    status = haqbylur_compile(alphabet, LENGTH(alphabet), other_rule, LENGTH(other_rule), image + words, LENGTH(image) - words,
+                              &other_words);
     if (status != HAQBYLUR_ACCEPTED)
         return 1;
     printf("compile words %u head 0x%08x\n", (unsigned)words, (unsigned)table[0]);
     printf("mark words %u\n", (unsigned)HAQBYLUR_MARK_WORDS(LENGTH(chapter), HAQBYLUR_STATE_COUNT(table[0])));
 
-    status = haqbylur_run(alphabet, LENGTH(alphabet), table, words, chapter, LENGTH(chapter), marks, LENGTH(marks),
+    status = haqbylur_run(alphabet, LENGTH(alphabet), table, rest(table), chapter, LENGTH(chapter), marks, LENGTH(marks),
                           &elements, &cells);
     if (status != HAQBYLUR_ACCEPTED)
         return 1;
-    print_hits("run", words, elements);
+    print_hits("run", table, elements);
 
-    status = haqbylur_exchange(alphabet, LENGTH(alphabet), table, words, chapter, LENGTH(chapter), elements, marks, LENGTH(marks),
+    status = haqbylur_exchange(alphabet, LENGTH(alphabet), table, rest(table), chapter, LENGTH(chapter), elements, marks, LENGTH(marks),
                                4, d, LENGTH(d), &elements, &worked_out);
     if (status != HAQBYLUR_ACCEPTED)
         return 1;
     printf("exchange worked out %u\n", (unsigned)worked_out);
-    print_hits("exchange", words, elements);
+    print_hits("exchange", table, elements);
 
     /* An element that the chapter does not have. */
-    status = haqbylur_exchange(alphabet, LENGTH(alphabet), table, words, chapter, LENGTH(chapter), elements, marks, LENGTH(marks),
+    status = haqbylur_exchange(alphabet, LENGTH(alphabet), table, rest(table), chapter, LENGTH(chapter), elements, marks, LENGTH(marks),
                                elements, d, LENGTH(d), &elements, &worked_out);
     if (status != HAQBYLUR_NO_ELEMENT)
         return 1;
     printf("exchange refused %u\n", (unsigned)status);
+
+    /* The next table of the image, on the same chapter. */
+    table += HAQBYLUR_TABLE_WORDS(table[1]);
+    printf("next table at word %u\n", (unsigned)(table - image));
+    status = haqbylur_run(alphabet, LENGTH(alphabet), table, rest(table), chapter, elements, marks, LENGTH(marks), &elements, &cells);
+    if (status != HAQBYLUR_ACCEPTED)
+        return 1;
+    print_hits("next table", table, elements);
     return 0;
 }

@@ -14,6 +14,12 @@ HOLDS(unsigned_size, HAQBYLUR_MARK_WORDS(0, 0) - 1 > 0);
 /* the head of the source's table, and the largest */
 HOLDS(source, HAQBYLUR_STATE_COUNT(0x80007418) == 29);
 HOLDS(most, HAQBYLUR_STATE_COUNT(0x80000000 | 0x100000 | 0x3ff) == HAQBYLUR_MOST_STATES);
+/* the length word of the source's table, of the largest compiled table and of the largest, and other words in its place */
+HOLDS(source_words, HAQBYLUR_TABLE_WORDS(0xc0000025) == 37);
+HOLDS(compiled_words, HAQBYLUR_TABLE_WORDS(0xc000047c) == HAQBYLUR_MOST_COMPILED_WORDS);
+HOLDS(table_words, HAQBYLUR_TABLE_WORDS(0xc0000000 | 0x800) / 2 == HAQBYLUR_MOST_TABLE_WORDS / 2);
+HOLDS(other_words, HAQBYLUR_TABLE_WORDS(0xffffffff) == 4095 && HAQBYLUR_TABLE_WORDS(0) == 0);
+HOLDS(table_words_size, sizeof HAQBYLUR_TABLE_WORDS(0) == 4);
 /* the words of document 01's kinds 1 to 7 */
 HOLDS(entry, HAQBYLUR_ENTRY(4) == 0x10000004 && HAQBYLUR_ENTRY(HAQBYLUR_MOST_RANK) / 2 == 0x08000002);
 HOLDS(symbol, HAQBYLUR_SYMBOL(63) == 0x2000003f && HAQBYLUR_SYMBOL(1 ? 2 : 3) == 0x20000002);

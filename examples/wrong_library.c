@@ -1,6 +1,6 @@
 /* A library that is wrong in all four functions, to see the comparison fail (docs/SUPPLIER.md): one table for all rules, a Run
  * that leaves the marks alone, a List that always names none, and an Exchange that changes nothing. None refuses a call but
- * for an empty table slice. */
+ * for a table slice of under two words. */
 #include "haqbylur.h"
 
 uint32_t haqbylur_compile(
@@ -10,10 +10,11 @@ uint32_t haqbylur_compile(
     uint32_t *words)
 {
     (void)alphabet, (void)alphabet_length, (void)rule, (void)rule_length;
-    if (table_length == 0)
+    if (table_length < 2)
         return HAQBYLUR_TABLE_TOO_LONG;
     table[0] = 0x80000400;
-    *words = 1;
+    table[1] = 0xc0000002;
+    *words = 2;
     return HAQBYLUR_ACCEPTED;
 }
 

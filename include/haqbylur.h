@@ -1,4 +1,4 @@
-/* The C interface of the chapter matcher (document 01): Compile, Run, List and Exchange.
+/* The C interface of the chapter matcher (documents 01 and 02): Compile, Run, List and Exchange.
  *
  * All data is 32-bit words. A slice is a pointer and then its length in words; the pointer is aligned, and not null even
  * where the length is 0. Each function returns 0 where the call is accepted, and otherwise document 01's number of the
@@ -12,15 +12,15 @@
 #include <stddef.h>
 #include <stdint.h>
 
-/* The most that document 01 allows. No table that haqbylur_compile writes is longer than HAQBYLUR_MOST_COMPILED_WORDS; the
- * other functions take tables of up to HAQBYLUR_MOST_TABLE_WORDS. */
+/* The most that documents 01 and 02 allow. No table that haqbylur_compile writes is longer than HAQBYLUR_MOST_COMPILED_WORDS; the
+ * other functions take tables of up to HAQBYLUR_MOST_TABLE_WORDS, in slices that may be longer. */
 #define HAQBYLUR_MOST_SYMBOLS 64u
 #define HAQBYLUR_MOST_CONSTANTS 16u
 #define HAQBYLUR_MOST_RANK 4u
 #define HAQBYLUR_MOST_RULE_WORDS 64u
 #define HAQBYLUR_MOST_STATES 1024u
 #define HAQBYLUR_MOST_TABLE_WORDS 2048u
-#define HAQBYLUR_MOST_COMPILED_WORDS 1147u
+#define HAQBYLUR_MOST_COMPILED_WORDS 1148u
 #define HAQBYLUR_MOST_ELEMENTS 4096u
 
 /* What the functions return: accepted, or document 01's number of a refusal. */
@@ -32,7 +32,7 @@
 #define HAQBYLUR_NOT_ONE_RULE 5u     /* some word lacks parts, or not exactly one rule remains */
 #define HAQBYLUR_TOO_MANY_STATES 6u  /* over 1,024 states */
 #define HAQBYLUR_TABLE_TOO_LONG 7u   /* the table slice is shorter than the table */
-#define HAQBYLUR_NO_TABLE 8u         /* the table is not well-formed */
+#define HAQBYLUR_NO_TABLE 8u         /* the slice begins with no well-formed table, or ends before the table does */
 #define HAQBYLUR_WRONG_COUNT 9u      /* 0 or over 4,096 elements, or a used count over the chapter slice */
 #define HAQBYLUR_NO_ELEMENT_WORD 10u /* a word that is no element, or an unknown symbol */
 #define HAQBYLUR_NOT_ONE_TREE 11u    /* no single tree */
@@ -56,8 +56,16 @@
 #define HAQBYLUR_PRODUCT(c) (0x50000000u + (uint32_t)(c))
 #define HAQBYLUR_CLOSURE(c) (0x60000000u + (uint32_t)(c))
 
+/* A table begins with its head, which has the state count, and its length word, which has the table's word count, these two words
+ * included; haqbylur_compile writes both. The other functions take a slice that begins with a table. They use as many of its words as
+ * the length word says, and neither read nor judge what follows: so tables may stand end to end in one image (docs/FIRMWARE.md). */
+
 /* The state count of a table, from its first word. */
 #define HAQBYLUR_STATE_COUNT(head) (((uint32_t)(head) >> 10) & 0x7ffu)
+
+/* The word count of a table, from its second word: in an image the next table begins so many words further on. Only of a table that
+ * haqbylur_compile wrote or another function has accepted; of other words it may be any number up to 4,095, also 0. */
+#define HAQBYLUR_TABLE_WORDS(length_word) ((uint32_t)(length_word) & 0xfffu)
 
 /* How many mark words a chapter of so many elements needs with a table of so many states: elements times S, where S is the
  * state count divided by 32, rounded up. For HAQBYLUR_MOST_ELEMENTS and HAQBYLUR_MOST_STATES it is 131,072. */
@@ -67,15 +75,16 @@
 extern "C" {
 #endif
 
-/* Turns an alphabet and a rule into a table. words: the table's word count. Refusals 1 to 7. */
+/* Turns an alphabet and a rule into a table, and leaves the words of the slice behind the table as they are. The slice may then be
+ * given to the other functions as it is. words: the table's word count, as in its length word. Refusals 1 to 7. */
 uint32_t haqbylur_compile(
     const uint32_t *alphabet, size_t alphabet_length,
     const uint32_t *rule, size_t rule_length,
     uint32_t *table, size_t table_length,
     uint32_t *words);
 
-/* Marks a chapter with the states that each subtree reaches. elements: the element count; cells: the number of ones in all
- * marks of the chapter. Refusals 1, 2, 8 to 12. */
+/* Marks a chapter with the states that each subtree reaches, by the table with which the table slice begins. elements: the element
+ * count; cells: the number of ones in all marks of the chapter. Refusals 1, 2, 8 to 12. */
 uint32_t haqbylur_run(
     const uint32_t *alphabet, size_t alphabet_length,
     const uint32_t *table, size_t table_length,
@@ -85,7 +94,7 @@ uint32_t haqbylur_run(
     uint32_t *cells);
 
 /* Names the hits of a marked chapter of `count` elements, in ascending order: the elements whose whole subtree belongs to the rule's
- * language. hits: how many there are. Refusals 1, 2, 8, 9, 12, 13. */
+ * language. The table slice begins with the table that marked it. hits: how many there are. Refusals 1, 2, 8, 9, 12, 13. */
 uint32_t haqbylur_list(
     const uint32_t *alphabet, size_t alphabet_length,
     const uint32_t *table, size_t table_length,
@@ -94,8 +103,8 @@ uint32_t haqbylur_list(
     uint32_t *list, size_t list_length,
     uint32_t *hits);
 
-/* Replaces the subtree of an element in a marked chapter of `count` used elements. elements: the new element count;
- * worked_out: the number of elements worked out. Refusals 1, 2, 8 to 12, 14 to 16. */
+/* Replaces the subtree of an element in a marked chapter of `count` used elements. The table slice begins with the table that marked
+ * it. elements: the new element count; worked_out: the number of elements worked out. Refusals 1, 2, 8 to 12, 14 to 16. */
 uint32_t haqbylur_exchange(
     const uint32_t *alphabet, size_t alphabet_length,
     const uint32_t *table, size_t table_length,
