@@ -1,1 +1,2 @@
 pub mod ConstantScanLaws
+pub mod RankLaws

@@ -7,6 +7,7 @@ ghost use Rattle.words.specs.Word.{nodeKind, kindOf, lowByte};
 ghost use Rattle.words.specs.Limits.{alphabetMost};
 ghost use Rattle.words.specs.Alphabet.{isEntry, isConstant, rankOf, constantsOf, noAlphabet, alphabetFault};
 ghost use Rattle.words.specs.Postfix.{arity};
+ghost use Rattle.alphabet.specs.Ranks.{RanksWritten};
 use words::limits::ALPHABET_MOST;
 use words::limits::CONSTANTS_MOST;
 use words::limits::RANK_MOST;
@@ -31,6 +32,17 @@ fn symbol_rank(alphabet: &[u32], w: u32) -> usize
     ensures { λ r. ⌜ r ≡ rankOf (now (alphabet .entry)) (lowByte w) ⌝ }
 {
     rank(alphabet, (w % SYMBOL_RANGE) as usize)
+}
+
+// Writes the ranks of the alphabet's symbols into the list, as far as it reaches, each at its symbol's number.
+pub fn write_ranks(alphabet: &[u32], ranks: &mut [u32])
+    ensures { λ _. ⌜ RanksWritten (now (alphabet .entry)) (now (ranks .entry)) (now (ranks .exit)) ⌝ }
+{
+    let mut symbol = 0;
+    while symbol < alphabet.len() && symbol < ranks.len() {
+        ranks[symbol] = alphabet[symbol] % SYMBOL_RANGE;
+        symbol += 1;
+    }
 }
 
 // How many children a node takes. It decodes no kind: those who read a chapter again and again know that its words are nodes.

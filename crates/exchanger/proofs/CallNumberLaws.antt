@@ -7,7 +7,7 @@ use native.Mathlib.Omega.{arith}
 use native.Mathlib.Nat.{add-mul, one-mul}
 use lib.ListN.{length, take}
 use lib.Seq.{slice, length-take-le}
-use Rattle.words.specs.Postfix.{arity, startOf}
+use Rattle.words.specs.Postfix.{arity, spanOf}
 use Rattle.words.proofs.PostfixLaws.{start-le, splice-count}
 use Rattle.operations.specs.Marks.{sizeOf, refit}
 use Rattle.operations.specs.ExchangeCall.{ExchangeCall}
@@ -64,7 +64,7 @@ module _ (c : ExchangeCall) (ok : fault c ≡ 0) where
   pub length-used : length (used c) ≡ c .count
   length-used = length-take-le (c .count) (c .chapter) (g .count .within)
 
-  module _ (s : ℕ) (qs : s ≡ startOf (c .alphabet) (used c) (c .element)) (size : ℕ) (qz : size ≡ sizeOf (c .table)) where
+  module _ (s : ℕ) (qs : s ≡ spanOf (c .alphabet) (used c) (c .element) .start) (size : ℕ) (qz : size ≡ sizeOf (c .table)) where
     pub call-numbers : CallNumbers c s size
     unfolding sizeOf newTree
     call-numbers =

@@ -11,7 +11,7 @@ use lib.ListN.{length, take, drop, length-append, List·getD-append}
 use lib.Seq.{slice, length-take-le, take-at, drop-at, drop-append-add, take-append-add}
 use Rattle.words.specs.Lists.{listFrom}
 use Rattle.words.specs.Shape.{spliceBy}
-use Rattle.words.specs.Postfix.{arity, oneTree, startOf, isAncestor, splice, values, stackAfter, stackGiven, rootsOf}
+use Rattle.words.specs.Postfix.{arity, oneTree, spanOf, isAncestor, splice, values, stackAfter, stackGiven, rootsOf}
 use Rattle.words.proofs.TestLaws.{Tested, holds, fails, tested}
 use Rattle.words.proofs.ListLaws.{map-append, length-listFrom, getD-listFrom}
 use Rattle.words.proofs.PostfixLaws.{start-le, length-splice}
@@ -30,7 +30,7 @@ use Rattle.exchanger.proofs.PropagateSets.{propagateSets, propagateSets
 
 module _ (a table : List ℕ) (stored : ℕ → StateSet) (ch : List ℕ) (element : ℕ) (x : List ℕ) (gap : List StateSet) where
   abbrev s : ℕ
-  s = startOf a ch element
+  s = spanOf a ch element .start
 
   abbrev behind : List ℕ
   behind = drop (element + 1) ch

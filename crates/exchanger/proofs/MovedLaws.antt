@@ -10,13 +10,13 @@ use lib.ListN.{length, take, drop, replicate, length-drop}
 use lib.Seq.{slice}
 use Rattle.words.specs.Lists.{listFrom}
 use Rattle.words.proofs.ListLaws.{listFrom-add}
+use Rattle.words.proofs.ScanLaws.{take-drop}
 use Rattle.automaton.specs.StateSet.{StateSet}
 use Rattle.operations.specs.Marks.{sizeOf, refit}
 use Rattle.operations.specs.ExchangeCall.{ExchangeCall}
 use Rattle.operations.specs.Exchange.{used, fault, storedIn}
 use Rattle.operations.specs.Recomputation.{startIn}
 use Rattle.operations.proofs.MarksLaws.{Sized, sized-append}
-use Rattle.slices.proofs.RefitLaws.{take-drop}
 use Rattle.sets.proofs.RowLaws.{sized-stored, flatten-stored}
 use Rattle.nodes.proofs.MarkLaws.{MarksHolding}
 use Rattle.exchanger.proofs.ExchangeLoops.{movedSets}

@@ -11,7 +11,7 @@ use tables::length::table_word_count;
 mod subtree;
 mod tail;
 
-// The answer: the new element count and the number of nodes worked out, or document 01's number of a refusal.
+// The answer: the new element count and the number of nodes worked out, or the documents' number of a refusal.
 pub enum Exchanged {
     Replaced(usize, usize),
     Refused(u32),
@@ -49,17 +49,20 @@ pub fn exchange(
 {
     let words = table_word_count(table_slice);
     let table = &table_slice[..words];
-    let fault = exchange_fault(
+    let room = marks.len();
+    let judged = exchange_fault(alphabet, table, chapter, count, room, element, replacement);
+    if judged.fault != 0 {
+        return Exchanged::Refused(judged.fault);
+    }
+    let start = judged.start;
+    replace_subtree(
         alphabet,
         table,
         chapter,
         count,
-        marks.len(),
+        marks,
         element,
+        start,
         replacement,
-    );
-    if fault != 0 {
-        return Exchanged::Refused(fault);
-    }
-    replace_subtree(alphabet, table, chapter, count, marks, element, replacement)
+    )
 }

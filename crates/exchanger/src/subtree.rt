@@ -2,16 +2,17 @@
 // replacement's nodes are worked out, and then ancestors, nearest first; no other node is.
 ghost use mathlib.Core.Path.{_≡_};
 ghost use Rattle.operations.specs.ExchangeCall.{exchangeCall};
-ghost use Rattle.operations.specs.Exchange.{fault as Exchange·fault, exchangeAnswer, exchangeChapter, exchangeMarks};
+ghost use Rattle.operations.specs.Exchange.{exchangeAnswer, exchangeChapter, exchangeMarks};
 ghost use Rattle.exchanger.specs.ExchangeAnswer.{answerInExchanged};
+ghost use Rattle.exchanger.specs.Replaceable.{Replaceable};
 use super::Exchanged;
 use super::tail::move_tail;
 use slices::moves::copy_words;
-use syntax::postfix::subtree_start;
 use tables::head::set_size;
 use updates::update_marks;
 
-// An accepted call. The old element's words move to the place of the replacement's root, which is then compared with them.
+// An accepted call; the element's subtree begins at `start`. The old element's words move to the place of the replacement's root, which
+// is then compared with them.
 pub(crate) fn replace_subtree(
     alphabet: &[u32],
     table: &[u32],
@@ -19,9 +20,10 @@ pub(crate) fn replace_subtree(
     count: usize,
     marks: &mut [u32],
     element: usize,
+    start: usize,
     replacement: &[u32],
 ) -> Exchanged
-    requires { ⌜ Exchange·fault (exchangeCall (now alphabet) (now table) (now chapter) (now marks) count element (now replacement)) ≡ 0 ⌝ }
+    requires { ⌜ Replaceable (exchangeCall (now alphabet) (now table) (now chapter) (now marks) count element (now replacement)) start ⌝ }
     ensures answer { λ r. ⌜
         answerInExchanged r
         ≡ exchangeAnswer
@@ -42,7 +44,6 @@ pub(crate) fn replace_subtree(
         ⌝ }
 {
     let size = set_size(table);
-    let start = subtree_start(alphabet, &chapter[..count], element);
     let behind = start + replacement.len();
     let root = behind - 1;
     let total = behind + (count - element - 1);

@@ -3,7 +3,7 @@
 use Prim.Native.Nat.{ℕ}
 use Rattle.words.specs.Answer.{Answer, refused, accepted}
 
--- 0 for an accepted call, and otherwise document 01's number of the refusal
+-- 0 for an accepted call, and otherwise the documents' number of the refusal
 abbrev pub statusOf : Answer → ℕ
 statusOf (refused number) = number
 statusOf (accepted values) = 0

@@ -1,5 +1,5 @@
 // The C interface: Compile, Run, List and Exchange over slices of words. A slice is a pointer and then a length; each
-// function returns 0 or document 01's number, and writes its out-parameters only where it accepts. `include/haqbylur.h`
+// function returns 0 or the documents' number, and writes its out-parameters only where it accepts. `include/haqbylur.h`
 // declares them for C.
 ghost use mathlib.Core.Path.{_≡_};
 ghost use Rattle.words.specs.Answer.{valueOr};

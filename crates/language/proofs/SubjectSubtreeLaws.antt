@@ -9,7 +9,7 @@ use lib.ListN.{length, getD, take, drop, take-append-drop}
 use Rattle.words.specs.Lists.{all}
 use Rattle.words.specs.Word.{nodeKind, wordOf}
 use Rattle.words.specs.Tree.{Tree, Trees, node, none, more}
-use Rattle.words.specs.Postfix.{arity, oneTree, startOf, subtreeOf, values}
+use Rattle.words.specs.Postfix.{arity, oneTree, spanOf, subtreeOf, values}
 use Rattle.words.specs.Chapter.{symbolOf, isNode}
 use Rattle.words.specs.ExactlyOne.{ExactlyOne}
 use Rattle.words.specs.Limits.{alphabetMost}
@@ -27,8 +27,8 @@ subtree-nodes : (a ch : List ℕ) (i : ℕ) → all (isNode a) ch ≡ true → a
 subtree-nodes a ch i h =
     let l : all (isNode a) (take (i + 1) ch) ≡ true =
     all-left (isNode a) (take (i + 1) ch) (drop (i + 1) ch) (rw (take-append-drop (i + 1) ch) h) in
-    all-right (isNode a) (take (startOf a ch i) (take (i + 1) ch)) (subtreeOf a ch i)
-    (rw (take-append-drop (startOf a ch i) (take (i + 1) ch)) l)
+    all-right (isNode a) (take (spanOf a ch i .start) (take (i + 1) ch)) (subtreeOf a ch i)
+    (rw (take-append-drop (spanOf a ch i .start) (take (i + 1) ch)) l)
 
 module _ (a : List ℕ) (m : length a ≤ alphabetMost) where
   pub exactly-one-subtree : (ch : List ℕ) (i : ℕ) → all (isNode a) ch ≡ true → oneTree a ch ≡ true → i < length ch

@@ -4,7 +4,7 @@ use mathlib.Core.List.{List, [], _∷_, _++_, append-nil, append-assoc}
 use Prim.Native.Nat.{ℕ, _+_, _-_, _≤_}
 use lib.ListN.{length, getD, List·getD-eq-default}
 use Rattle.words.specs.Chapter.{symbolOf}
-use Rattle.words.specs.Postfix.{startOf}
+use Rattle.words.specs.Postfix.{spanOf}
 use Rattle.encoding.specs.Decimal.{field}
 use Rattle.encoding.specs.ByteWriting.{BytesWritten}
 use Rattle.encoding.proofs.ByteWritingLaws.{bytes-written-more, MembersWritten, members-written-none}
@@ -27,7 +27,7 @@ module _ {out o₁ o₂ o₃ o₄ o₅ o₆ : List ℕ} {n₁ n₂ n₃ n₄ n�
       bytes-written-more (bytes-written-more (bytes-written-more (bytes-written-more (bytes-written-more p q) s) t) u) v
 
 module _ {out o₁ o₂ o₃ : List ℕ} {at n₁ n₂ r : ℕ} (a ch : List ℕ) (i : ℕ) where
-  pub hit-written : (symbol start : ℕ) → symbol ≡ symbolOf (getD ch i 0) → start ≡ startOf a ch i
+  pub hit-written : (symbol start : ℕ) → symbol ≡ symbolOf (getD ch i 0) → start ≡ spanOf a ch i .start
       → BytesWritten at (field i space) out o₁ n₁ → BytesWritten n₁ (field symbol space) o₁ o₂ n₂
       → BytesWritten n₂ (field (i + 1 - start) newline) o₂ o₃ r
       → BytesWritten at (hitLine a ch i) out o₃ r

@@ -3,7 +3,7 @@ use Prim.Native.Nat.{ℕ, _+_, _-_}
 use mathlib.Core.List.{List, [], _∷_, _++_}
 use lib.ListN.{getD}
 use Rattle.words.specs.Chapter.{symbolOf}
-use Rattle.words.specs.Postfix.{startOf}
+use Rattle.words.specs.Postfix.{spanOf}
 use Rattle.encoding.specs.Decimal.{field}
 
 -- ---- texts, in ASCII
@@ -41,7 +41,7 @@ headLine nodes states hits = nodesText ++ field nodes space ++ statesText ++ fie
 
 -- "for each hit the element, its symbol and its subtree's element count"; the subtree ends at the element
 unfoldable pub hitLine : List ℕ → List ℕ → ℕ → List ℕ
-hitLine a ch i = field i space ++ field (symbolOf (getD ch i 0)) space ++ field (i + 1 - startOf a ch i) newline
+hitLine a ch i = field i space ++ field (symbolOf (getD ch i 0)) space ++ field (i + 1 - spanOf a ch i .start) newline
 
 unfoldable pub hitLines : List ℕ → List ℕ → List ℕ → List ℕ
 hitLines a ch [] = []

@@ -1,13 +1,15 @@
 // Writers of the lines that `marklist` prints.
 ghost use mathlib.Core.Path.{_≡_};
 ghost use mathlib.Core.List.{_++_};
+ghost use Prim.Native.Nat.{_≤_};
 ghost use lib.ListN.{length, getD};
+ghost use Rattle.words.specs.Limits.{nodesMost};
 ghost use Rattle.words.specs.Chapter.{symbolOf};
 ghost use Rattle.encoding.specs.ByteWriting.{BytesWritten};
 ghost use Rattle.lines.specs.Line.{refusedLine, headLine, hitLine, hitLines};
 use encoding::byte_writer::write_field;
 use encoding::byte_writer::write_text;
-use syntax::postfix::subtree_start;
+use syntax::postfix::subtree_span;
 use words::word::SYMBOL_RANGE;
 
 // The line `refused N`.
@@ -42,10 +44,12 @@ fn symbol_of(chapter: &[u32], node: usize) -> usize
 
 // The line of one hit: the element, its symbol and its subtree's element count.
 fn write_hit(out: &mut [u8], at: usize, alphabet: &[u32], chapter: &[u32], hit: u32) -> usize
+    requires { ⌜ length (now chapter) ≤ nodesMost ⌝ }
     ensures { λ r. ⌜ BytesWritten at (hitLine (now (alphabet .entry)) (now (chapter .entry)) hit) (now (out .entry)) (now (out .exit)) r ⌝ }
 {
     let node = hit as usize;
-    let size = node + 1 - subtree_start(alphabet, chapter, node);
+    let span = subtree_span(alphabet, chapter, node);
+    let size = node + 1 - span.start;
     let mut next = write_field(out, at, node, b' ');
     next = write_field(out, next, symbol_of(chapter, node), b' ');
     write_field(out, next, size, b'\n')
@@ -59,6 +63,7 @@ pub fn write_lines(
     states: usize,
     hits: &[u32],
 ) -> usize
+    requires { ⌜ length (now chapter) ≤ nodesMost ⌝ }
     ensures { λ r. ⌜
         BytesWritten 0
         (headLine (length (now (chapter .entry))) states (length (now (hits .entry)))

@@ -14,10 +14,10 @@ use Rattle.words.specs.Lists.{AllBelow}
 use Rattle.words.specs.Limits.{nodesMost, rankMost}
 use Rattle.words.proofs.ListLaws.{map-drop, drop-reverse}
 use Rattle.words.proofs.AllLaws.{each-drop, each-getD, below-more, each-append}
+use Rattle.words.proofs.ScanLaws.{take-drop}
 use Rattle.automaton.specs.Transition.{automatonOf}
 use Rattle.automaton.specs.StateSet.{StateSet, stateSet}
 use Rattle.operations.specs.Marks.{sizeOf, storedSet}
-use Rattle.slices.proofs.RefitLaws.{take-drop}
 use Rattle.sets.proofs.StoredLaws.{row-inside, stored-written}
 use Rattle.closures.proofs.FollowLaws.{states-most}
 use Rattle.step.specs.NodeSteppable.{RowsInside, NodeSteppable}

@@ -5,11 +5,11 @@ use Prim.Native.Nat.{ℕ, suc, _+_, _-_, _<_, _≤_}
 use native.Mathlib.Omega.{arith}
 use native.Mathlib.Numerals.{add-one}
 use lib.ListN.{length, getD, take, drop, set, replicate, length-append, length-drop, length-reverse, length-set}
-use lib.Seq.{length-take-le, take-take, take-suc-set, take-append-add}
+use lib.Seq.{length-take-le, take-append-add}
 use Rattle.words.specs.Shape.{stackGivenBy}
 use Rattle.words.specs.Postfix.{arity, rootsOf}
 use Rattle.words.proofs.AcceptedTree.{tree-accepted}
-use Rattle.words.proofs.ListLaws.{map-append, map-take, take-reverse}
+use Rattle.words.proofs.ListLaws.{map-append, map-take, take-reverse, take-pushed-at}
 use Rattle.words.proofs.ChildLaws.{roots-more, roots-below, arity-fits, roots-few}
 use Rattle.words.proofs.AllLaws.{map-below, below-more, each-append, each-take, each-reverse}
 use Rattle.automaton.specs.StateSet.{StateSet}
@@ -26,9 +26,9 @@ held-push array height nodes r x g fits inside =
     let place : height - r ≡ stackBase + (length nodes - r) = omega (arith, g .height-is) in
     record {
       words =
-          ap (λ (k : ℕ). take k (set array (height - r) x)) (add-one (height - r)) ∙ take-suc-set array (height - r) x (omega arith)
+          take-pushed-at array height (height - r) x (g .words) (omega arith) (omega arith)
           ∙ ap (λ (l : List ℕ). l ++ x ∷ [])
-          (sym (take-take (height - r) height array (omega arith)) ∙ ap₂ (λ (k : ℕ) (l : List ℕ). take k l) place (g .words)
+          (ap (λ (k : ℕ). take k (replicate stackBase 0 ++ nodes)) place
           ∙ take-append-add (replicate stackBase 0) nodes (length nodes - r))
           ∙ append-assoc (replicate stackBase 0) left (x ∷ []);
       height-is = omega (arith, place, length-append left (x ∷ []), length-take-le (length nodes - r) nodes (omega arith));

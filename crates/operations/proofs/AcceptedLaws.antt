@@ -12,7 +12,7 @@ use Rattle.words.specs.Limits.{statesMost, nodesMost}
 use Rattle.words.specs.Refusal.{refusal, someHolds}
 use Rattle.words.specs.Alphabet.{alphabetRefusals, alphabetFault}
 use Rattle.words.specs.ExpressionWords.{expressionRefusals, expressionFault}
-use Rattle.words.specs.Chapter.{treeRefusals, treeFault}
+use Rattle.words.specs.Chapter.{treeRefusals, treeFault, tooHigh}
 use Rattle.words.specs.Postfix.{splice}
 use Rattle.words.proofs.TestLaws.{or-false}
 use Rattle.words.proofs.LimitLaws.{Within, not-outside, is-within}
@@ -126,6 +126,8 @@ module _ (table : List ℕ) (n marksLength : ℕ) where
 pub record MarkedAccepted (a table : List ℕ) (n : ℕ) (ch : List ℕ) (marksLength : ℕ) : Type 0 where
   -- 10 11
   pub tree : treeFault a ch ≡ 0
+  -- 24
+  pub low : tooHigh a ch ≡ false
   -- 12
   pub marks : n * sizeOf table ≤ marksLength
 
@@ -135,6 +137,7 @@ module _ (a table : List ℕ) (n : ℕ) (ch : List ℕ) (marksLength : ℕ) wher
       let rs = markedRefusals a table n ch marksLength in
       record {
         tree = part-passes rs refl h (treeRefusals a ch) refl;
+        low = none-applies rs refl h 24;
         marks = marks-fit table n marksLength (none-applies rs refl h 12);
       }
 
@@ -142,7 +145,8 @@ module _ (a table : List ℕ) (n : ℕ) (ch : List ℕ) (marksLength : ℕ) wher
   accepted-marked g =
       sym
       (found-refusal (markedRefusals a table n ch marksLength)
-      (passes (treeRefusals a ch) refl (sym (g .tree)) refl (next (fit-marks table n marksLength (g .marks)) none)))
+      (passes (treeRefusals a ch) refl (sym (g .tree)) refl
+      (next (g .low) (next (fit-marks table n marksLength (g .marks)) none))))
 
 -- ---- a change
 
@@ -163,7 +167,7 @@ pub record ResultFits (table : List ℕ) (n chapterLength marksLength : ℕ) : T
   pub elements : n ≤ chapterLength
   pub marks : n * sizeOf table ≤ marksLength
 
-result-right : (table : List ℕ) (n chapterLength marksLength : ℕ) → resultTooLong table n chapterLength marksLength ≡ false
+pub result-right : (table : List ℕ) (n chapterLength marksLength : ℕ) → resultTooLong table n chapterLength marksLength ≡ false
     → ResultFits table n chapterLength marksLength
 unfolding resultTooLong
 result-right table n chapterLength marksLength h =
@@ -182,6 +186,8 @@ pub record ChangeAccepted (a table : List ℕ) (n : ℕ) (used : List ℕ) (chap
   pub replacement : Replacement a xs
   -- 16
   pub fits : ResultFits table (length (splice a used i xs)) chapterLength marksLength
+  -- 24
+  pub low : tooHigh a (splice a used i xs) ≡ false
 
 change-accepted : (a table : List ℕ) (n : ℕ) (used : List ℕ) (chapterLength marksLength i : ℕ) (xs : List ℕ)
     → refusal (changeRefusals a table n used chapterLength marksLength i xs) ≡ 0
@@ -194,6 +200,7 @@ change-accepted a table n used chapterLength marksLength i xs h =
       element = ltb-true i n (not-false (ltb i n) (not-so 14));
       replacement = replacement-right a xs (not-so 15);
       fits = result-right table (length (splice a used i xs)) chapterLength marksLength (not-so 16);
+      low = not-so 24;
     }
 
 -- ---- Run
@@ -203,7 +210,7 @@ pub record RunAccepted (a table p : List ℕ) (marksLength : ℕ) : Type 0 where
   pub checked : TableAccepted a table
   -- 9
   pub counted : Within nodesMost (length p)
-  -- 10 11 12
+  -- 10 11 24 12
   pub marked : MarkedAccepted a table (length p) p marksLength
 
 module _ (a table p : List ℕ) (marksLength : ℕ) where
@@ -268,9 +275,9 @@ pub record ExchangeAccepted (a table : List ℕ) (n : ℕ) (used : List ℕ) (ch
   pub checked : TableAccepted a table
   -- 9
   pub count : UsedCount n chapterLength
-  -- 10 11 12
+  -- 10 11 24 12
   pub marked : MarkedAccepted a table n used marksLength
-  -- 14 15 16
+  -- 14 15 16 24
   pub change : ChangeAccepted a table n used chapterLength marksLength i xs
 
 pub exchange-accepted : (a table : List ℕ) (n : ℕ) (used : List ℕ) (chapterLength marksLength i : ℕ) (xs : List ℕ)

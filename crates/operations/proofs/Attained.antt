@@ -6,10 +6,11 @@ use mathlib.Core.List.{List, [], _∷_, _++_, map}
 use lib.ListN.{replicate}
 use Rattle.words.specs.Word.{kindAt, spareBitsClear, isOf}
 use Rattle.words.specs.Alphabet.{isEntry, rankOf, isConstant, constantsFrom, constantsOf, noAlphabet, wrongConstants}
-use Rattle.words.specs.Shape.{treesBy, startFromBy, spliceBy}
+use Rattle.words.specs.Lists.{highest}
+use Rattle.words.specs.Shape.{treesBy, valueOnBy, stackAfterBy, heightOver, heightOfBy, startFromBy, spliceBy}
 use Rattle.words.specs.Postfix.{arity, notOneTree}
 use Rattle.words.specs.ExpressionWords.{isExpressionWord, wrongLength, notExpressionWords}
-use Rattle.words.specs.Chapter.{isNode, notNodes}
+use Rattle.words.specs.Chapter.{isNode, notNodes, tooHigh}
 use Rattle.words.specs.Answer.{Answer, refused}
 use Rattle.automaton.specs.Transition.{automatonOf}
 use Rattle.automaton.specs.Numbering.{hasEntries, statesOf, portOf, ownTransitions, portsFrom, statesAfter, transitionsFrom, compiled}
@@ -40,6 +41,10 @@ answerTo (exchange a tableSlice ch marks n i xs) = exchangeAnswer (exchangeCall 
 abbrev two : List ℕ
 two = 0x1000_0000 ∷ 0x1000_0002 ∷ []
 
+-- a constant 0 and a symbol 1 of rank 1
+abbrev line : List ℕ
+line = 0x1000_0000 ∷ 0x1000_0001 ∷ []
+
 abbrev sixteen : List ℕ
 sixteen = replicate 16 0x1000_0000
 
@@ -56,6 +61,10 @@ leaf = 0x7000_0000
 
 abbrev pair : ℕ
 pair = 0x7000_0001
+
+-- a leaf and n nodes above it, over the alphabet `line`
+abbrev above : ℕ → List ℕ
+above n = leaf ∷ replicate n 0x7000_0001
 
 abbrev pub calls : List (ℕ × Called)
 calls =
@@ -81,6 +90,10 @@ calls =
     ∷ (9, run two one (replicate 4097 0x6000_0000) [])
     ∷ (10, run two one (0x6000_0000 ∷ []) [])
     ∷ (11, run two one (pair ∷ []) [])
+    -- of height 513, where 12 holds too, and where nothing else does
+    ∷ (24, run line one (above 512) [])
+    ∷ (24, run line one (above 512) (replicate 513 0))
+    ∷ (12, run line one (above 511) [])
     ∷ (12, run two one (leaf ∷ []) [])
     ∷ (1, list (0x1000_0005 ∷ []) [] 0 [] [])
     ∷ (2, list (replicate 17 0x1000_0000) [] 0 [] [])
@@ -96,16 +109,25 @@ calls =
     ∷ (9, exchange two longer [] [] 0 0 [])
     ∷ (10, exchange two one (0x6000_0000 ∷ []) [] 1 1 [])
     ∷ (11, exchange two one (leaf ∷ leaf ∷ []) [] 2 2 [])
+    -- a used chapter of height 513, where 12, 14 and 15 hold too, and where nothing else does: the result is a leaf
+    ∷ (24, exchange line one (above 512) [] 513 513 [])
+    ∷ (24, exchange line one (above 512) (replicate 513 0) 513 512 (leaf ∷ []))
+    -- the result is too high, too
+    ∷ (24, exchange line one (above 512 ++ 0 ∷ []) (replicate 514 0) 513 0 (above 1))
+    ∷ (12, exchange line one (above 511) [] 512 0 (leaf ∷ []))
     ∷ (12, exchange two one (leaf ∷ []) [] 1 1 [])
     ∷ (14, exchange two one (leaf ∷ []) (0 ∷ []) 1 1 (leaf ∷ leaf ∷ []))
     ∷ (15, exchange two one (leaf ∷ []) (0 ∷ []) 1 0 (leaf ∷ leaf ∷ []))
     ∷ (16, exchange two one (leaf ∷ []) (0 ∷ []) 1 0 (leaf ∷ leaf ∷ pair ∷ []))
+    -- a result of height 513 that is too long, too, and where nothing else holds
+    ∷ (16, exchange line one (above 511) (replicate 513 0) 512 0 (above 1))
+    ∷ (24, exchange line one (above 511 ++ 0 ∷ []) (replicate 513 0) 512 0 (above 1))
     ∷ []
 
 -- each answers its number
 pub attained : map (λ r. answerTo (r .1)) calls ≡ map (λ r. refused (r .0)) calls
 unfolding kindAt spareBitsClear isOf isEntry rankOf isConstant constantsFrom constantsOf noAlphabet wrongConstants arity treesBy notOneTree
-    startFromBy spliceBy
+    valueOnBy stackAfterBy heightOver highest heightOfBy tooHigh startFromBy spliceBy
     isExpressionWord wrongLength notExpressionWords isNode notNodes automatonOf hasEntries statesOf portOf ownTransitions portsFrom
     statesAfter transitionsFrom
     compiled tableWordCount tableIn isHead isTableWord sourcesLeft areTransitions isTable noTable sizeFor tooManyStates tableTooLong

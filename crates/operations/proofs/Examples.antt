@@ -9,10 +9,12 @@ use lib.ListN.{length, getD, replicate, set}
 use lib.Count.{ones, onesIn}
 use Rattle.words.specs.Word.{kindAt, spareBitsClear, isOf}
 use Rattle.words.specs.Alphabet.{isEntry, rankOf, isConstant, constantsFrom, constantsOf, noAlphabet, wrongConstants}
-use Rattle.words.specs.Shape.{treesBy, startFromBy, isAncestorBy, spliceBy, valueOnBy, valuesBy, stackAfterBy, stackGivenBy}
-use Rattle.words.specs.Postfix.{arity, notOneTree, startOf}
+use Rattle.words.specs.Lists.{highest}
+use Rattle.words.specs.Shape.{treesBy, valueOnBy, valuesBy, stackAfterBy, heightOver, heightOfBy, startFromBy, isAncestorBy, spliceBy}
+use Rattle.words.specs.Shape.{stackGivenBy}
+use Rattle.words.specs.Postfix.{arity, notOneTree, spanOf}
 use Rattle.words.specs.ExpressionWords.{isExpressionWord, wrongLength, notExpressionWords}
-use Rattle.words.specs.Chapter.{symbolOf, isNode, notNodes}
+use Rattle.words.specs.Chapter.{symbolOf, isNode, notNodes, tooHigh}
 use Rattle.words.specs.Tree.{Tree}
 use Rattle.words.specs.Answer.{Answer, refused, accepted, valueOr}
 use Rattle.language.specs.Expression.{Expression, empty, union, product, closure}
@@ -74,7 +76,7 @@ pub record ListingRow (al e ch : List ℕ) (states words head : ℕ) (lines : Li
   pub runs : runFault al (compiledTable al e) ch (length ch) ≡ 0
   -- each hit with its symbol and its subtree's element count
   pub hits :
-      map (λ i. (i, symbolOf (getD ch i 0), i + 1 - startOf al ch i))
+      map (λ i. (i, symbolOf (getD ch i 0), i + 1 - spanOf al ch i .start))
       (matchesOf (compiledTable al e) (length ch) (runMarks al (compiledTable al e) ch (replicate (length ch) 0)))
       ≡ lines
 
@@ -226,7 +228,7 @@ unfolding kindAt spareBitsClear isOf isEntry rankOf isConstant constantsFrom con
     automatonOf sizeFor contains insert allContained symbolPass epsilonPass epsilonClosure stateSet sizeOf finalOf nodeSet nodeSets valuesBy
     valueOnBy runMarks cellsIn runAnswer runExit storedSet startFromBy
     matchesIn matchesOf spliceBy isAncestorBy stackAfterBy stackGivenBy sameWords refit wrongUsedCount noElement noReplacement resultTooLong
-    recomputedIn propagate rootSet
+    recomputedIn propagate rootSet highest heightOver heightOfBy tooHigh
     outcomesBehind outcomesAfter fault newTree outcomes exchangeAnswer exchangeChapter exchangeMarks
 examples = (
   record { compiles = refl; stateCount = refl; wordCount = refl; headIs = refl; runs = refl; hits = refl },

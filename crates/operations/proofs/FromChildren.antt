@@ -8,7 +8,7 @@ use native.Mathlib.Omega.{arith}
 use lib.ListN.{length, getD, take, drop}
 use lib.Seq.{drop-cons, length-take-le}
 use Rattle.words.specs.Shape.{spliceBy, valuesBy, stackAfterBy, stackGivenBy}
-use Rattle.words.specs.Postfix.{arity, oneTree, startOf, isAncestor, splice, valueOn, values, stackAfter, stackGiven, childrenOf, rootsOf}
+use Rattle.words.specs.Postfix.{arity, oneTree, spanOf, isAncestor, splice, valueOn, values, stackAfter, stackGiven, childrenOf, rootsOf}
 use Rattle.words.proofs.TestLaws.{Tested, holds, fails, tested}
 use Rattle.words.proofs.ListLaws.{map-drop}
 use Rattle.words.proofs.PostfixLaws.{start-le}
@@ -104,7 +104,7 @@ module _ (a table : List ℕ) where
 
   module _ (stored : ℕ → StateSet) (used : List ℕ) (element : ℕ) (xs : List ℕ) (he : element < length used) (hx : oneTree a xs ≡ true) where
     σ : List StateSet
-    σ = stackGiven a stored 0 (take (startOf a used element) used) []
+    σ = stackGiven a stored 0 (take (spanOf a used element .start) used) []
 
     follows-replaced : Follows xs σ (map recomputed (nodeSets a table xs))
     unfolding nodeSets
@@ -136,7 +136,7 @@ module _ (a table : List ℕ) where
     pub follows-outcomes : Follows (splice a used element xs) [] (outcomesAfter a table stored used element xs)
     unfolding spliceBy outcomesAfter σ
     follows-outcomes =
-        follows-append front (xs ++ drop (element + 1) used) [] (keptFrom stored 0 (startOf a used element)) _
+        follows-append front (xs ++ drop (element + 1) used) [] (keptFrom stored 0 (spanOf a used element .start)) _
         (subst (λ (i : ℕ). Follows front [] (keptFrom stored 0 i)) many (follows-kept stored front 0 []))
         (subst (λ (s : List StateSet). Follows (xs ++ drop (element + 1) used) s
         (map recomputed (nodeSets a table xs) ++ outcomesBehind a table stored used element xs)) (sym stack-front)
@@ -146,12 +146,12 @@ module _ (a table : List ℕ) where
         (sym stack-replaced) follows-behind)))
       where
         front : List ℕ
-        front = take (startOf a used element) used
+        front = take (spanOf a used element .start) used
 
-        many : length front ≡ startOf a used element
-        many = let le = start-le (arity a) used element in length-take-le (startOf a used element) used (omega arith)
+        many : length front ≡ spanOf a used element .start
+        many = let le = start-le (arity a) used element in length-take-le (spanOf a used element .start) used (omega arith)
 
-        stack-front : stackOf front (keptFrom stored 0 (startOf a used element)) [] ≡ σ
+        stack-front : stackOf front (keptFrom stored 0 (spanOf a used element .start)) [] ≡ σ
         stack-front = ap (λ (i : ℕ). stackOf front (keptFrom stored 0 i) []) (sym many) ∙ stack-kept stored front 0 []
 
   -- ---- by node number

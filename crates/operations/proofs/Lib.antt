@@ -15,6 +15,7 @@ pub mod ValueLaws
 pub mod AnyTable
 pub mod Demand2
 pub mod TableSlices
+pub mod Heights
 pub mod BehindLaws
 pub mod FromChildren
 pub mod OutcomeParts

@@ -10,7 +10,7 @@ use lib.ListN.{length, getD, take, drop, take-append-drop}
 use lib.Seq.{take-suc, length-take-le}
 use Rattle.words.specs.Lists.{listFrom}
 use Rattle.words.specs.Shape.{spliceBy}
-use Rattle.words.specs.Postfix.{arity, oneTree, startOf, splice, values, stackAfter}
+use Rattle.words.specs.Postfix.{arity, oneTree, spanOf, splice, values, stackAfter}
 use Rattle.words.proofs.TestLaws.{Tested, holds, fails, tested}
 use Rattle.words.proofs.ListLaws.{map-append}
 use Rattle.words.proofs.PostfixLaws.{start-le, front-sub, sub-tree}
@@ -39,10 +39,10 @@ module _ (a table : List ℕ) (stored : ℕ → StateSet) (used : List ℕ) (ele
   rule = nodeSet table
 
   front : List ℕ
-  front = take (startOf a used element) used
+  front = take (spanOf a used element .start) used
 
   old : List ℕ
-  old = drop (startOf a used element) (take (element + 1) used)
+  old = drop (spanOf a used element .start) (take (element + 1) used)
 
   behind : List ℕ
   behind = drop (element + 1) used
@@ -67,8 +67,8 @@ module _ (a table : List ℕ) (stored : ℕ → StateSet) (used : List ℕ) (ele
   right-front : Right (arity a) rule stored 0 front []
   unfolding front
   right-front =
-      right-left (arity a) rule stored front (drop (startOf a used element) used) 0 []
-      (subst (λ (l : List ℕ). Right (arity a) rule stored 0 l []) (sym (take-append-drop (startOf a used element) used)) right)
+      right-left (arity a) rule stored front (drop (spanOf a used element .start) used) 0 []
+      (subst (λ (l : List ℕ). Right (arity a) rule stored 0 l []) (sym (take-append-drop (spanOf a used element .start) used)) right)
 
   right-taken : Right (arity a) rule stored 0 (take (element + 1) used ++ drop (element + 1) used) []
   right-taken = subst (λ (l : List ℕ). Right (arity a) rule stored 0 l []) (sym (take-append-drop (element + 1) used)) right
@@ -116,11 +116,11 @@ module _ (a table : List ℕ) (stored : ℕ → StateSet) (used : List ℕ) (ele
   unfolding outcomesAfter nodeSets spliceBy front behind σ
   outcomes-right =
       let le = start-le (arity a) used element in
-      let n : length front ≡ startOf a used element = length-take-le (startOf a used element) used (omega arith) in
-      let kept-front : map setIn (keptFrom stored 0 (startOf a used element)) ≡ values a rule front [] =
-      sets-kept stored (startOf a used element) 0 ∙ ap (listFrom stored 0) (sym n)
+      let n : length front ≡ spanOf a used element .start = length-take-le (spanOf a used element .start) used (omega arith) in
+      let kept-front : map setIn (keptFrom stored 0 (spanOf a used element .start)) ≡ values a rule front [] =
+      sets-kept stored (spanOf a used element .start) 0 ∙ ap (listFrom stored 0) (sym n)
       ∙ right-list (arity a) rule stored front 0 [] right-front in
-      map-append setIn (keptFrom stored 0 (startOf a used element))
+      map-append setIn (keptFrom stored 0 (spanOf a used element .start))
       (map recomputed (values a rule xs []) ++ outcomesBehind a table stored used element xs)
       ∙ ap₂ (λ (l k : List StateSet). l ++ k) kept-front
       (map-append setIn (map recomputed (values a rule xs [])) (outcomesBehind a table stored used element xs)

@@ -10,7 +10,7 @@ use lib.ListN.{length, getD, take, length-drop, length-map, List·getD-append}
 use lib.Seq.{getD-append-add, take-suc, take-length, length-take-le}
 use Rattle.words.specs.Lists.{count, listFrom}
 use Rattle.words.specs.Shape.{depthOfBy}
-use Rattle.words.specs.Postfix.{arity, oneTree, startOf, isAncestor, depthOf, values, stackAfter}
+use Rattle.words.specs.Postfix.{arity, oneTree, spanOf, isAncestor, depthOf, values, stackAfter}
 use Rattle.words.proofs.TestLaws.{and-true}
 use Rattle.words.proofs.ListLaws.{length-listFrom, listFrom-add, getD-listFrom, listFrom-getD}
 use Rattle.words.proofs.ListLaws.{listFrom-offset, map-listFrom, count-append, count-map}
@@ -64,7 +64,7 @@ root-last a table xs h l =
 
 module _ (a table : List ℕ) (stored : ℕ → StateSet) (used : List ℕ) (element : ℕ) (xs : List ℕ) where
   abbrev start : ℕ
-  start = startOf a used element
+  start = spanOf a used element .start
 
   abbrev front : List Outcome
   front = keptFrom stored 0 start

@@ -7,7 +7,7 @@ use mathlib.Core.List.{List, [], _∷_, _++_, map}
 use native.Mathlib.Omega.{arith}
 use lib.ListN.{length, take, drop, length-drop}
 use Rattle.words.specs.Shape.{valueOnBy}
-use Rattle.words.specs.Postfix.{arity, startOf, isAncestor, valueOn, stackGiven}
+use Rattle.words.specs.Postfix.{arity, spanOf, isAncestor, valueOn, stackGiven}
 use Rattle.words.proofs.TestLaws.{Tested, holds, fails, tested}
 use Rattle.words.proofs.ListLaws.{map-append}
 use Rattle.words.proofs.PostfixLaws.{start-le}
@@ -59,7 +59,7 @@ module _ (a table : List ℕ) (stored : ℕ → StateSet) (n : ℕ) (whole : (i 
       rest = drop (element + 1) used
 
       stack : List StateSet
-      stack = rootSet a table xs ∷ stackGiven a stored 0 (take (startOf a used element) used) []
+      stack = rootSet a table xs ∷ stackGiven a stored 0 (take (spanOf a used element .start) used) []
 
       fits : element + 1 + length rest ≤ n
       fits = rw (length-drop (element + 1) used) (omega arith)
@@ -75,7 +75,7 @@ module _ (a table : List ℕ) (stored : ℕ → StateSet) (n : ℕ) (whole : (i 
   unfolding outcomesAfter
   whole-outcomes used element xs h l =
       let size = sizeOf table in
-      let start = startOf a used element in
+      let start = spanOf a used element .start in
       let sets : List Outcome = map recomputed (nodeSets a table xs) in
       let behind = outcomesBehind a table stored used element xs in
       rw (map-append setIn (keptFrom stored 0 start) (sets ++ behind), map-append setIn sets behind)

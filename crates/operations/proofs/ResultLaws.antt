@@ -8,7 +8,7 @@ use lib.ListN.{length, take, drop, length-append, take-append-drop}
 use Rattle.words.specs.Lists.{all}
 use Rattle.words.specs.Chapter.{isNode}
 use Rattle.words.specs.Shape.{spliceBy}
-use Rattle.words.specs.Postfix.{arity, startOf, splice}
+use Rattle.words.specs.Postfix.{arity, spanOf, splice}
 use Rattle.words.proofs.TestLaws.{all-left, all-right, all-append}
 use Rattle.words.proofs.AcceptedTree.{AcceptedTree, tree-accepted, accepted-tree}
 use Rattle.words.proofs.PostfixLaws.{splice-tree}
@@ -17,7 +17,7 @@ use Rattle.operations.proofs.AcceptedLaws.{RunAccepted, ExchangeAccepte
 module _ (a table used : List ℕ) (chapterLength marksLength i : ℕ) (xs : List ℕ)
     (k : ExchangeAccepted a table (length used) used chapterLength marksLength i xs) where
   abbrev start : ℕ
-  start = startOf a used i
+  start = spanOf a used i .start
 
   old : AcceptedTree a used
   old = tree-accepted a used (k .marked .tree)
@@ -45,6 +45,7 @@ module _ (a table used : List ℕ) (chapterLength marksLength i : ℕ) (xs : Lis
     marked = record {
       tree = accepted-tree a (splice a used i xs)
           (record { nodes = nodes; shape = splice-tree (arity a) used i (old .shape) (k .change .element) xs (new .shape) });
+      low = k .change .low;
       marks = k .change .fits .marks;
     };
   }

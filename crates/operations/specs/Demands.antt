@@ -1,4 +1,4 @@
--- The claims: what the three demands, and document 02's U1, say of the four operations, over the definitions that their contracts
+-- The claims: what the three demands, and document 02's U1 and U6, say of the four operations, over the definitions that their contracts
 -- cite. Each is proved in the file of proofs/ that is named with it.
 use Prim.Native.Nat.{ℕ, _+_, _-_, _*_, _<_, _≤_}
 use mathlib.Core.Path.{_≡_}
@@ -6,13 +6,16 @@ use mathlib.Core.Logic.{_↔_}
 use mathlib.Core.Bool.{true, false, cond}
 use mathlib.Core.List.{List, [], _∷_, _++_, map, flatten, List·Memᴰ}
 use lib.ListN.{length, getD, take, drop}
+use lib.Dec.{ltb}
 use Rattle.words.specs.Lists.{count, listFrom}
-use Rattle.words.specs.Limits.{compiledMost}
+use Rattle.words.specs.Limits.{alphabetMost, compiledMost, heightMost}
 use Rattle.words.specs.Word.{lengthKind, hasKind}
 use Rattle.words.specs.Refusal.{Refusals, refusal, First, NoneHolds}
 use Rattle.words.specs.ExactlyOne.{ExactlyOne}
-use Rattle.words.specs.Postfix.{subtreeOf, childrenOf, depthOf}
-use Rattle.words.specs.Chapter.{symbolOf}
+use Rattle.words.specs.Tree.{Tree, height}
+use Rattle.words.specs.Shape.{heightOver}
+use Rattle.words.specs.Postfix.{heightOf, spanOf, subtreeOf, splice, stackAfter, childrenOf, depthOf}
+use Rattle.words.specs.Chapter.{symbolOf, treeFault, tooHigh}
 use Rattle.words.specs.Answer.{Answer, refused, accepted}
 use Rattle.language.specs.Expression.{ExpressionOf, SubjectOf}
 use Rattle.language.specs.Reading.{expressionOf}
@@ -238,3 +241,29 @@ pub record TableSlices : Type 0 where
   -- they "use that many words and ignore what follows": the same call with other words behind the table
   pub follows : (alphabet slice behind : List ℕ) → 0 < tableWordCount slice
       → CalledAlike alphabet (tableIn (tableIn slice ++ behind)) (tableIn slice)
+
+-- ---- Heights (document 02, U6; Heights): "Finding where a subtree begins .. shall tell its height too, a lone element having 1".
+
+pub record Heights : Type 0 where
+  -- a span's height is the height of exactly the tree whose words it spans
+  pub span : (alphabet chapter : List ℕ) (i : ℕ) (t : Tree) → length alphabet ≤ alphabetMost
+      → SubjectOf alphabet (subtreeOf alphabet chapter i) t → spanOf alphabet chapter i .height ≡ height t
+  -- the root's span is the whole chapter
+  pub root : (alphabet chapter : List ℕ) (i : ℕ) → treeFault alphabet chapter ≡ 0 → i + 1 ≡ length chapter
+      → spanOf alphabet chapter i ≡ record { start = 0; height = heightOf alphabet chapter }
+  -- with a subtree put in place: the words before, the replacement and the words behind are read one after the other with one stack
+  pub result : (alphabet chapter : List ℕ) (i : ℕ) (replacement : List ℕ)
+      → heightOf alphabet (splice alphabet chapter i replacement)
+      ≡ getD
+      (stackAfter alphabet heightOver (drop (i + 1) chapter)
+      (stackAfter alphabet heightOver replacement
+      (stackAfter alphabet heightOver (take (spanOf alphabet chapter i .start) chapter) [])))
+      0 0
+  -- 24's condition: the tree whose words the chapter has is over 512 high
+  pub judged : (alphabet chapter : List ℕ) (t : Tree) → length alphabet ≤ alphabetMost → SubjectOf alphabet chapter t
+      → tooHigh alphabet chapter ≡ ltb heightMost (height t)
+  -- "chapters of height 512 are marked, 513 refused, in Exchange both the old and the resulting chapter": where a call is accepted
+  pub run : (alphabet table chapter marks : List ℕ) (elements cells : ℕ)
+      → runAnswer alphabet table chapter marks ≡ accepted (elements ∷ cells ∷ []) → heightOf alphabet chapter ≤ heightMost
+  pub exchange : (c : ExchangeCall) (elements workedOut : ℕ) → exchangeAnswer c ≡ accepted (elements ∷ workedOut ∷ [])
+      → (heightOf (c .alphabet) (used c) ≤ heightMost) × (heightOf (c .alphabet) (newTree c) ≤ heightMost)

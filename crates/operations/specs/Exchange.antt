@@ -8,8 +8,8 @@ use lib.Dec.{ltb}
 use Rattle.words.specs.Lists.{listFrom}
 use Rattle.words.specs.Limits.{nodesMost}
 use Rattle.words.specs.Refusal.{Refusals, refusal, someHolds}
-use Rattle.words.specs.Chapter.{treeRefusals}
-use Rattle.words.specs.Postfix.{arity, startOf, isAncestor, splice, valueOn, stackAfter, stackGiven}
+use Rattle.words.specs.Chapter.{treeRefusals, tooHigh}
+use Rattle.words.specs.Postfix.{arity, spanOf, isAncestor, splice, valueOn, stackAfter, stackGiven}
 use Rattle.words.specs.Answer.{Answer, answerOf, exitOf}
 use Rattle.automaton.specs.StateSet.{StateSet}
 use Rattle.operations.specs.Marks.{sizeOf, nodeSet, nodeSets, storedSet, sameWords, refit}
@@ -32,11 +32,12 @@ noReplacement a xs = wrongCount (length xs) || someHolds (treeRefusals a xs)
 unfoldable pub resultTooLong : List ℕ → ℕ → ℕ → ℕ → Bool
 resultTooLong table n chapterLength marksLength = ltb nodesMost n || ltb chapterLength n || marksTooShort table n marksLength
 
--- of a change in n used elements
+-- of a change in n used elements; "24 .. after 16 for the result" (document 02, U6)
 abbrev pub changeRefusals : List ℕ → List ℕ → ℕ → List ℕ → ℕ → ℕ → ℕ → List ℕ → Refusals
 changeRefusals a table n used chapterLength marksLength i xs =
     (14, noElement n i) ∷ (15, noReplacement a xs)
-    ∷ (16, resultTooLong table (length (splice a used i xs)) chapterLength marksLength) ∷ []
+    ∷ (16, resultTooLong table (length (splice a used i xs)) chapterLength marksLength)
+    ∷ (24, tooHigh a (splice a used i xs)) ∷ []
 
 -- of a call with this used count n and these used elements, slices of these lengths, an element and a replacement
 abbrev pub exchangeRefusals : List ℕ → List ℕ → ℕ → List ℕ → ℕ → ℕ → ℕ → List ℕ → Refusals
@@ -92,13 +93,13 @@ outcomesBehind a table stored used i xs =
     let unchanged = keptFrom stored (i + 1) (length (drop (i + 1) used)) in
     let changed =
     propagate a table stored (isAncestor a used i) (i + 1) (drop (i + 1) used)
-    (rootSet a table xs ∷ stackGiven a stored 0 (take (startOf a used i) used) []) in
+    (rootSet a table xs ∷ stackGiven a stored 0 (take (spanOf a used i .start) used) []) in
     cond (sameWords (rootSet a table xs) (stored i)) unchanged changed
 
 -- all nodes of the new tree, where `stored` gives each used element's stored state set
 unfoldable pub outcomesAfter : List ℕ → List ℕ → (ℕ → StateSet) → List ℕ → ℕ → List ℕ → List Outcome
 outcomesAfter a table stored used i xs =
-    keptFrom stored 0 (startOf a used i) ++ (map recomputed (nodeSets a table xs) ++ outcomesBehind a table stored used i xs)
+    keptFrom stored 0 (spanOf a used i .start) ++ (map recomputed (nodeSets a table xs) ++ outcomesBehind a table stored used i xs)
 
 module _ (c : ExchangeCall) where
   -- the used elements

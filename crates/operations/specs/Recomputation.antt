@@ -5,7 +5,7 @@ use mathlib.Core.List.{List, []}
 use mathlib.Core.Bool.{Bool, not, _&&_}
 use lib.ListN.{length, getD, drop}
 use Rattle.words.specs.Lists.{all, listFrom}
-use Rattle.words.specs.Postfix.{startOf, isAncestor}
+use Rattle.words.specs.Postfix.{spanOf, isAncestor}
 use Rattle.automaton.specs.StateSet.{StateSet}
 use Rattle.operations.specs.Marks.{sameWords}
 use Rattle.operations.specs.ExchangeCall.{ExchangeCall}
@@ -25,7 +25,7 @@ module _ (c : ExchangeCall) where
 
   -- the number of the first node of the replaced subtree, and of the replacement
   abbrev pub startIn : ℕ
-  startIn = startOf (c .alphabet) (used c) (c .element)
+  startIn = spanOf (c .alphabet) (used c) (c .element) .start
 
   -- how many nodes stand behind the replaced subtree; node k of these by its number in the old tree and in the new one
   abbrev pub behindIn : ℕ

@@ -9,7 +9,7 @@ use lib.Count.{ones}
 use Rattle.words.specs.Limits.{outside, nodesMost}
 use Rattle.words.specs.Refusal.{Refusals, refusal}
 use Rattle.words.specs.Alphabet.{alphabetRefusals}
-use Rattle.words.specs.Chapter.{treeRefusals}
+use Rattle.words.specs.Chapter.{treeRefusals, tooHigh}
 use Rattle.words.specs.Answer.{Answer, answerOf, exitOf}
 use Rattle.automaton.specs.Table.{noTable}
 use Rattle.operations.specs.Marks.{sizeOf, nodeSets}
@@ -26,9 +26,10 @@ marksTooShort table n marksLength = ltb marksLength (n * sizeOf table)
 abbrev pub tableRefusals : List ℕ → List ℕ → Refusals
 tableRefusals a table = alphabetRefusals a ++ ((8, noTable a table) ∷ [])
 
--- of a chapter's elements, behind their count: Run, Exchange and `marklist` have them
+-- of a chapter's elements, behind their count: Run, Exchange and `marklist` have them; "24 too high: in Run after 11; in Exchange
+-- after 11 for the old" (document 02, U6)
 abbrev pub elementRefusals : List ℕ → List ℕ → Refusals
-elementRefusals a ch = treeRefusals a ch
+elementRefusals a ch = treeRefusals a ch ++ ((24, tooHigh a ch) ∷ [])
 
 -- of n elements and a marks slice of that length: Run and Exchange have them
 abbrev pub markedRefusals : List ℕ → List ℕ → ℕ → List ℕ → ℕ → Refusals

@@ -1,1 +1,2 @@
 pub mod CountRefusalLaws
+pub mod JudgedLaws

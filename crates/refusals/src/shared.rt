@@ -4,11 +4,15 @@ ghost use Prim.Native.Nat.{_≤_};
 ghost use lib.ListN.{length};
 ghost use Rattle.words.specs.Limits.{nodesMost};
 ghost use Rattle.words.specs.Refusal.{refusal};
-ghost use Rattle.operations.specs.Run.{wrongCount, marksTooShort, tableRefusals, markedRefusals};
+ghost use Rattle.operations.specs.Run.{wrongCount, marksTooShort, tableRefusals, elementRefusals, markedRefusals};
+ghost use Rattle.refusals.specs.Judged.{JudgedShape};
 use alphabet::alphabet_fault;
-use syntax::chapter::tree_fault;
+use syntax::height::words_height;
+use syntax::shape::Shape;
+use syntax::shape::tree_shape;
 use tables::check::is_table;
 use tables::head::set_size;
+use words::limits::HEIGHT_MOST;
 use words::limits::NODES_MOST;
 use words::limits::is_outside;
 
@@ -41,26 +45,58 @@ pub(crate) fn marks_too_short(table: &[u32], count: usize, marks_length: usize) 
     marks_length < count * set_size(table)
 }
 
-// Of a chapter's elements and a marks slice of this length: 10, 11 or 12, the first that applies, or 0.
-pub(crate) fn marked_fault(
+// Of a chapter's elements: 10, 11 or 24, the first that applies, or 0. Heights are worked out only where the words' shape does not
+// tell that the chapter is low enough.
+fn element_shape(alphabet: &[u32], nodes: &[u32]) -> Shape
+    requires { ⌜ length (now nodes) ≤ nodesMost ⌝ }
+    ensures { λ r. ⌜
+        JudgedShape (refusal (elementRefusals (now (alphabet .entry)) (now (nodes .entry)))) (now (alphabet .entry)) (now (nodes .entry)) r
+        ⌝ }
+{
+    let shape = tree_shape(alphabet, nodes);
+    if shape.fault != 0 {
+        return shape;
+    }
+    if shape.bound <= HEIGHT_MOST {
+        return shape;
+    }
+    let height = words_height(alphabet, nodes);
+    if height > HEIGHT_MOST {
+        return Shape {
+            fault: 24,
+            bound: height,
+        };
+    }
+    Shape {
+        fault: 0,
+        bound: height,
+    }
+}
+
+// Of a chapter's elements and a marks slice of this length: 10, 11, 24 or 12, the first that applies, or 0.
+pub(crate) fn marked_shape(
     alphabet: &[u32],
     table: &[u32],
     nodes: &[u32],
     marks_length: usize,
-) -> u32
+) -> Shape
     requires { ⌜ length (now nodes) ≤ nodesMost ⌝ }
     ensures { λ r. ⌜
-        r
-        ≡ refusal
-        (markedRefusals (now (alphabet .entry)) (now (table .entry)) (length (now (nodes .entry))) (now (nodes .entry)) «marks_length»)
+        JudgedShape
+        (refusal
+        (markedRefusals (now (alphabet .entry)) (now (table .entry)) (length (now (nodes .entry))) (now (nodes .entry)) «marks_length»))
+        (now (alphabet .entry)) (now (nodes .entry)) r
         ⌝ }
 {
-    let shape = tree_fault(alphabet, nodes);
-    if shape != 0 {
+    let shape = element_shape(alphabet, nodes);
+    if shape.fault != 0 {
         return shape;
     }
     if marks_too_short(table, nodes.len(), marks_length) {
-        return 12;
+        return Shape {
+            fault: 12,
+            bound: shape.bound,
+        };
     }
-    0
+    shape
 }

@@ -1,4 +1,5 @@
 pub mod KeptLaws
+pub mod NeverTooHigh
 pub mod OutputLength
 pub mod ProgramLaws
 pub mod SourceExample

@@ -9,7 +9,7 @@ use lib.Dec.{eqb}
 use borrow.Author.Tests.{eqb-true}
 use Rattle.words.specs.Limits.{statesMost}
 use Rattle.words.specs.Chapter.{symbolOf}
-use Rattle.words.specs.Postfix.{startOf}
+use Rattle.words.specs.Postfix.{spanOf}
 use Rattle.words.specs.Lists.{AllBelow}
 use Rattle.words.proofs.LimitLaws.{Within, not-outside}
 use Rattle.words.proofs.RefusalLaws.{none-applies, part-passes, refusal-most}
@@ -44,7 +44,7 @@ unfolding hitLine
 hit-short a ch i h =
     let x = decimal-most 2 i (omega arith) in
     let y = decimal-most 2 (symbolOf (getD ch i 0)) (omega arith) in
-    let z = decimal-most 2 (i + 1 - startOf a ch i) (omega arith) in
+    let z = decimal-most 2 (i + 1 - spanOf a ch i .start) (omega arith) in
     simp length-append (omega arith)
 
 hits-short : (a ch is : List ℕ) → AllBelow chapterMost is → length (hitLines a ch is) ≤ 12 * length is

@@ -5,7 +5,7 @@ use mathlib.Core.List.{List, [], _∷_, _++_, head-eq-of-cons-eq}
 use Prim.Native.Nat.{ℕ, _<_, _≤_}
 use native.Mathlib.Omega.{arith}
 use lib.ListN.{length, take, drop, replicate, length-replicate}
-use Rattle.words.specs.Limits.{tableMost}
+use Rattle.words.specs.Limits.{tableMost, nodesMost}
 use Rattle.words.specs.Answer.{refused, accepted}
 use Rattle.words.proofs.AnswerLaws.{accepted-values}
 use Rattle.automaton.specs.Transition.{automatonOf}
@@ -122,11 +122,15 @@ module _ {a e table : List ℕ} (t : ChapterReportable a e table) (ch : List ℕ
 
 -- ---- List
 
--- an accepted List names at most as many elements as its slice has places
-pub hits-most : (a table : List ℕ) (n : ℕ) (marks : List ℕ) {k : ℕ} (q : Listed) → q ≡ Matches k
-    → answerInListed q ≡ listAnswer a table n marks (zeros chapterMost) → k ≤ chapterMost
+-- an accepted List has at most as many elements as its slice has places, and names no more
+record ListedFew (n k : ℕ) : Type 0 where
+  elements : n ≤ chapterMost
+  hits : k ≤ chapterMost
+
+listed-few : (a table : List ℕ) (n : ℕ) (marks : List ℕ) {k : ℕ} (q : Listed) → q ≡ Matches k
+    → answerInListed q ≡ listAnswer a table n marks (zeros chapterMost) → ListedFew n k
 unfolding listAnswer
-hits-most a table n marks {k} q e h =
+listed-few a table n marks {k} q e h =
     let g : accepted (k ∷ []) ≡ listAnswer a table n marks (zeros chapterMost) = rw e at h in
     let v =
     accepted-values (listFault a table n (length marks) (length (zeros chapterMost))) (length (matchesOf table n marks) ∷ [])
@@ -135,7 +139,16 @@ hits-most a table n marks {k} q e h =
     let long = many chapterMost in
     let few = matchesOf-few table marks n in
     let count : length (matchesOf table n marks) ≡ k = head-eq-of-cons-eq (v .1) in
-    omega arith
+    record { elements = omega arith; hits = omega arith }
+
+module _ (a table : List ℕ) (n : ℕ) (marks : List ℕ) {k : ℕ} (q : Listed) (e : q ≡ Matches k)
+    (h : answerInListed q ≡ listAnswer a table n marks (zeros chapterMost)) where
+  pub hits-most : k ≤ chapterMost
+  hits-most = listed-few a table n marks q e h .hits
+
+  -- so a span can be asked of its elements
+  pub elements-few : n ≤ nodesMost
+  elements-few = omega (arith, listed-few a table n marks q e h .elements)
 
 module _ {a e table ch marks : List ℕ} (m : HitsReportable a e table ch marks) where
   -- the table is the compiled one

@@ -7,8 +7,9 @@ use lib.ListN.{replicate}
 use Rattle.words.specs.Word.{kindAt, spareBitsClear, isOf}
 use Rattle.words.specs.Alphabet.{isEntry, rankOf, isConstant, constantsFrom, constantsOf, noAlphabet, wrongConstants}
 use Rattle.words.specs.ExpressionWords.{isExpressionWord, wrongLength, notExpressionWords}
-use Rattle.words.specs.Chapter.{isNode, notNodes}
-use Rattle.words.specs.Shape.{treesBy, startFromBy}
+use Rattle.words.specs.Chapter.{isNode, notNodes, tooHigh}
+use Rattle.words.specs.Lists.{highest}
+use Rattle.words.specs.Shape.{treesBy, valueOnBy, stackAfterBy, heightOver, heightOfBy, startFromBy}
 use Rattle.words.specs.Postfix.{arity, notOneTree}
 use Rattle.automaton.specs.Transition.{transitionsAt, automatonOf}
 use Rattle.automaton.specs.Numbering.{hasEntries, statesOf, portOf, ownTransitions, portsFrom, statesAfter, transitionsFrom, compiled}
@@ -83,7 +84,7 @@ unfolding
     kindAt spareBitsClear isOf isEntry rankOf isConstant constantsFrom constantsOf noAlphabet wrongConstants isExpressionWord wrongLength
     notExpressionWords isNode notNodes arity treesBy notOneTree hasEntries statesOf portOf ownTransitions portsFrom statesAfter
     transitionsFrom compiled
-    tooManyStates wrongChapter
+    valueOnBy stackAfterBy heightOver highest heightOfBy tooHigh tooManyStates wrongChapter
 no-fault = refl
 
 words-are : wordsIn exampleInput ≡ 7 ∷ 9 ∷ 7 ∷ (alphabet ++ (rule ++ (chapter ++ [])))

@@ -7,9 +7,9 @@ use native.Mathlib.Decide.{decLt}
 use native.Mathlib.Nat.{suc-mul, le-trans, mul-le-mul-right}
 use lib.ListN.{length, take, drop}
 use lib.Seq.{paste, length-take-le, take-all, take-at, drop-at, drop-drop, drop-paste, take-take}
+use Rattle.words.proofs.ScanLaws.{take-drop}
 use Rattle.automaton.specs.StateSet.{StateSet}
 use Rattle.operations.specs.Marks.{storedSet}
-use Rattle.slices.proofs.RefitLaws.{take-drop}
 
 -- node i's words lie inside the marks of n nodes
 pub row-inside : (i n size marksLength : ℕ) → i < n → n * size ≤ marksLength → i * size + size ≤ marksLength

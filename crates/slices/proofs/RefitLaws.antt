@@ -1,24 +1,14 @@
 -- Laws of a slice whose used words change: the words behind a place move, the gap is filled, and the words that fall out of
 -- use become zero. The slice is then `refit`.
 use mathlib.Core.Path.{_≡_, refl, ap, ap₂, _∙_, sym}
-use mathlib.Core.List.{List, [], _∷_, _++_, append-assoc}
-use Prim.Native.Nat.{ℕ, zero, suc, _+_, _-_, _≤_, max}
+use mathlib.Core.List.{List, _++_, append-assoc}
+use Prim.Native.Nat.{ℕ, _+_, _-_, _≤_, max}
 use native.Mathlib.Omega.{arith}
 use lib.ListN.{length, take, drop, replicate, length-append, length-replicate}
 use lib.Seq.{paste, slice, length-slice, length-take-le, take-all, take-at, drop-drop, drop-append-add}
 use Rattle.words.specs.Lists.{writtenOver}
+use Rattle.words.proofs.ScanLaws.{take-drop}
 use Rattle.operations.specs.Marks.{refit}
-
-pub take-drop : (t n : ℕ) (l : List ℕ) → t ≤ n → take (n - t) (drop t l) ≡ slice t n l
-take-drop zero n l h = ap (λ (i : ℕ). take i l) (let e : n - 0 ≡ n = omega arith in e)
-take-drop (suc t) zero l h = absurd (omega arith)
-take-drop (suc t) (suc n) [] h = go (suc n - suc t)
-  where
-    go : (m : ℕ) → _≡_ {A = List ℕ} (take m []) []
-    go zero = refl
-    go (suc m) = refl
-take-drop (suc t) (suc n) (x ∷ l) h =
-    ap (λ (i : ℕ). take i (drop t l)) (let e : suc n - suc t ≡ n - t = omega arith in e) ∙ take-drop t n l (omega arith)
 
 -- the words from index t up to n move to index `at`; `words` are they and those before that index
 module _ (l : List ℕ) (at t n : ℕ) (h : t ≤ n) (inside : n ≤ length l) (fits : at + (n - t) ≤ length l) where

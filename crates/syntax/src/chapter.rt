@@ -1,6 +1,7 @@
 // The words of a chapter, and refusals 10 and 11.
 ghost use mathlib.Core.Path.{_≡_};
 ghost use Rattle.words.specs.Lists.{all};
+ghost use Rattle.words.specs.Word.{nodeKind, isOf};
 ghost use Rattle.words.specs.Chapter.{isNode, treeFault};
 use alphabet::node_arity;
 use words::word::Kind;
@@ -8,16 +9,23 @@ use words::word::SYMBOL_RANGE;
 use words::word::kind_of;
 use words::word::spare_bits_clear;
 
+// Whether a word is of the chapter's kind, its spare bits clear.
+pub(crate) fn is_element(w: u32) -> bool
+    ensures { λ r. ⌜ r ≡ isOf nodeKind w ⌝ }
+{
+    let kind = kind_of(w);
+    match kind {
+        Kind::Node => spare_bits_clear(w),
+        _ => false,
+    }
+}
+
 // Whether a word is a chapter element with a symbol that the alphabet has.
 fn is_node(alphabet: &[u32], w: u32) -> bool
     ensures { λ r. ⌜ r ≡ isNode (now (alphabet .entry)) w ⌝ }
 {
-    let kind = kind_of(w);
     let symbol = (w % SYMBOL_RANGE) as usize;
-    match kind {
-        Kind::Node => spare_bits_clear(w) && symbol < alphabet.len(),
-        _ => false,
-    }
+    is_element(w) && symbol < alphabet.len()
 }
 
 // Whether every word is one.

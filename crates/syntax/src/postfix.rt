@@ -1,6 +1,11 @@
-// Words in postfix order: which words make one tree, and where subtrees begin.
+// Words in postfix order: which words make one tree, where subtrees begin and how high they are.
 ghost use mathlib.Core.Path.{_≡_};
-ghost use Rattle.words.specs.Postfix.{oneTree, startOf};
+ghost use Prim.Native.Nat.{_≤_};
+ghost use lib.ListN.{length};
+ghost use Rattle.words.specs.Limits.{nodesMost};
+ghost use Rattle.words.specs.Postfix.{oneTree, spanOf};
+ghost use Rattle.syntax.specs.SpanAnswer.{spanIn};
+use super::height::words_height;
 use alphabet::arity;
 
 // Whether the words make exactly one tree.
@@ -20,22 +25,35 @@ pub(crate) fn one_tree(alphabet: &[u32], words: &[u32]) -> bool
     made == 1
 }
 
-// The index of the first word of the node's subtree. Counted back from behind the node, `needed` trees still end before `start`;
-// where fewer words are left than trees needed, they do not suffice and the answer is 0.
-pub fn subtree_start(alphabet: &[u32], words: &[u32], node: usize) -> usize
-    ensures { λ r. ⌜ r ≡ startOf (now (alphabet .entry)) (now (words .entry)) node ⌝ }
+// The span of a node's subtree: the index of its first word, and its height (document 02, U6).
+pub struct Span {
+    pub start: usize,
+    pub height: usize,
+}
+
+// The span of the node's subtree: where it begins, and its height. Counted back from behind the node, `needed` trees still end
+// before `start`; where no more words are left than trees needed, the subtree goes to their beginning. A missing node's has no words.
+pub fn subtree_span(alphabet: &[u32], words: &[u32], node: usize) -> Span
+    requires { ⌜ length (now words) ≤ nodesMost ⌝ }
+    ensures { λ r. ⌜ spanIn r ≡ spanOf (now (alphabet .entry)) (now (words .entry)) node ⌝ }
 {
     if node >= words.len() {
-        return node;
+        return Span {
+            start: node,
+            height: 0,
+        };
     }
     let mut start = node + 1;
     let mut needed: usize = 1;
     while needed > 0 {
         if start <= needed {
-            return 0;
+            start = 0;
+            needed = 0;
+        } else {
+            start -= 1;
+            needed = needed - 1 + arity(alphabet, words[start]);
         }
-        start -= 1;
-        needed = needed - 1 + arity(alphabet, words[start]);
     }
-    start
+    let height = words_height(alphabet, &words[start..node + 1]);
+    Span { start, height }
 }

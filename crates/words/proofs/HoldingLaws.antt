@@ -7,7 +7,7 @@ use native.Mathlib.Omega.{arith}
 use native.Mathlib.Numerals.{add-one}
 use lib.ListN.{getD}
 use borrow.Author.Tests.{le-leb, lt-leb, lt-ltb}
-use Rattle.words.specs.Shape.{startFromBy, startOfBy, isAncestorBy}
+use Rattle.words.specs.Shape.{startFromBy, spanOfBy, isAncestorBy}
 use Rattle.words.proofs.PostfixLaws.{startFrom-none, startFrom-more, startFrom-add, startFrom-le, start-parts, start-le}
 
 -- of the trees that the first j words make, the one below d others holds node i; it ends before word `end`
@@ -51,7 +51,7 @@ module _ (arity : ℕ → ℕ) (ws : List ℕ) (i j d : ℕ) (h : HoldingTree ar
         high = h .high;
       }
 
-  begins-before : d < r → startOfBy arity ws j ≤ i
+  begins-before : d < r → spanOfBy arity ws j .start ≤ i
   begins-before l =
       let low = h .low in
       let q : d + 1 + (r - (d + 1)) ≡ r = omega arith in
@@ -64,7 +64,7 @@ module _ (arity : ℕ → ℕ) (ws : List ℕ) (i j d : ℕ) (h : HoldingTree ar
   -- a word that takes more is one
   pub takes-holding : d < r → isAncestorBy arity ws i j ≡ true
   unfolding isAncestorBy
-  takes-holding l = rw (lt-ltb i j behind, le-leb (startOfBy arity ws j) i (begins-before l))
+  takes-holding l = rw (lt-ltb i j behind, le-leb (spanOfBy arity ws j .start) i (begins-before l))
 
   pub holding-ancestor : d < r → HoldingTree arity ws i (suc j) 0
   holding-ancestor l =

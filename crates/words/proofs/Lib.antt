@@ -24,6 +24,9 @@ pub mod ExactlyOneLaws
 pub mod TreeLaws
 pub mod SubtreeLaws
 pub mod SubtreeMeaning
+pub mod HighestLaws
+pub mod HeightLaws
+pub mod HeightExamples
 pub mod CountLaws
 pub mod HoldingLaws
 pub mod WordLaws

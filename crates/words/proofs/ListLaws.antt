@@ -5,9 +5,10 @@ use mathlib.Core.Bool.{Bool, true, false, cond, _&&_}
 use mathlib.Core.List.{List, [], _∷_, _++_, map, reverse, reverseAux, reverse-append}
 use Prim.Native.Nat.{ℕ, zero, suc, _+_, _-_, _<_, _≤_}
 use native.Mathlib.Omega.{arith}
+use native.Mathlib.Numerals.{add-one}
 use native.Mathlib.Nat.{zero-add, add-zero, add-suc, suc-add, add-assoc}
-use lib.ListN.{length, getD, take, drop, length-append, length-drop, length-reverse, take-append-drop}
-use lib.Seq.{sets, sets-eq, take-at, drop-at}
+use lib.ListN.{length, getD, take, drop, set, length-append, length-drop, length-reverse, take-append-drop}
+use lib.Seq.{sets, sets-eq, take-at, drop-at, take-take, take-suc-set}
 use Rattle.words.specs.Lists.{all, count, listFrom, writtenOver}
 
 pub length-none : {A : Type 0} (l : List A) → length l ≡ 0 → l ≡ []
@@ -99,6 +100,13 @@ module _ {A : Type 0} (r : ℕ) (l : List A) where
       ap (λ (t : List A). drop (length l - r) (reverse t)) (sym (take-append-drop r l))
       ∙ ap (drop (length l - r)) (reverse-append (take r l) (drop r l))
       ∙ drop-at (reverse (drop r l)) (reverse (take r l)) (length l - r) (length-reverse (drop r l) ∙ length-drop r l)
+
+-- of a list whose first h members are l, one is put at k: what is left below it, and it
+pub take-pushed-at : (list : List ℕ) {l : List ℕ} (h k x : ℕ) → take h list ≡ l → k ≤ h → k < length list
+    → take (k + 1) (set list k x) ≡ take k l ++ x ∷ []
+take-pushed-at list h k x e b inside =
+    ap (λ (i : ℕ). take i (set list k x)) (add-one k) ∙ take-suc-set list k x inside
+    ∙ ap (λ (t : List ℕ). t ++ x ∷ []) (sym (take-take k h list b) ∙ ap (take k) e)
 
 -- ---- runs of stores
 

@@ -10,7 +10,7 @@ use lib.ListN.{length, getD, take, drop, length-append, length-drop, take-append
 use lib.Seq.{slice, take-suc, drop-append-le, length-take-le, slice-empty, take-take}
 use lib.Dec.{leb, eqb}
 use borrow.Author.Tests.{le-leb, leb-true, eq-eqb, eqb-true}
-use Rattle.words.specs.Shape.{treesBy, oneTreeBy, startFromBy, startOfBy, spliceBy}
+use Rattle.words.specs.Shape.{treesBy, oneTreeBy, startFromBy, spanOfBy, spliceBy}
 use Rattle.words.proofs.TestLaws.{picked, picks}
 
 -- ---- words that make trees
@@ -119,12 +119,12 @@ module _ (arity : ℕ → ℕ) (ch : List ℕ) where
   startFrom-le (suc j) (suc n) = omega (arith, startFrom-le j (n + arity (getD ch j 0)))
 
   -- an element's subtree begins where its parts begin
-  pub start-parts : (i : ℕ) → startOfBy arity ch i ≡ startFromBy arity ch i (arity (getD ch i 0))
+  pub start-parts : (i : ℕ) → spanOfBy arity ch i .start ≡ startFromBy arity ch i (arity (getD ch i 0))
   start-parts i =
       ap (λ (x : ℕ). startFromBy arity ch x 1) (add-one i) ∙ startFrom-more i 0
       ∙ ap (startFromBy arity ch i) (zero-add (arity (getD ch i 0)))
 
-  pub start-le : (i : ℕ) → startOfBy arity ch i ≤ i
+  pub start-le : (i : ℕ) → spanOfBy arity ch i .start ≤ i
   start-le i = rw start-parts (startFrom-le i (arity (getD ch i 0)))
 
   -- where no word lacks parts, the run that startFrom finds does make n trees
@@ -148,10 +148,10 @@ module _ (arity : ℕ → ℕ) (ch : List ℕ) where
 
 module _ (arity : ℕ → ℕ) (ch : List ℕ) (i : ℕ) (h : oneTreeBy arity ch ≡ true) (hi : i < length ch) where
   abbrev front : List ℕ
-  front = take (startOfBy arity ch i) ch
+  front = take (spanOfBy arity ch i .start) ch
 
   abbrev sub : List ℕ
-  sub = slice (startOfBy arity ch i) (i + 1) ch
+  sub = slice (spanOfBy arity ch i .start) (i + 1) ch
 
   abbrev behind : List ℕ
   behind = drop (i + 1) ch
@@ -159,10 +159,10 @@ module _ (arity : ℕ → ℕ) (ch : List ℕ) (i : ℕ) (h : oneTreeBy arity ch
   pub front-sub : front ++ sub ≡ take (i + 1) ch
   front-sub =
       let le = start-le arity ch i in
-      ap (λ (l : List ℕ). l ++ sub) (sym (take-take (startOfBy arity ch i) (i + 1) ch (omega arith)))
-      ∙ take-append-drop (startOfBy arity ch i) (take (i + 1) ch)
+      ap (λ (l : List ℕ). l ++ sub) (sym (take-take (spanOfBy arity ch i .start) (i + 1) ch (omega arith)))
+      ∙ take-append-drop (spanOfBy arity ch i .start) (take (i + 1) ch)
 
-  parts-tree : front ++ (sub ++ behind) ≡ ch
+  pub parts-tree : front ++ (sub ++ behind) ≡ ch
   parts-tree = simp (← append-assoc, front-sub, take-append-drop)
 
   pub sub-tree : oneTreeBy arity sub ≡ true
@@ -177,15 +177,15 @@ module _ (arity : ℕ → ℕ) (ch : List ℕ) (i : ℕ) (h : oneTreeBy arity ch
   splice-tree x hx = trees-replace arity front sub x behind sub-tree hx (rw parts-tree h)
 
 pub length-splice : (arity : ℕ → ℕ) (ch : List ℕ) (i : ℕ) (x : List ℕ) → i < length ch
-    → length (spliceBy arity ch i x) ≡ startOfBy arity ch i + (length x + length (drop (i + 1) ch))
+    → length (spliceBy arity ch i x) ≡ spanOfBy arity ch i .start + (length x + length (drop (i + 1) ch))
 unfolding spliceBy
 length-splice arity ch i x hi =
     let le = start-le arity ch i in
-    length-append (take (startOfBy arity ch i) ch) (x ++ drop (i + 1) ch)
-    ∙ ap₂ (λ (j k : ℕ). j + k) (length-take-le (startOfBy arity ch i) ch (omega arith)) (length-append x (drop (i + 1) ch))
+    length-append (take (spanOfBy arity ch i .start) ch) (x ++ drop (i + 1) ch)
+    ∙ ap₂ (λ (j k : ℕ). j + k) (length-take-le (spanOfBy arity ch i .start) ch (omega arith)) (length-append x (drop (i + 1) ch))
 
 -- the same by counts: the words before the subtree, the new ones, and those behind
-pub splice-count : (arity : ℕ → ℕ) (ch : List ℕ) (i s : ℕ) (x : List ℕ) → i < length ch → s ≡ startOfBy arity ch i
+pub splice-count : (arity : ℕ → ℕ) (ch : List ℕ) (i s : ℕ) (x : List ℕ) → i < length ch → s ≡ spanOfBy arity ch i .start
     → s + length x + (length ch - i - 1) ≡ length (spliceBy arity ch i x)
 splice-count arity ch i s x h q =
     let n = length-drop (i + 1) ch in

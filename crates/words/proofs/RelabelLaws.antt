@@ -1,8 +1,8 @@
--- A tree with other numbers at its nodes: its postfix order and how many children stand at each place.
+-- A tree with other numbers at its nodes: its postfix order, its height, and how many children stand at each place.
 use mathlib.Core.Path.{_≡_, refl, ap, ap₂, _∙_, sym}
 use mathlib.Core.List.{List, [], _∷_, _++_, map}
-use Prim.Native.Nat.{ℕ, suc}
-use Rattle.words.specs.Tree.{Tree, Trees, node, none, more, number, postfix, postfixAll}
+use Prim.Native.Nat.{ℕ, suc, max}
+use Rattle.words.specs.Tree.{Tree, Trees, node, none, more, number, postfix, postfixAll, height, heightAll}
 use Rattle.words.proofs.ListLaws.{map-append}
 
 module _ (f : ℕ → ℕ) where
@@ -17,6 +17,14 @@ module _ (f : ℕ → ℕ) where
   pub number-relabel : (ts : Trees) → number (relabelAll ts) ≡ number ts
   number-relabel none = refl
   number-relabel (more t ts) = ap suc (number-relabel ts)
+
+  mutual
+    pub height-relabel : (t : Tree) → height (relabel t) ≡ height t
+    height-relabel (node n ts) = ap suc (height-relabelAll ts)
+
+    height-relabelAll : (ts : Trees) → heightAll (relabelAll ts) ≡ heightAll ts
+    height-relabelAll none = refl
+    height-relabelAll (more t ts) = ap₂ max (height-relabel t) (height-relabelAll ts)
 
   mutual
     pub postfix-relabel : (t : Tree) → postfix (relabel t) ≡ map f (postfix t)

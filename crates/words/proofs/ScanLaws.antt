@@ -1,13 +1,13 @@
 -- One step of a scan over a slice: what is left of a list from an index on, tests of every word of it, and the trees that it
 -- makes.
-use mathlib.Core.Path.{_≡_, ap, _∙_}
+use mathlib.Core.Path.{_≡_, refl, ap, _∙_}
 use mathlib.Core.Bool.{Bool, true, false}
 use mathlib.Core.List.{List, [], _∷_}
-use Prim.Native.Nat.{ℕ, _+_, _-_, _<_, _≤_}
+use Prim.Native.Nat.{ℕ, zero, suc, _+_, _-_, _<_, _≤_}
 use native.Mathlib.Numerals.{add-one}
 use native.Mathlib.Omega.{arith}
 use lib.ListN.{length, getD, take, drop, length-drop, drop-of-length-le}
-use lib.Seq.{drop-cons, take-all}
+use lib.Seq.{slice, drop-cons, take-all}
 use lib.Dec.{eqb}
 use borrow.Author.Tests.{le-leb, lt-leb}
 use Rattle.words.specs.Lists.{all}
@@ -22,6 +22,18 @@ drop-end l i h = drop-of-length-le l h
 -- the part `&l[i..]` of a slice
 pub drop-part : (l : List ℕ) (i : ℕ) → take (length l - i) (drop i l) ≡ drop i l
 drop-part l i = take-all (length l - i) (drop i l) (rw (length-drop i l) (omega arith))
+
+-- the part `&l[t..n]`
+pub take-drop : (t n : ℕ) (l : List ℕ) → t ≤ n → take (n - t) (drop t l) ≡ slice t n l
+take-drop zero n l h = ap (λ (i : ℕ). take i l) (let e : n - 0 ≡ n = omega arith in e)
+take-drop (suc t) zero l h = absurd (omega arith)
+take-drop (suc t) (suc n) [] h = go (suc n - suc t)
+  where
+    go : (m : ℕ) → _≡_ {A = List ℕ} (take m []) []
+    go zero = refl
+    go (suc m) = refl
+take-drop (suc t) (suc n) (x ∷ l) h =
+    ap (λ (i : ℕ). take i (drop t l)) (let e : suc n - suc t ≡ n - t = omega arith in e) ∙ take-drop t n l (omega arith)
 
 -- the test of every word from index i on
 module _ (f : ℕ → Bool) (l : List ℕ) (i : ℕ) where

@@ -6,7 +6,7 @@ use native.Mathlib.Omega.{arith}
 use native.Mathlib.Numerals.{add-one}
 use lib.ListN.{length, getD, take, drop, take-append-drop}
 use Rattle.words.specs.Tree.{Tree}
-use Rattle.words.specs.Shape.{startOfBy, subtreeOfBy, valueOnBy, valuesBy, stackAfterBy}
+use Rattle.words.specs.Shape.{spanOfBy, subtreeOfBy, valueOnBy, valuesBy, stackAfterBy}
 use Rattle.words.proofs.TreeFold.{fold}
 use Rattle.words.proofs.StackLaws.{stack-append}
 use Rattle.words.proofs.ReadingLaws.{stack-tree}
@@ -25,10 +25,10 @@ module _ {A : Type 0} (arity : ℕ → ℕ) (value : ℕ → List A → A) where
   -- what stands before the subtree makes no difference
   stack-subtree : (ws : List ℕ) (i : ℕ) (t : Tree) → TreeOf arity (subtreeOfBy arity ws i) t
       → stackAfterBy arity value (take (i + 1) ws) []
-      ≡ fold value t ∷ stackAfterBy arity value (take (startOfBy arity ws i) (take (i + 1) ws)) []
+      ≡ fold value t ∷ stackAfterBy arity value (take (spanOfBy arity ws i .start) (take (i + 1) ws)) []
   stack-subtree ws i t h =
-      let front = take (startOfBy arity ws i) (take (i + 1) ws) in
-      ap (λ (l : List ℕ). stackAfterBy arity value l []) (sym (take-append-drop (startOfBy arity ws i) (take (i + 1) ws)))
+      let front = take (spanOfBy arity ws i .start) (take (i + 1) ws) in
+      ap (λ (l : List ℕ). stackAfterBy arity value l []) (sym (take-append-drop (spanOfBy arity ws i .start) (take (i + 1) ws)))
       ∙ stack-append arity value front (subtreeOfBy arity ws i) []
       ∙ ap (λ (l : List ℕ). stackAfterBy arity value l (stackAfterBy arity value front [])) (sym (h .words))
       ∙ stack-tree arity value t (stackAfterBy arity value front []) (h .ranked)

@@ -10,7 +10,7 @@ use native.Mathlib.Numerals.{add-one}
 use lib.ListN.{length, getD, take, drop, length-reverse, take-append-drop}
 use lib.Seq.{slice, slice-empty, take-suc, take-take, length-take-le, split-at, getD-drop, drop-append-le}
 use borrow.Author.Tests.{eqb-true}
-use Rattle.words.specs.Shape.{treesBy, oneTreeBy, startFromBy, startOfBy, subtreeOfBy, stackGivenBy, rootsBy, childrenOfBy}
+use Rattle.words.specs.Shape.{treesBy, oneTreeBy, startFromBy, spanOfBy, subtreeOfBy, stackGivenBy, rootsBy, childrenOfBy}
 use Rattle.words.proofs.PostfixLaws.{trees-split, trees-unsnoc, trees-same, startFrom-none, startFrom-add, startFrom-le}
 use Rattle.words.proofs.PostfixLaws.{start-parts, start-le, run-is, run-snoc}
 use Rattle.words.proofs.ChildLaws.{given-height, roots-more}
@@ -45,7 +45,7 @@ module _ (arity : ℕ → ℕ) (ws : List ℕ) where
           ap (startFromBy arity ws (suc j)) (sym z) ∙ sym q
 
   -- "the run of words that ends at it and makes one tree": there is no other
-  pub subtree-run : (i s : ℕ) → s ≤ i → i < length ws → oneTreeBy arity (slice s (i + 1) ws) ≡ true → startOfBy arity ws i ≡ s
+  pub subtree-run : (i s : ℕ) → s ≤ i → i < length ws → oneTreeBy arity (slice s (i + 1) ws) ≡ true → spanOfBy arity ws i .start ≡ s
   subtree-run i s hs hi h = run-start (i + 1) 1 s (omega arith) (omega arith) h
 
 -- ---- a node's children
@@ -91,7 +91,7 @@ module _ (arity : ℕ → ℕ) (ws : List ℕ) (j d : ℕ) (hj : j ≤ length ws
       let e : s - 1 + 1 ≡ s = omega arith in
       let p : startFromBy arity ws s 1 ≡ startFromBy arity ws j (suc n) =
       sym (startFrom-add arity ws j n 1) ∙ ap (startFromBy arity ws j) (add-one n) in
-      let q : startOfBy arity ws (s - 1) ≡ startFromBy arity ws j (suc n) = ap (λ (x : ℕ). startFromBy arity ws x 1) e ∙ p in
+      let q : spanOfBy arity ws (s - 1) .start ≡ startFromBy arity ws j (suc n) = ap (λ (x : ℕ). startFromBy arity ws x 1) e ∙ p in
       let r : reverse (take (suc n) N) ≡ (s - 1) ∷ reverse (take n N) =
       ap reverse (take-suc N n 0 (rw roots-height l)) ∙ reverse-append (take n N) (getD N n 0 ∷ [])
       ∙ ap (λ (x : ℕ). x ∷ reverse (take n N)) k in
@@ -124,7 +124,7 @@ module _ (arity : ℕ → ℕ) (ws : List ℕ) (i : ℕ) (h : oneTreeBy arity ws
   children-subtrees =
       let b = trees-before in
       let r = arity (getD ws i 0) in
-      let s = startOfBy arity ws i in
+      let s = spanOfBy arity ws i .start in
       ap (λ (n : ℕ). slice s n ws) (add-one i) ∙ run-snoc ws s i (start-le arity ws i) hi
       ∙ ap (λ (l : List ℕ). l ++ getD ws i 0 ∷ [])
       (ap (λ (s : ℕ). slice s i ws) (start-parts arity ws i) ∙ sym (roots-words arity ws i (b .0) (omega arith) (b .1) r (b .2)))

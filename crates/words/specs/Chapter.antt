@@ -1,12 +1,14 @@
--- The words of a chapter (document 01, kind 7) and refusals 10 and 11.
+-- The words of a chapter (document 01, kind 7) and refusals 10, 11 and 24.
 use Prim.Native.Nat.{ℕ}
 use mathlib.Core.List.{List, [], _∷_}
 use mathlib.Core.Bool.{Bool, not, _&&_}
+use lib.Dec.{ltb}
 use Rattle.words.specs.Lists.{all}
+use Rattle.words.specs.Limits.{heightMost}
 use Rattle.words.specs.Refusal.{Refusals, refusal}
 use Rattle.words.specs.Word.{nodeKind, isOf, lowByte}
 use Rattle.words.specs.Alphabet.{isSymbol}
-use Rattle.words.specs.Postfix.{notOneTree}
+use Rattle.words.specs.Postfix.{notOneTree, heightOf}
 
 -- the symbol of a node: bits 7..0
 abbrev pub symbolOf : ℕ → ℕ
@@ -27,3 +29,7 @@ treeRefusals a ch = (10, notNodes a ch) ∷ (11, notOneTree a ch) ∷ []
 -- 10 or 11, the first that applies, or 0
 abbrev pub treeFault : List ℕ → List ℕ → ℕ
 treeFault a ch = refusal (treeRefusals a ch)
+
+-- 24: "too high" (document 02, U6)
+unfoldable pub tooHigh : List ℕ → List ℕ → Bool
+tooHigh a ch = ltb heightMost (heightOf a ch)

@@ -36,3 +36,7 @@ compiledMost = 1148
 -- "a chapter 1 to 4,096 elements"
 abbrev pub nodesMost : ℕ
 nodesMost = 4096
+
+-- "chapters of height 512 are marked, 513 refused" (document 02, U6)
+abbrev pub heightMost : ℕ
+heightMost = 512

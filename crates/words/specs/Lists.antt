@@ -1,5 +1,5 @@
 -- Tests over a list, properties of all its members, lists by their index, and words written into a slice.
-use Prim.Native.Nat.{ℕ, zero, suc, _+_, _<_}
+use Prim.Native.Nat.{ℕ, zero, suc, _+_, _<_, max}
 use mathlib.Core.List.{List, [], _∷_, _++_}
 use mathlib.Core.Bool.{Bool, true, cond, _&&_}
 use lib.ListN.{length, drop}
@@ -13,6 +13,11 @@ all f (x ∷ xs) = f x && all f xs
 abbrev pub count : (ℕ → Bool) → List ℕ → ℕ
 count f [] = 0
 count f (x ∷ xs) = cond (f x) 1 0 + count f xs
+
+-- the highest number of the list; 0 where there is none
+unfoldable pub highest : List ℕ → ℕ
+highest [] = 0
+highest (x ∷ xs) = max x (highest xs)
 
 -- the property holds of every member of the list
 abbrev pub All : {A : Type 0} → (A → Type 0) → List A → Type 0

@@ -6,7 +6,7 @@ use mathlib.Core.Bool.{Bool}
 use Rattle.words.specs.Word.{Kind, entryKind, symbolKind, emptyKind, unionKind, productKind, closureKind, nodeKind}
 use Rattle.words.specs.Word.{headKind, transitionKind, epsilonKind, sourceKind, lengthKind, noKind, kindOf, lowByte}
 use Rattle.words.specs.Alphabet.{rankOf}
-use Rattle.words.specs.Shape.{treesBy, oneTreeBy, notOneTreeBy, startFromBy, startOfBy, subtreeOfBy, isAncestorBy}
+use Rattle.words.specs.Shape.{Span, treesBy, oneTreeBy, notOneTreeBy, heightOfBy, startFromBy, spanOfBy, subtreeOfBy, isAncestorBy}
 use Rattle.words.specs.Shape.{depthOfBy, spliceBy, valueOnBy, valuesBy, stackAfterBy, stackGivenBy, rootsBy, childrenOfBy}
 
 -- how many children (document 01's parts) a word of a kind takes, where `rank` is the rank of its symbol
@@ -28,7 +28,7 @@ arityAt rank noKind = 0
 unfoldable pub arity : List ℕ → ℕ → ℕ
 arity a w = arityAt (rankOf a (lowByte w)) (kindOf w)
 
--- ---- which words make trees, where subtrees begin, ancestors, and a subtree that gives way
+-- ---- which words make trees, subtrees and their heights, ancestors, and a subtree that gives way
 
 abbrev pub trees : List ℕ → ℕ → List ℕ → ℕ → Bool
 trees a = treesBy (arity a)
@@ -40,11 +40,15 @@ oneTree a = oneTreeBy (arity a)
 unfoldable pub notOneTree : List ℕ → List ℕ → Bool
 notOneTree a = notOneTreeBy (arity a)
 
+-- document 02, U6
+abbrev pub heightOf : List ℕ → List ℕ → ℕ
+heightOf a = heightOfBy (arity a)
+
 abbrev pub startFrom : List ℕ → List ℕ → ℕ → ℕ → ℕ
 startFrom a = startFromBy (arity a)
 
-abbrev pub startOf : List ℕ → List ℕ → ℕ → ℕ
-startOf a = startOfBy (arity a)
+abbrev pub spanOf : List ℕ → List ℕ → ℕ → Span
+spanOf a = spanOfBy (arity a)
 
 abbrev pub subtreeOf : List ℕ → List ℕ → ℕ → List ℕ
 subtreeOf a = subtreeOfBy (arity a)

@@ -4,7 +4,7 @@ use mathlib.Core.Path.{_≡_}
 use mathlib.Core.List.{List, [], _∷_}
 use mathlib.Core.Bool.{Bool, true, false, cond, _||_}
 
--- a call's refusals in document 01's order: each number with its condition
+-- a call's refusals in the documents' order: each number with its condition
 abbrev pub Refusals : Type 0
 Refusals = List (ℕ × Bool)
 

@@ -1,5 +1,5 @@
 -- Ordered trees whose nodes carry a number: a symbol in a subject tree, a word in the tree that postfix words make.
-use Prim.Native.Nat.{ℕ, suc}
+use Prim.Native.Nat.{ℕ, suc, max}
 use mathlib.Core.List.{List, [], _∷_, _++_}
 
 mutual
@@ -29,3 +29,12 @@ abbrev mutual
   pub postfixAll : Trees → List ℕ
   postfixAll none = []
   postfixAll (more t ts) = postfix t ++ postfixAll ts
+
+-- "a lone element having 1" (document 02, U6), otherwise one more than the highest child; 0 where there are no trees
+abbrev mutual
+  pub height : Tree → ℕ
+  height (node n ts) = suc (heightAll ts)
+
+  pub heightAll : Trees → ℕ
+  heightAll none = 0
+  heightAll (more t ts) = max (height t) (heightAll ts)

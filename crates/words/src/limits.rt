@@ -1,4 +1,4 @@
-// Document 01's limits; specs/Limits.antt has them for the definitions.
+// The documents' limits; specs/Limits.antt has them for the definitions.
 ghost use mathlib.Core.Path.{_≡_};
 ghost use Rattle.words.specs.Limits.{outside};
 
@@ -22,6 +22,9 @@ pub const TABLE_MOST: usize = 2048;
 
 // The most elements of a chapter.
 pub const NODES_MOST: usize = 4096;
+
+// The height of the highest chapter (document 02, U6).
+pub const HEIGHT_MOST: usize = 512;
 
 // Whether a number is 0 or over the most.
 pub fn is_outside(most: usize, n: usize) -> bool

@@ -33,13 +33,18 @@ same-length c = search needs
 
 returns : tie.Need-returns
 returns c =
-    rw (← cut-in _ (c .before .before .before .before .table-word-count .ensures))
-    (call-refused (call (c .before)) _ (c .before .exchange-fault .ensures) (c .if1 .taken))
+    let judged = c .before .before in
+    rw (← cut-in _ (judged .before .before .before .table-word-count .ensures))
+    (call-refused (call judged) _ (judged .exchange-fault .ensures .fault) (c .if1 .taken))
 
 replace-subtree-requires : tie.Need-replace-subtree-requires
 replace-subtree-requires c κs =
     let d = c .before .before in
-    call-passes (call (d .before)) _ (d .before .exchange-fault .ensures) (d .if1 .left)
+    let judged = d .before .before in
+    record {
+      passes = call-passes (call judged) _ (judged .exchange-fault .ensures .fault) (d .if1 .left);
+      begins = judged .exchange-fault .ensures .begins (d .if1 .left);
+    }
 
 same-length-2 : tie.Need-same-length-2
 same-length-2 c = search needs
@@ -50,7 +55,7 @@ same-length-3 c = search needs
 returns-2 : tie.Need-returns-2
 returns-2 c =
     let done = c .before .before .before .before in
-    let cut = done .before .before .before .before .before .before .before in
+    let cut = done .before .before .before .before .before .before .before .before in
     rw (← cut-in _ (cut .table-word-count .ensures)) (done .replace-subtree .ensures)
 
 pub exchange-spec : {M : Type 1} → statement M

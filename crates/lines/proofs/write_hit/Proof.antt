@@ -1,26 +1,29 @@
 -- `lines::write_hit` meets its contract: the parts of the line are written one after the other, and a subtree begins at or
 -- before its last node.
+use mathlib.Core.Path.{ap}
 use native.Mathlib.Omega.{arith}
 use borrow.Author.Needs.{needs}
 use Rattle.words.specs.Postfix.{arity}
+use Rattle.words.specs.Shape.{Span}
 use Rattle.words.proofs.PostfixLaws.{start-le}
 use Rattle.lines.proofs.LineLaws.{hit-written}
 use Rattle.lines.proofs.write_hit.Statement.{statement}
 use Rattle.lines.proofs.write_hit.Tie as tie
 
+subtree-span-requires : tie.Need-subtree-span-requires
+subtree-span-requires c κs = search needs
+
 add-size : tie.Need-add-size
 add-size c = search needs
 
-subtree-start-requires : tie.Need-subtree-start-requires
-subtree-start-requires c κs = tt
-
 sub-size : tie.Need-sub-size
 sub-size c =
+    let call = c .before in
+    let q = call .before .before .before .before .args in
     omega (
       arith,
-      c .subtree-start .ensures,
-      start-le (arity (c .before .before .before .before .args .alphabet .now)) (c .before .before .before .before .args .chapter .now)
-          (c .before .before .before .before .args .hit),
+      ap (λ (p : Span). p .start) (call .subtree-span .ensures),
+      start-le (arity (q .alphabet .now)) (q .chapter .now) (q .hit),
     )
 
 write-field-requires : tie.Need-write-field-requires
@@ -45,7 +48,8 @@ returns c =
     let symbol = second .before in
     let first = symbol .before .before .before .before in
     let start = first .before .before in
-    hit-written _ _ _ _ _ (symbol .symbol-of .ensures) (start .subtree-start .ensures) (first .write-field .ensures)
+    hit-written _ _ _ _ _ (symbol .symbol-of .ensures) (ap (λ (p : Span). p .start) (start .before .subtree-span .ensures))
+    (first .write-field .ensures)
     (second .write-field2 .ensures)
     (third .write-field3 .ensures)
 
@@ -53,8 +57,8 @@ pub write-hit-spec : {M : Type 1} → statement M
 write-hit-spec =
     tie.close
     (tie.spec
+    subtree-span-requires
     add-size
-    subtree-start-requires
     sub-size
     write-field-requires
     symbol-of-requires

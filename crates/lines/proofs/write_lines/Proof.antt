@@ -27,7 +27,7 @@ shared-slice-read-write-hit : tie.Need-shared-slice-read-write-hit Inv-loop μ-l
 shared-slice-read-write-hit c = search needs
 
 write-hit-requires : tie.Need-write-hit-requires Inv-loop μ-loop
-write-hit-requires c κs = tt
+write-hit-requires c κs = search needs
 
 add-i : tie.Need-add-i Inv-loop μ-loop
 add-i c = search needs

@@ -3,7 +3,7 @@ use mathlib.Core.Path.{sym}
 use native.Mathlib.Omega.{arith}
 use lib.Seq.{length-take-le}
 use borrow.Author.Needs.{needs}
-use Rattle.report.proofs.ReportLaws.{hits-most, never-refused, lines-written}
+use Rattle.report.proofs.ReportLaws.{hits-most, elements-few, never-refused, lines-written}
 use Rattle.report.proofs.report_hits.Statement.{statement}
 use Rattle.report.proofs.report_hits.Tie as tie
 
@@ -34,7 +34,10 @@ slice-aggregate-write-lines c =
     sym (length-take-le (told .given .0 .0) (call .last .1 .1 .1 .1 .0) (omega arith))
 
 write-lines-requires : tie.Need-write-lines-requires
-write-lines-requires c κs = tt
+write-lines-requires c κs =
+    let told = c .before .before .before .before .count in
+    let call = c .before .before .before .before .before .before .before .list in
+    elements-few _ _ _ _ _ (told .given .1) (call .ensures .0)
 
 enum-known-number : tie.Need-enum-known-number
 enum-known-number c = search needs

@@ -1,14 +1,13 @@
 -- `exchanger::subtree::replace_subtree` meets its contract: both tails move, the replacement fills the chapter's gap, and the loops
 -- recompute what the definition says, with the old element's words at the root's place.
-use mathlib.Core.Path.{sym, ap₂}
+use mathlib.Core.Path.{ap₂}
 use mathlib.Core.List.{[], _∷_}
 use Prim.Native.Nat.{ℕ}
 use native.Mathlib.Omega.{arith}
 use borrow.Author.Needs.{needs}
 use Rattle.words.specs.Answer.{accepted}
 use Rattle.operations.specs.ExchangeCall.{ExchangeCall, exchangeCall}
-use Rattle.operations.proofs.AcceptedLaws.{call-accepted}
-use Rattle.exchanger.proofs.CallNumberLaws.{CallNumbers, call-numbers, length-used, chapter-movable, marks-movable}
+use Rattle.exchanger.proofs.CallNumberLaws.{CallNumbers, call-numbers, chapter-movable, marks-movable}
 use Rattle.exchanger.proofs.ExchangeAnswerLaws.{call-replaced}
 use Rattle.exchanger.proofs.ReplaceLaws.{chapter-exit, chapter-count, call-updatable, marks-exit}
 use Rattle.exchanger.proofs.subtree.replace_subtree.Statement.{statement}
@@ -22,11 +21,8 @@ call c =
     let q = start c .args in
     exchangeCall (q .alphabet .now) (q .table .now) (q .chapter .now) (q .marks .now) (q .count) (q .element) (q .replacement .now)
 
-abbrev sized : tie.After-subtree-start → tie.After-set-size
-sized c = c .before .before
-
--- the place behind `subtree_start`, seen from later ones
-abbrev placed : tie.After-move-tail → tie.After-subtree-start
+-- the place behind `set_size`, seen from later ones
+abbrev placed : tie.After-move-tail → tie.After-set-size
 placed c = c .before .before
 
 abbrev moved : tie.After-copy-words → tie.After-move-tail
@@ -35,20 +31,11 @@ moved c = c .before .before .before .before
 abbrev filled : tie.After-move-tail2 → tie.After-copy-words
 filled c = c .before .before .before .before
 
-facts : (c : tie.After-subtree-start) → CallNumbers (call (sized c)) (c .subtree-start .result) (sized c .set-size .result)
-facts c = call-numbers (call (sized c)) (start (sized c) .pre) _ (c .subtree-start .ensures) _ (sized c .set-size .ensures)
+facts : (c : tie.After-set-size) → CallNumbers (call c) (start c .args .start) (c .set-size .result)
+facts c = call-numbers (call c) (start c .pre .passes) _ (start c .pre .begins) _ (c .set-size .ensures)
 
 set-size-requires : tie.Need-set-size-requires
 set-size-requires c κs = search needs
-
-slice-reshare-prefix-subtree-start : tie.Need-slice-reshare-prefix-subtree-start
-slice-reshare-prefix-subtree-start c = call-accepted (call c) (start c .pre) .count .within
-
-slice-aggregate-subtree-start : tie.Need-slice-aggregate-subtree-start
-slice-aggregate-subtree-start c = sym (length-used (call (c .before)) (start (c .before) .pre))
-
-subtree-start-requires : tie.Need-subtree-start-requires
-subtree-start-requires c κs = search needs
 
 add-behind : tie.Need-add-behind
 add-behind c = let f = facts c in omega arith
@@ -71,7 +58,7 @@ add-move-tail c = let f = facts (c .before) in omega arith
 move-tail-requires : tie.Need-move-tail-requires
 move-tail-requires c κs =
     let p = c .before in
-    chapter-movable (call (sized p)) (start (sized p) .pre) _ (p .subtree-start .ensures) _ (sized p .set-size .ensures)
+    chapter-movable (call p) (start p .pre .passes) _ (start p .pre .begins) _ (p .set-size .ensures)
 
 copy-words-requires : tie.Need-copy-words-requires
 copy-words-requires c κs =
@@ -92,7 +79,7 @@ mul-move-tail-3 c = let f = facts (placed (moved (c .before .before .before))) i
 move-tail-requires-2 : tie.Need-move-tail-requires-2
 move-tail-requires-2 c κs =
     let p = placed (moved (c .before .before .before)) in
-    marks-movable (call (sized p)) (start (sized p) .pre) _ (p .subtree-start .ensures) _ (sized p .set-size .ensures)
+    marks-movable (call p) (start p .pre .passes) _ (start p .pre .begins) _ (p .set-size .ensures)
 
 slice-reshare-prefix-update-marks : tie.Need-slice-reshare-prefix-update-marks
 slice-reshare-prefix-update-marks c =
@@ -108,7 +95,7 @@ slice-aggregate-update-marks c =
     let f = filled (c .before .before .before) in
     let t = moved f in
     let p = placed t in
-    chapter-count (call (sized p)) (start (sized p) .pre) _ (p .subtree-start .ensures) _ (sized p .set-size .ensures)
+    chapter-count (call p) (start p .pre .passes) _ (start p .pre .begins) _ (p .set-size .ensures)
     _ _ (t .move-tail .ensures) (f .copy-words .ensures)
 
 update-marks-requires : tie.Need-update-marks-requires
@@ -117,7 +104,7 @@ update-marks-requires c κs =
     let f = filled w in
     let t = moved f in
     let p = placed t in
-    call-updatable (call (sized p)) (start (sized p) .pre) _ (p .subtree-start .ensures) _ (sized p .set-size .ensures)
+    call-updatable (call p) (start p .pre .passes) _ (start p .pre .begins) _ (p .set-size .ensures)
     _ _ (t .move-tail .ensures) (f .copy-words .ensures) _ (w .move-tail2 .ensures) (w .move-tail2 .kept .0)
 
 same-length : tie.Need-same-length
@@ -133,10 +120,10 @@ returns c =
     let f = filled w in
     let t = moved f in
     let p = placed t in
-    let q = call (sized p) in
-    let pre = start (sized p) .pre in
-    let qs = p .subtree-start .ensures in
-    let qz = sized p .set-size .ensures in
+    let q = call p in
+    let pre = start p .pre .passes in
+    let qs = start p .pre .begins in
+    let qz = p .set-size .ensures in
     let left =
     marks-exit q pre _ qs _ qz _ _ (t .move-tail .ensures) (f .copy-words .ensures) _ (w .move-tail2 .ensures) (w .move-tail2 .kept .0)
     _ _ (k .update-marks .ensures) in
@@ -150,9 +137,6 @@ replace-subtree-spec =
     tie.close
     (tie.spec
     set-size-requires
-    slice-reshare-prefix-subtree-start
-    slice-aggregate-subtree-start
-    subtree-start-requires
     add-behind
     sub-root
     sub-total

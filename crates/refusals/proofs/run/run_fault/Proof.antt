@@ -30,8 +30,8 @@ returns-2 c =
     (passes (tableRefusals _ _) refl (first .before .table-fault .ensures) (first .if1 .left)
     (here (sym (c .before .wrong-count .ensures) ∙ c .if2 .taken)))
 
-marked-fault-requires : tie.Need-marked-fault-requires
-marked-fault-requires c κs = count-right _ (sym (c .before .wrong-count .ensures) ∙ c .if2 .left) .few
+marked-shape-requires : tie.Need-marked-shape-requires
+marked-shape-requires c κs = count-right _ (sym (c .before .wrong-count .ensures) ∙ c .if2 .left) .few
 
 returns-3 : tie.Need-returns-3
 returns-3 c =
@@ -40,7 +40,7 @@ returns-3 c =
     found-refusal (asked (first .before))
     (passes (tableRefusals _ _) refl (first .before .table-fault .ensures) (first .if1 .left)
     (next (sym (count .before .wrong-count .ensures) ∙ count .if2 .left)
-    (refusal-found (markedRefusals _ _ _ _ _) (c .marked-fault .ensures))))
+    (refusal-found (markedRefusals _ _ _ _ _) (c .marked-shape .ensures .fault))))
 
 pub run-fault-spec : {M : Type 1} → statement M
 run-fault-spec =
@@ -50,5 +50,5 @@ run-fault-spec =
     returns
     wrong-count-requires
     returns-2
-    marked-fault-requires
+    marked-shape-requires
     returns-3)

@@ -1,0 +1,5 @@
+pub mod HeightStack
+pub mod Pairs
+pub mod Runs
+pub mod SpanAnswer
+pub mod TreeShape
