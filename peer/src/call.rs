@@ -39,7 +39,7 @@ pub struct Call {
 /// What a call answers and leaves.
 #[derive(Clone, PartialEq, Eq)]
 pub struct Answer {
-    /// 0 where the call is accepted, otherwise document 01's number of the refusal.
+    /// 0 where the call is accepted, otherwise the number of the refusal.
     pub number: u32,
     /// What stands behind the out-parameters.
     pub values: [u32; 2],

@@ -3,8 +3,8 @@
 
 use crate::call::{Answer, Call, Matcher, Operation};
 use crate::chance::Random;
-use crate::model::Model;
-use crate::refusals;
+use crate::model;
+use crate::refusals::{self, Condition};
 use std::collections::BTreeMap;
 
 /// How many differences are printed in full.
@@ -28,6 +28,14 @@ impl Tally {
     }
 }
 
+/// How often each operation refused by each condition and, under None, accepted.
+pub type Numbers = BTreeMap<Operation, BTreeMap<Option<Condition>, u64>>;
+
+fn times(numbers: &Numbers, operation: Operation, refusal: Option<Condition>) -> u64 {
+    let given = numbers.get(&operation);
+    given.and_then(|given| given.get(&refusal)).copied().unwrap_or(0)
+}
+
 pub struct Comparison {
     matcher: Box<dyn Matcher>,
     /// Calls made of the compared matcher.
@@ -36,8 +44,8 @@ pub struct Comparison {
     pub runs: Tally,
     /// Checks of the model and of the cases: they hold whatever is compared.
     pub checks: Tally,
-    /// How often each operation gave each number, so that a run shows what it covered.
-    pub numbers: BTreeMap<Operation, BTreeMap<u32, u64>>,
+    /// What the model answered, so that a run shows what it covered.
+    pub numbers: Numbers,
     /// The random case being compared, as text; empty where the input is fixed.
     case: String,
     quiet: bool,
@@ -92,9 +100,10 @@ impl Comparison {
     }
 
     fn compare(&mut self, wrong: &str, call: &Call, found: Answer) -> Answer {
-        let expected = Model.answer(call);
+        let refusal = refusals::refusal(call);
+        let expected = model::answer_with(refusal, call);
         let counts = self.numbers.entry(call.operation).or_default();
-        *counts.entry(expected.number).or_default() += 1;
+        *counts.entry(refusal).or_default() += 1;
         let agrees = found == expected;
         self.calls.count(agrees);
         self.print_unless(agrees, wrong, || {
@@ -131,16 +140,37 @@ impl Comparison {
         }
     }
 
-    /// Checks that every operation was accepted and gave each of its numbers at least once.
+    /// Compares, and checks that each of these operations was meanwhile refused by the condition beside it, or accepted.
+    pub fn check_meets(
+        &mut self,
+        wanted: &[(Operation, Option<Condition>)],
+        compare: impl FnOnce(&mut Comparison),
+    ) {
+        let before = self.numbers.clone();
+        compare(self);
+        for (operation, refusal) in wanted {
+            let wrong = format!("no {operation:?} was answered here by {}", said(*refusal));
+            let is_given = times(&self.numbers, *operation, *refusal) > times(&before, *operation, *refusal);
+            self.check(&wrong, is_given, String::new);
+        }
+    }
+
+    /// Checks that every operation was accepted and refused by each of its conditions at least once.
     pub fn check_numbers(&mut self) {
         for operation in Operation::ALL {
-            let given = self.numbers.entry(operation).or_default().clone();
-            for number in [vec![0], refusals::numbers(operation)].concat() {
-                let wrong = format!("no {operation:?} was answered by {number}");
-                self.check(&wrong, given.contains_key(&number), String::new);
+            let refusals = refusals::conditions(operation).into_iter().map(Some);
+            for refusal in [None].into_iter().chain(refusals) {
+                let wrong = format!("no {operation:?} was answered by {}", said(refusal));
+                let is_given = times(&self.numbers, operation, refusal) > 0;
+                self.check(&wrong, is_given, String::new);
             }
         }
     }
+}
+
+/// What refused a call, as text; 0 where it was accepted.
+pub fn said(refusal: Option<Condition>) -> String {
+    refusal.map_or("0".to_string(), |condition| condition.to_string())
 }
 
 /// The first thing in which two answers differ.

@@ -115,6 +115,39 @@ pub fn tree(random: &mut Random, alphabet: &[u32], budget: usize) -> Tree {
     })
 }
 
+/// An alphabet that has symbols with children.
+pub fn alphabet_with_children(random: &mut Random) -> Vec<u32> {
+    loop {
+        let own = alphabet(random);
+        if !symbols_within(&own, 1, ARITY_LIMIT).is_empty() {
+            return own;
+        }
+    }
+}
+
+/// A tree of exactly this height over such an alphabet: a path from the root to a leaf, on which each next node is at any
+/// place among the children, and the other children are leaves, or sometimes trees that are no higher.
+pub fn high_tree(random: &mut Random, alphabet: &[u32], height: usize) -> Tree {
+    let symbols = symbols_within(alphabet, 1, ARITY_LIMIT);
+    let mut before: Vec<Tree> = Vec::new();
+    let mut behind = vec![random.pick(&words::constants(alphabet))];
+    for below in 1..height {
+        let (symbol, arity) = random.pick(&symbols);
+        let place = random.below(arity);
+        let mut parts: Vec<Tree> = (1..arity)
+            .map(|_| {
+                // No tree is higher than it has nodes.
+                let budget = if random.once_in(16) { below.min(5) } else { 1 };
+                tree(random, alphabet, budget)
+            })
+            .collect();
+        behind.extend(parts.split_off(place).concat());
+        behind.push(symbol);
+        before.push(parts.concat());
+    }
+    before.into_iter().rev().flatten().chain(behind).collect()
+}
+
 /// A well-formed table that no expression needs to have: transitions and epsilon transitions at random.
 pub fn table(random: &mut Random, alphabet: &[u32]) -> Vec<u32> {
     let states = match random.below(6) {

@@ -1,4 +1,4 @@
-//! Document 01's limits, each once: the most there may be of everything.
+//! Document 01's limits and document 02's, each once: the most there may be of everything.
 
 /// Words of an alphabet.
 pub const SYMBOL_LIMIT: usize = 64;
@@ -25,7 +25,10 @@ pub const COMPILED_LIMIT: usize = 1148;
 /// Nodes of a tree.
 pub const NODE_LIMIT: usize = 4096;
 
-/// Nodes of a tree that the program `marklist` takes.
+/// Nodes of a tree one above the other, its height (document 02, U6).
+pub const HEIGHT_LIMIT: usize = 512;
+
+/// Nodes of a tree that the program `marklist` takes. It is below the greatest height, so the program never says 24.
 pub const PROGRAM_LIMIT: usize = 256;
 
 /// Words of a state set.

@@ -5,10 +5,10 @@
 //! HAQBYLUR_LIB_DIR names the folder of the static library when this is built, HAQBYLUR_MARKLIST the program when it runs.
 
 use peer::cases::{
-    behind, damage, examples, faults, histories, largest, length_words, lengths, limits, packed, program,
-    random,
+    behind, damage, examples, faults, heights, high_chapters, high_histories, histories, largest,
+    length_words, lengths, limits, packed, program, raised, random,
 };
-use peer::compare::{Comparison, Tally};
+use peer::compare::{said, Comparison, Tally};
 use peer::library;
 use std::process::ExitCode;
 use std::time::Instant;
@@ -51,6 +51,8 @@ fn main() -> ExitCode {
     section("length words", &mut length_words::compare);
     section("tables end to end", &mut packed::compare);
     section("nothing behind a table", &mut behind::compare);
+    section("heights of chapters", &mut heights::compare);
+    section("exchanges that raise or lower", &mut raised::compare);
     section("two faults at once", &mut faults::compare);
     section("damaged words", &mut |all| damage::compare(all, seed, cases / 4));
     section("random rules and chapters", &mut |all| {
@@ -58,6 +60,12 @@ fn main() -> ExitCode {
     });
     section("lists of exchanges", &mut |all| {
         histories::compare(all, seed, cases / 4)
+    });
+    section("random high chapters", &mut |all| {
+        high_chapters::compare(all, seed, 1 + cases / 40)
+    });
+    section("lists of exchanges on high chapters", &mut |all| {
+        high_histories::compare(all, seed, 1 + cases / 100)
     });
     let path = program::path();
     if let Some(path) = &path {
@@ -86,7 +94,7 @@ fn print_numbers(comparison: &Comparison) {
     for (operation, numbers) in &comparison.numbers {
         let counts: Vec<String> = numbers
             .iter()
-            .map(|(number, times)| format!("{number}: {times}"))
+            .map(|(refusal, times)| format!("{}: {times}", said(*refusal)))
             .collect();
         println!("{operation:?} answered {}", counts.join(", "));
     }

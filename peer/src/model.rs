@@ -4,25 +4,30 @@ use crate::automaton;
 use crate::call::{Answer, Call, Matcher, Operation};
 use crate::exchange::{exchange, MarkedTree};
 use crate::marks::Table;
-use crate::refusals;
+use crate::refusals::{self, Condition};
 use crate::words;
 
 pub struct Model;
 
 impl Matcher for Model {
     fn answer(&mut self, call: &Call) -> Answer {
-        if let Some(number) = refusals::faults(call).first() {
-            return Answer::unwritten(*number, call);
-        }
-        let mut answer = Answer::unwritten(0, call);
-        match call.operation {
-            Operation::Compile => write_table(&mut answer),
-            Operation::Run => write_sets(&mut answer),
-            Operation::List => write_matches(&mut answer),
-            Operation::Exchange => write_exchange(&mut answer),
-        }
-        answer
+        answer_with(refusals::refusal(call), call)
     }
+}
+
+/// What the call answers and leaves where it is refused by this condition, or accepted without one.
+pub fn answer_with(refusal: Option<Condition>, call: &Call) -> Answer {
+    if let Some(condition) = refusal {
+        return Answer::unwritten(condition.number, call);
+    }
+    let mut answer = Answer::unwritten(0, call);
+    match call.operation {
+        Operation::Compile => write_table(&mut answer),
+        Operation::Run => write_sets(&mut answer),
+        Operation::List => write_matches(&mut answer),
+        Operation::Exchange => write_exchange(&mut answer),
+    }
+    answer
 }
 
 /// The state set words that Run writes for a tree, those of the first node first.

@@ -29,6 +29,22 @@ pub fn sizes(children: &[Vec<usize>]) -> Vec<usize> {
     sizes
 }
 
+/// How many words stand one above the other in the subtree of each word: a lone word has height 1, any other is one higher
+/// than its highest child.
+pub fn heights(children: &[Vec<usize>]) -> Vec<usize> {
+    let mut heights: Vec<usize> = Vec::with_capacity(children.len());
+    for own in children {
+        let below = own.iter().map(|child| heights[*child]).max();
+        heights.push(1 + below.unwrap_or(0));
+    }
+    heights
+}
+
+/// The height of a whole tree of symbols that have these arities.
+pub fn tree_height(tree: &[usize], arities: &[usize]) -> usize {
+    *heights(&tree_children(tree, arities)).last().expect("a root")
+}
+
 /// The ancestors of a word, from the nearest upwards.
 pub fn ancestors(children: &[Vec<usize>], word: usize) -> Vec<usize> {
     let sizes = sizes(children);

@@ -1,31 +1,77 @@
-//! Document 01's "Refused calls", with document 02's U1. Every condition is judged by itself, so that a call has a list
-//! of faults in the order of the document; the first of them is its refusal, and a call without a fault is accepted.
+//! Document 01's "Refused calls", with document 02's U1 and U6. Every condition is judged by itself, so that a call has a
+//! list of faults in the documents' order; the first of them is its refusal, and a call without a fault is accepted.
 //! A condition that rests on something missing (the table of a rule that is none, say) is judged by what holds of every
-//! such thing: a table has two words, a state set has a word, a result has the replacement's nodes.
+//! such thing: a table has two words, a state set has a word, a result has the replacement's nodes. What is no tree has no
+//! height, so it is not too high.
 
 use crate::automaton;
 use crate::call::{Call, Operation};
+use crate::exchange::splice;
 use crate::length_word::LEAST_WORDS;
-use crate::limits::{CONSTANT_LIMIT, EXPRESSION_LIMIT, NODE_LIMIT, STATE_LIMIT, SYMBOL_LIMIT};
+use crate::limits::{CONSTANT_LIMIT, EXPRESSION_LIMIT, HEIGHT_LIMIT, NODE_LIMIT, STATE_LIMIT, SYMBOL_LIMIT};
 use crate::marks::Table;
 use crate::postfix;
 use crate::words::{self, Operator};
+use std::fmt;
 
-/// The numbers whose conditions the call meets, in document 01's order for its operation.
-pub fn faults(call: &Call) -> Vec<u32> {
-    judged(call)
+/// A condition by which an operation refuses: its number, and whether that stands in the operation's order for the second
+/// time. Exchange's first 24 is asked of the used chapter, its second of the result.
+#[derive(Clone, Copy, Debug, PartialEq, Eq, PartialOrd, Ord)]
+pub struct Condition {
+    pub number: u32,
+    pub is_second: bool,
+}
+
+impl Condition {
+    pub const fn first(number: u32) -> Condition {
+        let is_second = false;
+        Condition { number, is_second }
+    }
+
+    pub const fn second(number: u32) -> Condition {
+        let is_second = true;
+        Condition { number, is_second }
+    }
+}
+
+impl fmt::Display for Condition {
+    fn fmt(&self, f: &mut fmt::Formatter<'_>) -> fmt::Result {
+        let which = if self.is_second { "second " } else { "" };
+        write!(f, "{which}{}", self.number)
+    }
+}
+
+/// The conditions that the call meets, in the documents' order for its operation.
+pub fn faults(call: &Call) -> Vec<Condition> {
+    in_order(call)
         .into_iter()
         .filter(|(_, fault)| *fault)
-        .map(|(number, _)| number)
+        .map(|(condition, _)| condition)
         .collect()
 }
 
-/// The numbers of an operation in the order in which they are judged, whatever is given to it.
-pub fn numbers(operation: Operation) -> Vec<u32> {
-    judged(&Call::empty(operation, &[]))
+/// The condition that refuses the call.
+pub fn refusal(call: &Call) -> Option<Condition> {
+    faults(call).first().copied()
+}
+
+/// The conditions of an operation in the order in which they are judged, whatever is given to it.
+pub fn conditions(operation: Operation) -> Vec<Condition> {
+    in_order(&Call::empty(operation, &[]))
         .into_iter()
-        .map(|(number, _)| number)
+        .map(|(condition, _)| condition)
         .collect()
+}
+
+fn in_order(call: &Call) -> Vec<(Condition, bool)> {
+    let judged = judged(call);
+    let condition = |place: usize| {
+        let number = judged[place].0;
+        let is_second = judged[..place].iter().any(|(before, _)| *before == number);
+        Condition { number, is_second }
+    };
+    let faults = judged.iter().map(|(_, fault)| *fault);
+    (0..judged.len()).map(condition).zip(faults).collect()
 }
 
 /// Numbers in order, each with whether its condition holds.
@@ -79,11 +125,11 @@ fn expression(call: &Call) -> Judged {
     let Call {
         alphabet, expression, ..
     } = call;
-    let operands = expression.iter().map(|word| words::operands(alphabet, *word));
+    let operands = leaf_unless_known(expression.iter().map(|word| words::operands(alphabet, *word)));
     vec![
         (3, is_outside(expression.len(), EXPRESSION_LIMIT)),
         (4, expression.iter().any(|word| is_no_operator(alphabet, *word))),
-        (5, is_no_single_tree(operands)),
+        (5, postfix::children(&operands).is_none()),
         (6, automaton::states(alphabet, expression) > STATE_LIMIT),
     ]
 }
@@ -104,9 +150,12 @@ fn count(own: &Marked) -> Judged {
 }
 
 fn tree(own: &Marked) -> Judged {
+    let alphabet = &own.call.alphabet;
+    let children = postfix::children(&node_arities(alphabet, own.tree));
     vec![
-        (10, has_no_node(&own.call.alphabet, own.tree)),
-        (11, is_no_tree(&own.call.alphabet, own.tree)),
+        (10, has_no_node(alphabet, own.tree)),
+        (11, children.is_none()),
+        (24, is_too_high(children)),
     ]
 }
 
@@ -125,15 +174,18 @@ fn change(own: &Marked) -> Judged {
         replacement,
         ..
     } = own.call;
+    let arities = node_arities(alphabet, replacement);
     let is_no_replacement = is_outside(replacement.len(), NODE_LIMIT)
         || has_no_node(alphabet, replacement)
-        || is_no_tree(alphabet, replacement);
-    let result = result_nodes(alphabet, own.tree, *node, replacement.len());
-    let is_over_slice = result > own.call.tree.len() || own.set_words(result) > own.call.sets.len();
+        || postfix::children(&arities).is_none();
+    let result = result(&node_arities(alphabet, own.tree), *node, &arities);
+    let nodes = result.len();
+    let is_over_slice = nodes > own.call.tree.len() || own.set_words(nodes) > own.call.sets.len();
     vec![
         (14, *node >= own.count),
         (15, is_no_replacement),
-        (16, result > NODE_LIMIT || is_over_slice),
+        (16, nodes > NODE_LIMIT || is_over_slice),
+        (24, is_too_high(postfix::children(&result))),
     ]
 }
 
@@ -163,25 +215,30 @@ fn has_no_node(alphabet: &[u32], tree: &[u32]) -> bool {
     tree.iter().any(|word| node_arity(alphabet, *word).is_none())
 }
 
-fn is_no_tree(alphabet: &[u32], tree: &[u32]) -> bool {
-    is_no_single_tree(tree.iter().map(|word| node_arity(alphabet, *word)))
-}
-
 fn node_arity(alphabet: &[u32], word: u32) -> Option<usize> {
     words::arity(alphabet, words::read_node(word)?)
 }
 
-/// A word without an arity is another number's fault; here it counts as a leaf.
-fn is_no_single_tree(arities: impl Iterator<Item = Option<usize>>) -> bool {
-    let arities: Vec<usize> = arities.map(|arity| arity.unwrap_or(0)).collect();
-    postfix::children(&arities).is_none()
+fn node_arities(alphabet: &[u32], tree: &[u32]) -> Vec<usize> {
+    leaf_unless_known(tree.iter().map(|word| node_arity(alphabet, *word)))
 }
 
-/// How many nodes the tree has after the exchange.
-fn result_nodes(alphabet: &[u32], used: &[u32], node: usize, replacement: usize) -> usize {
-    let arities: Option<Vec<usize>> = used.iter().map(|word| node_arity(alphabet, *word)).collect();
-    match arities.and_then(|arities| postfix::children(&arities)) {
-        Some(children) if node < used.len() => used.len() - postfix::sizes(&children)[node] + replacement,
-        _ => replacement,
+/// A word without an arity is another number's fault; otherwise it counts as a leaf.
+fn leaf_unless_known(arities: impl Iterator<Item = Option<usize>>) -> Vec<usize> {
+    arities.map(|arity| arity.unwrap_or(0)).collect()
+}
+
+fn is_too_high(children: Option<Vec<Vec<usize>>>) -> bool {
+    children.is_some_and(|children| postfix::heights(&children).last() > Some(&HEIGHT_LIMIT))
+}
+
+/// The arities of the nodes after the exchange. Where the used nodes are no tree or have no such node, they are those of the
+/// replacement, which every result has.
+fn result(used: &[usize], node: usize, replacement: &[usize]) -> Vec<usize> {
+    match postfix::children(used) {
+        Some(children) if node < used.len() => {
+            splice(used, node, postfix::sizes(&children)[node], replacement)
+        }
+        _ => replacement.to_vec(),
     }
 }

@@ -1,15 +1,21 @@
-//! The generated inputs reach what they are made for: a comparison on inputs that never match or never stop early would
-//! show little.
+//! The generated inputs reach what they are made for: a comparison on inputs that never match, never stop early or are all
+//! refused would show little.
 
 use peer::automaton;
+use peer::call::Operation;
+use peer::cases::heights::RESULT_TOO_HIGH;
+use peer::cases::high_histories;
 use peer::cases::random::pattern;
 use peer::chance::Random;
+use peer::compare::Comparison;
 use peer::draw;
 use peer::exchange::{exchange, MarkedTree};
 use peer::language::membership::Membership;
 use peer::language::Expression;
 use peer::marks::Table;
+use peer::model::Model;
 use peer::postfix;
+use peer::refusals::Condition;
 use peer::words::arities;
 
 #[test]
@@ -66,4 +72,19 @@ fn random_exchanges_all_end_at_the_same_place() {
     }
     println!("{at_once} at once, {between} between, {at_the_root} at the root");
     assert!(at_once > 50 && between > 50 && at_the_root > 50);
+}
+
+#[test]
+fn lists_on_high_chapters_are_all_accepted_or_all_refused() {
+    let mut comparison = Comparison::with(Box::new(Model));
+    high_histories::compare(&mut comparison, 3, 10);
+    let answered = &comparison.numbers[&Operation::Exchange];
+    println!("{answered:?}");
+    let times = |refusal: Option<Condition>| answered.get(&refusal).copied().unwrap_or(0);
+    let all: u64 = answered.values().sum();
+    assert!(times(None) > all / 3 && times(Some(RESULT_TOO_HIGH)) > all / 4);
+    assert!([14, 15, 16]
+        .iter()
+        .all(|number| times(Some(Condition::first(*number))) > 0));
+    assert_eq!(answered.len(), 5);
 }

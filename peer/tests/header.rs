@@ -1,4 +1,4 @@
-//! The constants of the C header beside the limits and the numbers that the model has from document 01.
+//! The constants of the C header beside the limits and the numbers that the model has from documents 01 and 02.
 
 use peer::call::Operation;
 use peer::limits;
@@ -18,7 +18,7 @@ fn constants() -> BTreeMap<&'static str, usize> {
 }
 
 #[test]
-fn a_limit_of_the_header_is_not_document_01s() {
+fn a_limit_of_the_header_is_not_the_documents() {
     let limits = [
         ("MOST_SYMBOLS", limits::SYMBOL_LIMIT),
         ("MOST_CONSTANTS", limits::CONSTANT_LIMIT),
@@ -28,6 +28,7 @@ fn a_limit_of_the_header_is_not_document_01s() {
         ("MOST_TABLE_WORDS", limits::TABLE_LIMIT),
         ("MOST_COMPILED_WORDS", limits::COMPILED_LIMIT),
         ("MOST_ELEMENTS", limits::NODE_LIMIT),
+        ("MOST_HEIGHT", limits::HEIGHT_LIMIT),
     ];
     let mut stated = constants();
     stated.retain(|name, _| name.starts_with("MOST_"));
@@ -42,8 +43,8 @@ fn a_refusal_number_has_no_name_or_two() {
     values.sort_unstable();
     let operations = Operation::ALL.iter();
     let mut numbers: Vec<usize> = operations
-        .flat_map(|operation| refusals::numbers(*operation))
-        .map(|number| number as usize)
+        .flat_map(|operation| refusals::conditions(*operation))
+        .map(|condition| condition.number as usize)
         .chain([0])
         .collect();
     numbers.sort_unstable();

@@ -1,78 +1,103 @@
-//! Two faults at once: for each operation, an accepted call is given every pair of faults, and the number that document
-//! 01 names first must be the answer. Every two numbers of the operation must have met in some call.
+//! Two faults at once: for each operation, an accepted call is given every pair of faults, and the number that the
+//! documents name first must be the answer. Every condition of the operation must have been alone in some call, and every
+//! two must have met in one, with no third.
 
 use crate::call::{Call, Operation};
 use crate::cases::damage::accepted_calls;
 use crate::cases::examples::{self, A, D, G, H};
+use crate::cases::heights::{RESULT_TOO_HIGH, TOO_HIGH};
+use crate::cases::shapes::{chain, comb, low, source_words};
 use crate::compare::Comparison;
 use crate::length_word::{say, table_in};
-use crate::limits::{ARITY_LIMIT, CONSTANT_LIMIT, EXPRESSION_LIMIT, NODE_LIMIT, SYMBOL_LIMIT, TABLE_LIMIT};
-use crate::refusals;
+use crate::limits::{
+    ARITY_LIMIT, CONSTANT_LIMIT, EXPRESSION_LIMIT, HEIGHT_LIMIT, NODE_LIMIT, SYMBOL_LIMIT, TABLE_LIMIT,
+};
+use crate::refusals::{self, Condition};
 use crate::words::{self, entry_word, node_word, Operator, TableWord};
 use std::collections::BTreeSet;
 
+type Change = fn(&mut Call);
+
 /// A change that gives a call the fault with this number, whatever else is wrong with it.
-type Fault = (u32, fn(&mut Call));
+type Fault = (u32, Change);
 
 /// More nodes than a slice needs for any tree.
 const ROOM: usize = 2 * NODE_LIMIT;
 
 pub fn compare(comparison: &mut Comparison) {
-    for call in accepted_calls(
+    for operation in Operation::ALL {
+        compare_operation(comparison, operation);
+    }
+}
+
+pub fn compare_operation(comparison: &mut Comparison, operation: Operation) {
+    let mut accepted = accepted_calls(
         &examples::alphabet(),
         &examples::expression(),
         &examples::tree(),
         3,
-    ) {
-        let met = pairs(comparison, &call);
-        let numbers = refusals::numbers(call.operation);
-        for (place, first) in numbers.iter().enumerate() {
-            for second in &numbers[place + 1..] {
-                let wrong = format!(
-                    "{:?} was not given the faults {first} and {second}",
-                    call.operation
-                );
-                comparison.check(&wrong, met.contains(&(*first, *second)), String::new);
+    );
+    accepted.retain(|call| call.operation == operation);
+    let met: BTreeSet<_> = accepted.iter().flat_map(|call| pairs(comparison, call)).collect();
+    let conditions = refusals::conditions(operation);
+    for (place, first) in conditions.iter().enumerate() {
+        let wrong = format!("{operation:?} was not given the fault {first} alone");
+        comparison.check(&wrong, met.contains(&vec![*first]), String::new);
+        for second in &conditions[place + 1..] {
+            if can_meet(*first, *second) {
+                let wrong = format!("{operation:?} was not given the faults {first} and {second}");
+                comparison.check(&wrong, met.contains(&vec![*first, *second]), String::new);
             }
         }
     }
 }
 
-/// Gives the call each fault alone and each two of them in both orders; answers the pairs that met.
-fn pairs(comparison: &mut Comparison, accepted: &Call) -> BTreeSet<(u32, u32)> {
+/// Words that are no tree have no height. Among the cases of `heights` are some that hold trees which are too high.
+fn can_meet(first: Condition, second: Condition) -> bool {
+    (first, second) != (Condition::first(11), TOO_HIGH)
+}
+
+/// Gives the call each fault alone and each two of them in both orders; answers which faults met.
+fn pairs(comparison: &mut Comparison, accepted: &Call) -> BTreeSet<Vec<Condition>> {
     let mut met = BTreeSet::new();
     let faults = faults(accepted.operation);
     comparison.call("a call without a fault is refused", accepted);
-    for (number, change) in &faults {
+    for (condition, change) in &faults {
         let mut call = accepted.clone();
         change(&mut call);
         let answer = comparison.call("a single fault has another number", &call);
+        let found = refusals::faults(&call);
         comparison.check(
-            &format!("{:?} is not refused by {number}", call.operation),
-            refusals::faults(&call).contains(number) && answer.number != 0,
+            &format!("{:?} is not refused by {condition}", call.operation),
+            found.contains(condition) && answer.number != 0,
             || call.to_string(),
         );
-        for (other, change_more) in &faults {
+        met.insert(found);
+        for (_, change_more) in &faults {
             let mut both = call.clone();
             change_more(&mut both);
             comparison.call("two faults have another number", &both);
-            let found = refusals::faults(&both);
-            if found.len() == 2 && found.contains(number) && found.contains(other) {
-                met.insert((found[0], found[1]));
-            }
+            met.insert(refusals::faults(&both));
         }
     }
     met
 }
 
-fn faults(operation: Operation) -> Vec<Fault> {
+fn faults(operation: Operation) -> Vec<(Condition, Change)> {
     let parts: &[fn() -> Vec<Fault>] = match operation {
         Operation::Compile => &[alphabet, compile],
         Operation::Run => &[alphabet, table, nodes, sets, run],
         Operation::List => &[alphabet, table, count, sets, list],
         Operation::Exchange => &[alphabet, table, count, nodes, sets, exchange],
     };
-    parts.iter().flat_map(|part| part()).collect()
+    let faults = parts.iter().flat_map(|part| part());
+    let mut faults: Vec<_> = faults
+        .map(|(number, change)| (Condition::first(number), change))
+        .collect();
+    if operation == Operation::Exchange {
+        faults.extend(high_results().map(|change| (RESULT_TOO_HIGH, change)));
+    }
+    faults
 }
 
 fn alphabet() -> Vec<Fault> {
@@ -203,11 +228,19 @@ fn run() -> Vec<Fault> {
     vec![
         (9, |call| call.tree.clear()),
         (9, |call| {
-            pad(&mut call.tree, NODE_LIMIT + 1, node_word(G));
+            call.tree = source_words(&low(NODE_LIMIT + 1));
             pad(&mut call.sets, ROOM, 0);
         }),
         (11, |call| call.tree.push(node_word(A))),
         (11, |call| call.tree.insert(0, node_word(G))),
+        (24, |call| {
+            call.tree.extend([node_word(G); HEIGHT_LIMIT]);
+            pad(&mut call.sets, ROOM, 0);
+        }),
+        (24, |call| {
+            call.tree = source_words(&comb(2, 0, HEIGHT_LIMIT + 1));
+            pad(&mut call.sets, ROOM, 0);
+        }),
     ]
 }
 
@@ -246,18 +279,18 @@ fn exchange() -> Vec<Fault> {
             call.tree.truncate(7);
             call.count = 8;
         }),
-        (9, |call| {
-            call.tree.truncate(7);
-            pad(&mut call.tree, ROOM, node_word(G));
-            pad(&mut call.sets, ROOM, 0);
-            call.count = NODE_LIMIT + 1;
-        }),
+        (9, |call| use_tree(call, source_words(&low(NODE_LIMIT + 1)))),
         (10, |call| put(&mut call.tree, 3, node_word(200))),
         (11, |call| put(&mut call.tree, 0, node_word(G))),
         (11, |call| put(&mut call.tree, 6, node_word(H))),
         (12, |call| {
             call.node = 4;
             call.sets.truncate(6);
+        }),
+        (12, |call| {
+            // The marks suffice for a result that is too high.
+            use_tree(call, source_words(&low(2 * HEIGHT_LIMIT)));
+            call.sets.truncate(2 * HEIGHT_LIMIT - 1);
         }),
         (14, |call| call.node = call.count),
         (14, |call| call.node = usize::MAX),
@@ -266,10 +299,12 @@ fn exchange() -> Vec<Fault> {
         (15, |call| put(&mut call.replacement, 0, node_word(200))),
         (15, |call| call.replacement.insert(0, node_word(A))),
         (15, |call| call.replacement.insert(0, node_word(G))),
-        (15, |call| {
-            pad(&mut call.replacement, NODE_LIMIT + 1, node_word(G))
-        }),
+        (15, |call| call.replacement = source_words(&low(NODE_LIMIT + 1))),
         (16, |call| pad(&mut call.replacement, 12, node_word(G))),
+        (16, |call| {
+            // It is longer than the slice, wherever it is put.
+            call.replacement = source_words(&low(call.tree.len() + 1))
+        }),
         (16, |call| {
             call.sets.truncate(7);
             pad(&mut call.replacement, 8, node_word(G));
@@ -277,9 +312,45 @@ fn exchange() -> Vec<Fault> {
         (16, |call| {
             pad(&mut call.tree, ROOM, 0);
             pad(&mut call.sets, ROOM, 0);
-            pad(&mut call.replacement, NODE_LIMIT, node_word(G));
+            call.replacement = source_words(&low(NODE_LIMIT));
+        }),
+        (24, |call| {
+            // On top of whatever is used; the root gives way, so that the result need not be too high.
+            let used = call.count.min(call.tree.len());
+            call.tree.splice(used..used, [node_word(G); HEIGHT_LIMIT]);
+            call.count = call.count.saturating_add(HEIGHT_LIMIT);
+            call.node = call.count - 1;
+            pad(&mut call.sets, ROOM, 0);
+        }),
+        (24, |call| {
+            use_tree(call, source_words(&comb(2, 1, HEIGHT_LIMIT + 1)))
         }),
     ]
+}
+
+/// Exchanges whose result is too high: by the replacement alone, and by the place where a low one is put.
+fn high_results() -> [Change; 2] {
+    [
+        |call| {
+            call.replacement = source_words(&chain(HEIGHT_LIMIT + 1));
+            pad(&mut call.tree, ROOM, 0);
+            pad(&mut call.sets, ROOM, 0);
+        },
+        |call| {
+            use_tree(call, source_words(&comb(2, 0, HEIGHT_LIMIT)));
+            call.node = 0;
+            call.replacement = source_words(&chain(2));
+        },
+    ]
+}
+
+/// Gives an Exchange these used elements, of which the root gives way, and room for any.
+fn use_tree(call: &mut Call, tree: Vec<u32>) {
+    call.count = tree.len();
+    call.node = tree.len() - 1;
+    call.tree = tree;
+    pad(&mut call.tree, ROOM, 0);
+    pad(&mut call.sets, ROOM, 0);
 }
 
 fn pad(words: &mut Vec<u32>, length: usize, word: u32) {

@@ -71,50 +71,61 @@ fn draw_tree(random: &mut Random, alphabet: &[u32], expression: &Option<Expressi
     }
 }
 
-impl History {
-    /// Draws an element and a replacement: mostly good, sometimes one or the other at fault.
-    fn draw(&mut self, random: &mut Random) {
-        let count = self.call.count;
-        self.call.node = match random.below(16) {
-            0 => count,
-            1 => count - 1,
-            2 => random.pick(&[usize::MAX, 1 << 32, count + 1]),
-            _ => random.below(count),
-        };
-        let size = if random.once_in(4) {
-            1
-        } else {
-            random.between(1, 10)
-        };
-        let tree = draw_tree(random, &self.call.alphabet, &self.expression, size);
-        let mut replacement = words::node_words(&tree);
-        match random.below(20) {
-            0 => replacement.clear(),
-            1 => generate::flip(random, &mut replacement),
-            2 => replacement.push(words::node_word(0)),
-            _ => {}
-        }
-        self.call.replacement = replacement;
-    }
-
-    /// Compares the call, and keeps what it leaves for the next one.
-    fn step(&mut self, comparison: &mut Comparison, wrong: &str) {
-        let answer = comparison.call(wrong, &self.call);
-        self.call = answer.after;
-        if answer.number == 0 {
-            self.call.count = answer.values[0] as usize;
-        }
+/// Draws an element and a replacement: mostly good, sometimes one or the other at fault.
+fn draw(random: &mut Random, call: &mut Call, expression: &Option<Expression>) {
+    let count = call.count;
+    call.node = match random.below(16) {
+        0 => count,
+        1 => count - 1,
+        2 => random.pick(&[usize::MAX, 1 << 32, count + 1]),
+        _ => random.below(count),
+    };
+    let size = if random.once_in(4) {
+        1
+    } else {
+        random.between(1, 10)
+    };
+    let tree = draw_tree(random, &call.alphabet, expression, size);
+    call.replacement = words::node_words(&tree);
+    match random.below(20) {
+        0 => call.replacement.clear(),
+        1 => generate::flip(random, &mut call.replacement),
+        2 => call.replacement.push(words::node_word(0)),
+        _ => {}
     }
 }
 
-/// Demand 3: after the list, the used words are the plain chapter's and a fresh Run's.
+/// Compares the call, and keeps what it leaves for the next one.
+fn step(comparison: &mut Comparison, wrong: &str, call: &mut Call) {
+    let answer = comparison.call(wrong, call);
+    *call = answer.after;
+    if answer.number == 0 {
+        call.count = answer.values[0] as usize;
+    }
+}
+
 fn true_marks(comparison: &mut Comparison, random: &mut Random, budget: usize, calls: usize) {
-    let mut history = start(comparison, random, budget);
-    let mut plain = history.call.tree[..history.call.count].to_vec();
-    for _ in 0..random.between(0, calls) {
-        history.draw(random);
-        plain = plain_exchange(&history.call, &plain);
-        history.step(comparison, "an exchange on true marks differs");
+    let History { call, expression } = start(comparison, random, budget);
+    let calls = random.between(0, calls);
+    demand_3(comparison, random, call, calls, |random, call, _| {
+        draw(random, call, &expression);
+    });
+}
+
+/// Demand 3: after a list of so many calls, the used words are the plain chapter's and a fresh Run's. Each call is the one
+/// before, as it was left, with the element and the replacement that are drawn for its place in the list.
+pub fn demand_3(
+    comparison: &mut Comparison,
+    random: &mut Random,
+    mut call: Call,
+    calls: usize,
+    mut draw: impl FnMut(&mut Random, &mut Call, usize),
+) {
+    let mut plain = call.tree[..call.count].to_vec();
+    for place in 0..calls {
+        draw(random, &mut call, place);
+        plain = plain_exchange(&call, &plain);
+        step(comparison, "an exchange on true marks differs", &mut call);
     }
     let Call {
         alphabet,
@@ -123,7 +134,7 @@ fn true_marks(comparison: &mut Comparison, random: &mut Random, budget: usize, c
         count,
         sets,
         ..
-    } = &history.call;
+    } = &call;
     comparison.check(
         "the used elements are not the plain chapter",
         tree[..*count] == plain,
@@ -169,16 +180,16 @@ fn plain_exchange(call: &Call, plain: &[u32]) -> Vec<u32> {
 
 /// Stored marks count as they stand: some or all of them are changed before and between the calls.
 fn false_marks(comparison: &mut Comparison, random: &mut Random) {
-    let mut history = start(comparison, random, 40);
+    let History { mut call, expression } = start(comparison, random, 40);
     if random.once_in(3) {
-        history.call.sets = random.words(history.call.sets.len());
+        call.sets = random.words(call.sets.len());
     }
     for _ in 0..random.between(1, 8) {
         for _ in 0..random.below(6) {
-            generate::flip(random, &mut history.call.sets);
+            generate::flip(random, &mut call.sets);
         }
-        history.draw(random);
-        history.step(comparison, "an exchange on false marks differs");
+        draw(random, &mut call, &expression);
+        step(comparison, "an exchange on false marks differs", &mut call);
     }
     let Call {
         alphabet,
@@ -186,7 +197,7 @@ fn false_marks(comparison: &mut Comparison, random: &mut Random) {
         count,
         sets,
         ..
-    } = &history.call;
+    } = &call;
     comparison.call(
         "a list of false marks differs",
         &Call::list(alphabet, table, *count, sets, random.words(*count)),

@@ -4,14 +4,14 @@
 use crate::automaton;
 use crate::call::Call;
 use crate::cases::examples;
-use crate::cases::limits::{alphabet, expect, run_and_list};
+use crate::cases::limits::{expect, run_and_list};
+use crate::cases::shapes::{chain, low, under_one};
 use crate::chance::Random;
 use crate::compare::Comparison;
 use crate::generate;
 use crate::length_word::with_length_word;
-use crate::limits::{ARITY_LIMIT, NODE_LIMIT};
-use crate::postfix;
-use crate::words::{self, entry_word, node_word, Operator, TableWord};
+use crate::limits::{ARITY_LIMIT, HEIGHT_LIMIT, NODE_LIMIT};
+use crate::words::{self, entry_word, node_word, node_words, Operator, TableWord};
 
 const MOST: usize = NODE_LIMIT;
 
@@ -25,12 +25,19 @@ pub fn compare(comparison: &mut Comparison) {
     exchanges(comparison);
 }
 
-/// A chain of nodes with symbol 1, of arity 1, over the constant 0.
-fn chain(nodes: usize) -> Vec<u32> {
-    postfix::chain(node_word(0), node_word(1), nodes)
+/// So many nodes with the symbols 0, 1 and 2, which have these arities, in a tree that is not too high: a chain, or where
+/// that would be too high, a chain of ten and a low tree under one node. So the subtree of each of the first ten has one
+/// node more than the one before.
+fn tree(nodes: usize) -> Vec<u32> {
+    let shape = if nodes <= HEIGHT_LIMIT {
+        chain(nodes)
+    } else {
+        under_one(&[chain(10), low(nodes - 11)])
+    };
+    node_words(&shape)
 }
 
-/// Chains and random trees of up to the most nodes and one more.
+/// Low trees and random trees of up to the most nodes and one more.
 fn trees(comparison: &mut Comparison) {
     let own = [0, 1, 2, 4, 0].map(entry_word);
     let rule = words::operator_words(&[
@@ -45,14 +52,14 @@ fn trees(comparison: &mut Comparison) {
     let table = automaton::table(&own, &rule).expect("an expression");
     let lengths = [0, 1, MOST - 1, MOST, MOST + 1, 2 * MOST];
     for (nodes, number) in lengths.into_iter().zip([9, 0, 0, 0, 9, 9]) {
-        let call = Call::run(&own, &table, &chain(nodes), vec![3; 2 * nodes + 2]);
+        let call = Call::run(&own, &table, &node_words(&low(nodes)), vec![3; 2 * nodes + 2]);
         expect(comparison, "a tree's length is judged otherwise", &call, number);
         let call = Call::list(&own, &table, nodes, &vec![3; 2 * nodes + 2], vec![3; nodes + 2]);
         expect(comparison, "a list's count is judged otherwise", &call, number);
     }
     for seed in 0..4 {
         let tree = generate::tree(&mut Random::new(seed), &own, MOST);
-        run_and_list(comparison, &own, &table, &words::node_words(&tree));
+        run_and_list(comparison, &own, &table, &node_words(&tree));
     }
 }
 
@@ -118,7 +125,7 @@ fn slices(comparison: &mut Comparison) {
 
 /// Counts, elements, replacements and results at their limits.
 fn exchanges(comparison: &mut Comparison) {
-    let own = alphabet(1, 1);
+    let own = [0, 1, 2].map(entry_word);
     let table = automaton::table(&own, &[Operator::Symbol(0).word(), Operator::Symbol(1).word()])
         .expect("an expression");
     let wrong = "an exchange at a limit is judged otherwise";
@@ -148,16 +155,16 @@ fn exchanges(comparison: &mut Comparison) {
         (10, 11, 12, 3, 6, 16),
     ];
     for (old, tree_length, sets_length, node, nodes, number) in cases {
-        let mut tree = chain(old);
-        tree.resize(tree_length, 5);
+        let mut chapter = tree(old);
+        chapter.resize(tree_length, 5);
         for word in [0, 1, u32::MAX] {
             let sets = vec![word; sets_length];
-            let call = Call::exchange(&own, &table, tree.clone(), old, sets, node, &chain(nodes));
+            let call = Call::exchange(&own, &table, chapter.clone(), old, sets, node, &tree(nodes));
             expect(comparison, wrong, &call, number);
         }
     }
-    let call = Call::exchange(&own, &table, chain(6), 7, vec![0; 9], 0, &chain(1));
+    let call = Call::exchange(&own, &table, tree(6), 7, vec![0; 9], 0, &tree(1));
     expect(comparison, wrong, &call, 9);
-    let call = Call::exchange(&own, &table, chain(6), 5, vec![0; 5], 4, &chain(2));
+    let call = Call::exchange(&own, &table, tree(6), 5, vec![0; 5], 4, &tree(2));
     expect(comparison, wrong, &call, 0);
 }

@@ -9,7 +9,9 @@ use crate::draw;
 use crate::driver::{Outcome, Program};
 use crate::generate;
 use crate::language::Expression;
-use crate::limits::{CONSTANT_LIMIT, EXPRESSION_LIMIT, NODE_LIMIT, PROGRAM_LIMIT, SYMBOL_LIMIT};
+use crate::limits::{
+    CONSTANT_LIMIT, EXPRESSION_LIMIT, HEIGHT_LIMIT, NODE_LIMIT, PROGRAM_LIMIT, SYMBOL_LIMIT,
+};
 use crate::marklist::{encode, expected};
 use crate::postfix;
 use crate::words::{self, entry_word, node_word, Operator};
@@ -25,6 +27,7 @@ pub fn compare(comparison: &mut Comparison, path: &str, seed: u64, cases: u64) {
     source(comparison, program);
     early_ends(comparison, program);
     lengths(comparison, program);
+    heights(comparison, program);
     comparison.random_cases("inputs of marklist", seed, cases, |comparison, _, random| {
         random_input(comparison, program, random);
     });
@@ -166,6 +169,25 @@ fn lengths(comparison: &mut Comparison, program: &mut Compared) {
             &encode(&sixteen, &limits::closures(closures), &chain),
             true,
         );
+    }
+}
+
+/// Chapters of the greatest height that the program takes, and higher ones: they have too many elements, so that 24 is never
+/// printed.
+fn heights(comparison: &mut Comparison, program: &mut Compared) {
+    let wrong = "a high chapter prints otherwise";
+    const MOST: usize = PROGRAM_LIMIT;
+    for (height, begins) in [
+        (MOST, "nodes 256 states 29 hits "),
+        (MOST + 1, "refused 9\n"),
+        (HEIGHT_LIMIT, "refused 9\n"),
+        (HEIGHT_LIMIT + 1, "refused 9\n"),
+        (NODE_LIMIT, "refused 9\n"),
+    ] {
+        let chain = postfix::chain(node_word(examples::D), node_word(examples::G), height);
+        let bytes = encode(&examples::alphabet(), &examples::expression(), &chain);
+        comparison.check(wrong, expected(&bytes).starts_with(begins), String::new);
+        same(comparison, program, wrong, &bytes, true);
     }
 }
 
