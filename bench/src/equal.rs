@@ -6,7 +6,7 @@ use crate::incremental::Incremental;
 use crate::runs::SIMULATIONS;
 use crate::workloads::Workload;
 use peer::call::{Answer, Call};
-use peer::cases::{damage, faults, histories, length_words, lengths, packed};
+use peer::cases::{damage, faults, heights, histories, length_words, lengths, packed, raised};
 use peer::compare::Comparison;
 use peer::library;
 use peer::model;
@@ -30,8 +30,8 @@ pub fn all(workloads: &[Workload]) -> bool {
     simulations_agree && library.differences() == 0 && incremental.differences() == 0
 }
 
-/// Every pair of faults, changed bits, lists of exchanges, slices of all lengths, tables in longer slices; every number is
-/// answered.
+/// Every pair of faults, changed bits, lists of exchanges, slices of all lengths, tables in longer slices, chapters and results
+/// around the greatest height; every number is answered.
 fn untimed(comparison: &mut Comparison) {
     faults::compare(comparison);
     damage::compare(comparison, SEED, CASES);
@@ -39,6 +39,8 @@ fn untimed(comparison: &mut Comparison) {
     lengths::compare(comparison);
     length_words::compare(comparison);
     packed::compare(comparison);
+    heights::compare(comparison);
+    raised::compare(comparison);
     comparison.check_numbers();
 }
 

@@ -1,12 +1,14 @@
-//! Exchange as it would be written for speed without a proof: document 01's refusals in order, then the splice, and the
-//! replacement's nodes and the ancestors worked out by the textbook node step. Nothing is kept between calls.
+//! Exchange as it would be written for speed without a proof: the refusals of documents 01 and 02 in order, then the
+//! splice, and the replacement's nodes and the ancestors worked out by the textbook node step. Nothing is kept between
+//! calls. The words of the chapter are read once for their shape and once for their height; of the result no height is
+//! worked out, but at most the place's ancestors are counted.
 
 mod moves;
 mod shape;
 
 use moves::Moves;
 use peer::call::{Answer, Call, Matcher, Operation};
-use peer::limits::{ARITY_LIMIT, NODE_LIMIT};
+use peer::limits::{ARITY_LIMIT, HEIGHT_LIMIT, NODE_LIMIT};
 use peer::model::Model;
 use shape::{symbol, Alphabet, Fault, Shape, Subtree};
 
@@ -54,6 +56,10 @@ fn check(alphabet: &Alphabet, moves: &Moves, call: &Call) -> Result<Place, u32> 
         Fault::Word => 10_u32,
         Fault::Shape => 11,
     })?;
+    let height = shape.height();
+    if height > HEIGHT_LIMIT {
+        return Err(24);
+    }
     if call.sets.len() < count * moves.width {
         return Err(12);
     }
@@ -61,14 +67,18 @@ fn check(alphabet: &Alphabet, moves: &Moves, call: &Call) -> Result<Place, u32> 
         return Err(14);
     }
     let nodes = call.replacement.len();
-    if is_outside(nodes) || Shape::check(alphabet, &call.replacement).is_err() {
+    if is_outside(nodes) {
         return Err(15);
     }
+    let replacement = Shape::check(alphabet, &call.replacement).map_err(|_| 15_u32)?;
     let old = shape.subtree(call.node);
     let root = old.start + nodes - 1;
     let result = root + count - call.node;
     if result > NODE_LIMIT || result > call.tree.len() || result * moves.width > call.sets.len() {
         return Err(16);
+    }
+    if is_too_high(&shape, height, call.node, &replacement) {
+        return Err(24);
     }
     Ok(Place {
         shape,
@@ -81,6 +91,15 @@ fn check(alphabet: &Alphabet, moves: &Moves, call: &Call) -> Result<Place, u32> 
 
 fn is_outside(nodes: usize) -> bool {
     nodes == 0 || nodes > NODE_LIMIT
+}
+
+/// Whether a tree of this height, which is not too high, becomes so with the replacement in the place of the node. The
+/// nodes that stay keep their depths, so the replacement alone decides. No node has as many ancestors as the tree is
+/// high: they are counted only where one less than that would be too many.
+fn is_too_high(shape: &Shape, height: usize, node: usize, replacement: &Shape) -> bool {
+    let own = replacement.height();
+    let is_too_deep = |ancestors: usize| ancestors + own > HEIGHT_LIMIT;
+    is_too_deep(height - 1) && is_too_deep(shape.ancestors(node))
 }
 
 impl Place {

@@ -6,13 +6,10 @@ use peer::automaton;
 use peer::cases::{examples, largest};
 use peer::chance::Random;
 use peer::generate;
-use peer::limits::{CONSTANT_LIMIT, NODE_LIMIT};
+use peer::limits::{CONSTANT_LIMIT, HEIGHT_LIMIT, NODE_LIMIT};
 use peer::marks::Table;
 use peer::postfix;
 use peer::words::{self, entry_word, Operator};
-
-/// Document 02 refuses chapters that are higher.
-const HEIGHT_LIMIT: usize = 512;
 
 pub struct Workload {
     pub name: &'static str,
@@ -45,7 +42,7 @@ impl Workload {
     ) -> Workload {
         let [tree, eighth] = [NODE_LIMIT, NODE_LIMIT / 8].map(|nodes| {
             let tree = tree(&alphabet, nodes);
-            let height = height(&alphabet, &tree);
+            let height = postfix::tree_height(&tree, &words::arities(&alphabet));
             assert!(height <= HEIGHT_LIMIT, "{name}: the chapter is {height} high");
             words::node_words(&tree)
         });
@@ -76,16 +73,6 @@ impl Workload {
     pub fn read_table(&self) -> Table {
         Table::read(&self.alphabet, &self.table).expect("a table")
     }
-}
-
-/// How many nodes stand one above the other; a leaf has height 1.
-fn height(alphabet: &[u32], tree: &[usize]) -> usize {
-    let mut heights: Vec<usize> = Vec::with_capacity(tree.len());
-    for children in postfix::tree_children(tree, &words::arities(alphabet)) {
-        let below = children.iter().map(|child| heights[*child]).max();
-        heights.push(1 + below.unwrap_or(0));
-    }
-    *heights.last().expect("a root")
 }
 
 pub fn all() -> Vec<Workload> {

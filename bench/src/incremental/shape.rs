@@ -1,5 +1,5 @@
 //! The alphabet and the trees over it, checked: one pass over a tree's words leaves one number a word, from which the
-//! subtree, the parent and the children of a node are found.
+//! subtree, the parent, the children and the ancestors of a node and the tree's height are found.
 
 use peer::kinds::{self, ENTRY, NODE};
 use peer::limits::{ARITY_LIMIT, CONSTANT_LIMIT, SYMBOL_LIMIT};
@@ -90,6 +90,36 @@ impl Shape {
         } else {
             Err(Fault::Shape)
         }
+    }
+
+    /// How many nodes stand one above the other: the depth of the deepest node, where the root's is 1. Read from the root
+    /// backwards, the number of open trees is the size of a stack, which holds the depths of all subtrees that are yet to
+    /// be read. A node takes its own from the top and puts its children's there, always as many as a node can have at
+    /// most: what is above the top is written again before it is read.
+    pub fn height(&self) -> usize {
+        let mut depths = vec![0_u16; self.open.len() + ARITY_LIMIT];
+        let (mut own, mut depth, mut height) = (1, 1, 1);
+        for before in self.open.iter().rev().skip(1) {
+            let before = usize::from(*before);
+            depths[own..][..ARITY_LIMIT].fill(depth + 1);
+            depth = if before < own { depths[before] } else { depth + 1 };
+            height = height.max(depth);
+            own = before;
+        }
+        height.into()
+    }
+
+    /// How many ancestors a node has: the next node with no more open trees takes it, and so on.
+    pub fn ancestors(&self, node: usize) -> usize {
+        let mut own = self.open[node];
+        let mut ancestors = 0;
+        for open in &self.open[node + 1..] {
+            if *open <= own {
+                own = *open;
+                ancestors += 1;
+            }
+        }
+        ancestors
     }
 
     pub fn subtree(&self, node: usize) -> Subtree {
