@@ -1,5 +1,5 @@
-"""Document 01's words and limits and document 02's length word (U1), each number once, for words.py and ./judge. A word has its
-kind in bits 31..28 and the kind's fields below; every other bit is zero."""
+"""Document 01's words and limits and document 02's length word (U1) and height (U6), each number once, for words.py and ./judge. A
+word has its kind in bits 31..28 and the kind's fields below; every other bit is zero."""
 
 # ---- kinds
 
@@ -40,6 +40,8 @@ MOST_RULE_WORDS = 64
 MOST_STATES = 1024
 MOST_TABLE_WORDS = 2048
 MOST_ELEMENTS = 4096
+# How many elements of a chapter stand one above the other: "chapters of height 512 are marked, 513 refused" (document 02, U6).
+MOST_HEIGHT = 512
 # Those of marklist.
 MARKLIST_MOST = 256
 

@@ -1,5 +1,5 @@
 /* How much stack each C function takes: it is called on a painted stack with the largest rule (1,024 states, 1,148 table
- * words) and a chapter of 4,089 elements, and with the source's rule. Printed are the bytes below the caller's frame that
+ * words) and a chapter of 4,081 elements, 512 high, and with the source's rule. Printed are the bytes below the caller's frame that
  * were written, the return address included; the lowest may lie in the red zone (docs/FIRMWARE.md). What is measured is this
  * build on this machine: no theorem bounds a stack.
  *
@@ -107,21 +107,24 @@ static void take_largest(void)
     rule[4] = HAQBYLUR_SYMBOL(16);
     for (uint32_t i = 0; i < 59; i++)
         rule[5 + i] = HAQBYLUR_CLOSURE((7 * i) % 16);
-    /* one element over four constants, and then each over the one before and three constants */
+    /* a constant, and then each element over the one before, an element over four constants, and two constants: as high as a
+     * chapter may be, which leaves room for four elements more */
     chapter_words = 0;
     chapter[chapter_words++] = HAQBYLUR_ELEMENT(0);
-    while (chapter_words + 4 <= HAQBYLUR_MOST_ELEMENTS) {
-        for (uint32_t i = 1; i < 4; i++)
+    for (uint32_t height = 3; height <= HAQBYLUR_MOST_HEIGHT; height++) {
+        for (uint32_t i = 0; i < 4; i++)
             chapter[chapter_words++] = HAQBYLUR_ELEMENT(i);
         chapter[chapter_words++] = HAQBYLUR_ELEMENT(16);
+        chapter[chapter_words++] = HAQBYLUR_ELEMENT(2);
+        chapter[chapter_words++] = HAQBYLUR_ELEMENT(3);
+        chapter[chapter_words++] = HAQBYLUR_ELEMENT(16);
     }
+    /* the constant, for another element over four constants: the height stays */
     exchanged = 0;
     replacement_words = 5;
     for (uint32_t i = 0; i < 4; i++)
         replacement[i] = HAQBYLUR_ELEMENT(3 - i);
     replacement[4] = HAQBYLUR_ELEMENT(16);
-    /* room for four elements more */
-    chapter_words -= 4;
 }
 
 static void take_source(void)

@@ -205,6 +205,14 @@ class Words(unittest.TestCase):
         text = "alphabet: a/0 g/1\nrule: a\nchapter: " + "g(" * above + "a" + ")" * above + "\n"
         self.assertEqual(len(words.make(text)), 12 + 4 * (2 + 1 + above + 1))
 
+    def test_too_high(self):
+        """A chapter that is refused with 24 is made and shown as any other."""
+        above = document01.MOST_HEIGHT
+        data = words.make("alphabet: a/0 g/1\nrule: a\nchapter: " + "g(" * above + "a" + ")" * above + "\n")
+        self.assertIn("\n  %d: s1(%d)\n" % (above, above - 1), words.show(data))
+        self.same_again(data)
+        self.assertEqual(words.hits(data, "refused 24\n"), "refused 24\n")
+
     def test_limits(self):
         """The limits are those of the C header, which also has the largest compiled table."""
         with open(os.path.join(ROOT, "include", "haqbylur.h")) as file:

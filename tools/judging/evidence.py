@@ -7,7 +7,7 @@ from itertools import groupby
 from document01 import arity
 from . import matcher
 from .notation import chain, fact, hexadecimal, inline, joined, list_of, listed, part_of
-from .postfix import pop, starts_of
+from .postfix import pop, spans_of
 
 # The steps that are worked out in one fact: the checker's limit is 50,000,000 steps of its own a fact.
 STEPS_IN_FACT = 64
@@ -139,6 +139,7 @@ def line_facts(reading, nodes, starts, lines_in_part):
 
 def evidence(book, words_in_part, lines_in_part, unfolding):
     reading, nodes = Reading(book, words_in_part), len(book.chapter)
+    starts = [span.start for span in spans_of(book.alphabet, book.chapter)]
     report = f'''\
 report : Report alphabet rule chapter value answer
 report = record {{
@@ -166,4 +167,4 @@ report = record {{
 '''
     return [*table_facts(reading, unfolding), *step_facts(reading), *hit_facts(reading, nodes, words_in_part),
             fact('one-tree', 'trees alphabet 0 chapter 1 ≡ true', unfolding=READING + ['treesBy']),
-            *line_facts(reading, nodes, starts_of(book.alphabet, book.chapter), lines_in_part), report]
+            *line_facts(reading, nodes, starts, lines_in_part), report]

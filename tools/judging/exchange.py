@@ -8,7 +8,7 @@ from document01 import arity
 from . import refusals
 from .book import BadForm, Unfit
 from .matcher import Steps, state_sets
-from .postfix import pop, starts_of
+from .postfix import pop, spans_of, splice
 
 # More numbers than this in one list are written into no certificate.
 MOST_NUMBERS = 131_072
@@ -93,26 +93,19 @@ def first_difference(claim, right):
 # ---- the answer
 
 
-def spliced(call):
-    """The new elements, and where the replacement begins."""
-    used, element = call.chapter[:call.count[0]], call.element[0]
-    start = starts_of(call.alphabet, used)[element]
-    return used[:start] + call.replacement + used[element + 1:], start
-
-
 def recompute(call, steps, start):
     """The state sets of the new elements, and how many of them were worked out."""
     count, element = call.count[0], call.element[0]
     stored = [tuple(call.marks[i * steps.size:(i + 1) * steps.size]) for i in range(count)]
     fresh = state_sets(call.alphabet, steps, call.replacement)
     behind, worked_out, active = [], len(fresh), fresh[-1] != stored[element]
-    starts = starts_of(call.alphabet, call.chapter[:count])
+    spans = spans_of(call.alphabet, call.chapter[:count])
     stack = []
     for index, word in enumerate(call.chapter[:count]):
         children = pop(stack, arity(call.alphabet, word))
         words = fresh[-1] if index == element else stored[index]
         if index > element:
-            if active and starts[index] <= element:
+            if active and spans[index].start <= element:
                 words, worked_out = steps.step(word, children), worked_out + 1
                 active = words != stored[index]
             behind.append(words)
@@ -129,8 +122,8 @@ def left_by(call):
     if number:
         return Left(['refused', number], call.chapter, call.marks)
     steps = Steps(refusals.table_in(call.table))
-    tree, start = spliced(call)
-    sets, worked_out = recompute(call, steps, start)
     count = call.count[0]
+    tree, start = splice(call.alphabet, call.chapter[:count], call.element[0], call.replacement)
+    sets, worked_out = recompute(call, steps, start)
     return Left(['accepted', len(tree), worked_out], refit(count, tree, call.chapter),
                 refit(count * steps.size, [word for words in sets for word in words], call.marks))

@@ -4,7 +4,7 @@ from document01 import (CLOSURE, EMPTY_MOVE, HEAD, PART, PRODUCT, SYMBOL, SYMBOL
                         low_byte, state_in, table_word, upper_in)
 from . import refusals
 from .book import Truncated
-from .postfix import pop, starts_of
+from .postfix import pop, spans_of
 
 
 class Automaton:
@@ -143,8 +143,8 @@ def answer(book):
     if number is not None:
         return b'refused %d\n' % number
     steps = Steps(Automaton(book.alphabet, book.rule).table())
-    sets, starts = state_sets(book.alphabet, steps, book.chapter), starts_of(book.alphabet, book.chapter)
+    sets, spans = state_sets(book.alphabet, steps, book.chapter), spans_of(book.alphabet, book.chapter)
     hits = [i for i, words in enumerate(sets) if steps.contains(words, steps.final)]
     lines = [f'nodes {len(book.chapter)} states {steps.states} hits {len(hits)}']
-    lines += [f'{i} {low_byte(book.chapter[i])} {i + 1 - starts[i]}' for i in hits]
+    lines += [f'{i} {low_byte(book.chapter[i])} {i + 1 - spans[i].start}' for i in hits]
     return ''.join(line + '\n' for line in lines).encode()

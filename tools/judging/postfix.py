@@ -1,6 +1,14 @@
 """Trees in postfix order, parts first: rules and chapters share it."""
 
+from typing import NamedTuple
+
 from document01 import arity
+
+
+class Span(NamedTuple):
+    """A word's subtree: where it begins, and its height, a lone word having 1."""
+    start: int
+    height: int
 
 
 def pop(stack, count):
@@ -19,11 +27,18 @@ def one_tree(alphabet, words):
     return depth == 1
 
 
-def starts_of(alphabet, words):
-    """Where each word's subtree begins."""
-    stack, starts = [], []
+def spans_of(alphabet, words):
+    """Each word's subtree."""
+    stack, spans = [], []
     for index, word in enumerate(words):
         children = pop(stack, arity(alphabet, word))
-        stack.append(children[0] if children else index)
-        starts.append(stack[-1])
-    return starts
+        start = children[0].start if children else index
+        stack.append(Span(start, 1 + max((child.height for child in children), default=0)))
+        spans.append(stack[-1])
+    return spans
+
+
+def splice(alphabet, words, index, replacement):
+    """The words in which a replacement has the place of one word's subtree, and where it begins."""
+    start = spans_of(alphabet, words)[index].start
+    return words[:start] + replacement + words[index + 1:], start

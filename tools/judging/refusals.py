@@ -1,11 +1,10 @@
-"""The refusals of documents 01 and 02 (U1), each number once: lists of a number and whether its condition holds, in the order in
-which they are judged. A condition is worked out only where none before it holds. Nothing here is trusted: the checker computes
-the definition."""
+"""The refusals of documents 01 and 02 (U1, U6): lists of a number and whether its condition holds, in the order in which they are
+judged. A condition is worked out only where none before it holds. Nothing here is trusted: the checker computes the definition."""
 
-from document01 import (EMPTY_MOVE, HEAD, LENGTH, MOST_CONSTANTS, MOST_ELEMENTS, MOST_RULE_WORDS, MOST_STATES, MOST_SYMBOLS,
-                        MOST_TABLE_WORDS, PART, SYMBOL_MOVE, arity, constants, is_element, is_entry, is_of, is_rule_word, length_in,
-                        low_byte, state_in, upper_in)
-from .postfix import one_tree, starts_of
+from document01 import (EMPTY_MOVE, HEAD, LENGTH, MOST_CONSTANTS, MOST_ELEMENTS, MOST_HEIGHT, MOST_RULE_WORDS, MOST_STATES,
+                        MOST_SYMBOLS, MOST_TABLE_WORDS, PART, SYMBOL_MOVE, arity, constants, is_element, is_entry, is_of,
+                        is_rule_word, length_in, low_byte, state_in, upper_in)
+from .postfix import one_tree, spans_of, splice
 
 
 def first(refusals):
@@ -49,6 +48,7 @@ def of_chapter(alphabet, chapter, count):
     yield 9, outside(count, min(MOST_ELEMENTS, len(chapter)))
     yield 10, not all(is_element(alphabet, word) for word in chapter[:count])
     yield 11, not one_tree(alphabet, chapter[:count])
+    yield 24, is_too_high(alphabet, chapter[:count])
 
 
 def of_marks(table, count, marks):
@@ -59,8 +59,9 @@ def of_change(call):
     count, element = call.count[0], call.element[0]
     yield 14, element >= count
     yield 15, outside(len(call.replacement), MOST_ELEMENTS) or not is_tree(call.alphabet, call.replacement)
-    result = starts_of(call.alphabet, call.chapter[:count])[element] + len(call.replacement) + count - (element + 1)
-    yield 16, result > min(MOST_ELEMENTS, len(call.chapter)) or result * set_size(call.table) > len(call.marks)
+    result, _ = splice(call.alphabet, call.chapter[:count], element, call.replacement)
+    yield 16, len(result) > min(MOST_ELEMENTS, len(call.chapter)) or len(result) * set_size(call.table) > len(call.marks)
+    yield 24, is_too_high(call.alphabet, result)
 
 
 # ---- conditions
@@ -81,6 +82,10 @@ def set_size(table):
 
 def is_tree(alphabet, words):
     return all(is_element(alphabet, word) for word in words) and one_tree(alphabet, words)
+
+
+def is_too_high(alphabet, tree):
+    return spans_of(alphabet, tree)[-1].height > MOST_HEIGHT
 
 
 def table_in(lent):
