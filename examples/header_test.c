@@ -20,6 +20,9 @@ HOLDS(compiled_words, HAQBYLUR_TABLE_WORDS(0xc000047c) == HAQBYLUR_MOST_COMPILED
 HOLDS(table_words, HAQBYLUR_TABLE_WORDS(0xc0000000 | 0x800) / 2 == HAQBYLUR_MOST_TABLE_WORDS / 2);
 HOLDS(other_words, HAQBYLUR_TABLE_WORDS(0xffffffff) == 4095 && HAQBYLUR_TABLE_WORDS(0) == 0);
 HOLDS(table_words_size, sizeof HAQBYLUR_TABLE_WORDS(0) == 4);
+/* document 02's limit of height, which a chapter of the most elements can exceed, and its refusal */
+HOLDS(most_height, HAQBYLUR_MOST_HEIGHT == 512 && HAQBYLUR_MOST_HEIGHT < HAQBYLUR_MOST_ELEMENTS);
+HOLDS(too_high, HAQBYLUR_TOO_HIGH == 24 && sizeof HAQBYLUR_TOO_HIGH == sizeof HAQBYLUR_ACCEPTED);
 /* the words of document 01's kinds 1 to 7 */
 HOLDS(entry, HAQBYLUR_ENTRY(4) == 0x10000004 && HAQBYLUR_ENTRY(HAQBYLUR_MOST_RANK) / 2 == 0x08000002);
 HOLDS(symbol, HAQBYLUR_SYMBOL(63) == 0x2000003f && HAQBYLUR_SYMBOL(1 ? 2 : 3) == 0x20000002);

@@ -1,11 +1,12 @@
 /* The C interface of the chapter matcher (documents 01 and 02): Compile, Run, List and Exchange.
  *
  * All data is 32-bit words. A slice is a pointer and then its length in words; the pointer is aligned, and not null even
- * where the length is 0. Each function returns 0 where the call is accepted, and otherwise document 01's number of the
- * refusal; then no lent word changes, and no out-parameter either. What a call may write (slices and out-parameters that are
- * not const) overlaps with no other argument of that call. Any thread may call while no other uses the same memory: the
- * library keeps nothing between calls. It allocates nothing and calls memcpy, memmove and memset alone. It uses the red zone below
- * the stack pointer and SSE2 registers: docs/FIRMWARE.md says what that asks of interrupts on a board without an operating system. */
+ * where the length is 0. Each function returns 0 where the call is accepted, and otherwise the documents' number of the
+ * refusal; then no lent word changes, and no out-parameter either. Of several faults the one is told that stands first among the
+ * function's refusals below. What a call may write (slices and out-parameters that are not const) overlaps with no other argument
+ * of that call. Any thread may call while no other uses the same memory: the library keeps nothing between calls. It allocates
+ * nothing and calls memcpy, memmove and memset alone. It uses the red zone below the stack pointer and SSE2 registers:
+ * docs/FIRMWARE.md says what that asks of interrupts on a board without an operating system. */
 #ifndef HAQBYLUR_H
 #define HAQBYLUR_H
 
@@ -13,7 +14,8 @@
 #include <stdint.h>
 
 /* The most that documents 01 and 02 allow. No table that haqbylur_compile writes is longer than HAQBYLUR_MOST_COMPILED_WORDS; the
- * other functions take tables of up to HAQBYLUR_MOST_TABLE_WORDS, in slices that may be longer. */
+ * other functions take tables of up to HAQBYLUR_MOST_TABLE_WORDS, in slices that may be longer. A lone element has height 1, any
+ * other one more than its highest part; a chapter's height is its root's. */
 #define HAQBYLUR_MOST_SYMBOLS 64u
 #define HAQBYLUR_MOST_CONSTANTS 16u
 #define HAQBYLUR_MOST_RANK 4u
@@ -22,8 +24,9 @@
 #define HAQBYLUR_MOST_TABLE_WORDS 2048u
 #define HAQBYLUR_MOST_COMPILED_WORDS 1148u
 #define HAQBYLUR_MOST_ELEMENTS 4096u
+#define HAQBYLUR_MOST_HEIGHT 512u
 
-/* What the functions return: accepted, or document 01's number of a refusal. */
+/* What the functions return: accepted, or the documents' number of a refusal. */
 #define HAQBYLUR_ACCEPTED 0u
 #define HAQBYLUR_NO_ALPHABET 1u      /* 0 or over 64 words, or a word that is no alphabet entry */
 #define HAQBYLUR_WRONG_CONSTANTS 2u  /* no constant, or over 16 */
@@ -41,6 +44,7 @@
 #define HAQBYLUR_NO_ELEMENT 14u      /* no such element */
 #define HAQBYLUR_NO_REPLACEMENT 15u  /* 0 or over 4,096 words, or no tree over the alphabet */
 #define HAQBYLUR_RESULT_TOO_LONG 16u /* the result is over 4,096 elements, the chapter slice or the marks slice */
+#define HAQBYLUR_TOO_HIGH 24u        /* the chapter, or the result of an exchange, is over 512 high */
 
 /* The words of an alphabet and of a chapter: a symbol with so many parts (its rank); an element with this symbol. A symbol's
  * number is its position in the alphabet, from 0. A chapter is one tree, each element behind its parts, which stand from left to
@@ -84,7 +88,7 @@ uint32_t haqbylur_compile(
     uint32_t *words);
 
 /* Marks a chapter with the states that each subtree reaches, by the table with which the table slice begins. elements: the element
- * count; cells: the number of ones in all marks of the chapter. Refusals 1, 2, 8 to 12. */
+ * count; cells: the number of ones in all marks of the chapter. Refusals 1, 2, 8 to 11, 24, 12. */
 uint32_t haqbylur_run(
     const uint32_t *alphabet, size_t alphabet_length,
     const uint32_t *table, size_t table_length,
@@ -104,7 +108,8 @@ uint32_t haqbylur_list(
     uint32_t *hits);
 
 /* Replaces the subtree of an element in a marked chapter of `count` used elements. The table slice begins with the table that marked
- * it. elements: the new element count; worked_out: the number of elements worked out. Refusals 1, 2, 8 to 12, 14 to 16. */
+ * it. elements: the new element count; worked_out: the number of elements worked out. Refusals 1, 2, 8 to 11, 24 (the used elements),
+ * 12, 14 to 16, 24 (the result). A replacement has no limit of height but the result's. */
 uint32_t haqbylur_exchange(
     const uint32_t *alphabet, size_t alphabet_length,
     const uint32_t *table, size_t table_length,
