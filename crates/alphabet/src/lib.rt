@@ -1,17 +1,20 @@
-// The alphabet: ranks, how many children a word takes by them, constants in symbol order, and refusals 1 and 2.
+// The alphabet: ranks, how many children a word takes by them, constants in symbol order, holes, and refusals 1 and 2.
 ghost use mathlib.Core.Path.{_≡_};
+ghost use mathlib.Core.Bool.{cond};
 ghost use lib.ListN.{length, take};
 ghost use lib.Seq.{sets};
 ghost use Rattle.words.specs.Lists.{all};
 ghost use Rattle.words.specs.Word.{nodeKind, kindOf, lowByte};
-ghost use Rattle.words.specs.Limits.{alphabetMost};
-ghost use Rattle.words.specs.Alphabet.{isEntry, isConstant, rankOf, constantsOf, noAlphabet, alphabetFault};
+ghost use Rattle.words.specs.Limits.{alphabetMost, rankMost};
+ghost use Rattle.words.specs.Alphabet.{entryRank, marksHole, isEntry, rankOf, isConstant, isHole, hasHoles, mayName, constantsOf};
+ghost use Rattle.words.specs.Alphabet.{noAlphabet, alphabetFault};
 ghost use Rattle.words.specs.Postfix.{arity};
 ghost use Rattle.alphabet.specs.Ranks.{RanksWritten};
 use words::limits::ALPHABET_MOST;
 use words::limits::CONSTANTS_MOST;
 use words::limits::RANK_MOST;
 use words::limits::is_outside;
+use words::word::HOLE_RANGE;
 use words::word::Kind;
 use words::word::SYMBOL_RANGE;
 use words::word::kind_of;
@@ -34,13 +37,31 @@ fn symbol_rank(alphabet: &[u32], w: u32) -> usize
     rank(alphabet, (w % SYMBOL_RANGE) as usize)
 }
 
-// Writes the ranks of the alphabet's symbols into the list, as far as it reaches, each at its symbol's number.
+// Whether an entry marks a hole. Only here is the mark read.
+fn marks_hole(w: u32) -> bool
+    ensures { λ r. ⌜ r ≡ marksHole w ⌝ }
+{
+    w / SYMBOL_RANGE % HOLE_RANGE == 1
+}
+
+// The rank in an entry; for a hole, the other number.
+fn rank_unless_hole(w: u32, other: u32) -> u32
+    ensures { λ r. ⌜ r ≡ cond (marksHole w) other (entryRank w) ⌝ }
+{
+    if marks_hole(w) {
+        return other;
+    }
+    w % SYMBOL_RANGE
+}
+
+// Writes the ranks of the alphabet's symbols into the list, as far as it reaches, each at its symbol's number. At a hole's number
+// the list stays as it is.
 pub fn write_ranks(alphabet: &[u32], ranks: &mut [u32])
     ensures { λ _. ⌜ RanksWritten (now (alphabet .entry)) (now (ranks .entry)) (now (ranks .exit)) ⌝ }
 {
     let mut symbol = 0;
     while symbol < alphabet.len() && symbol < ranks.len() {
-        ranks[symbol] = alphabet[symbol] % SYMBOL_RANGE;
+        ranks[symbol] = rank_unless_hole(alphabet[symbol], ranks[symbol]);
         symbol += 1;
     }
 }
@@ -78,13 +99,54 @@ pub fn is_constant(alphabet: &[u32], symbol: usize) -> bool
     false
 }
 
+// Whether a symbol is a hole; an unknown one is not.
+pub fn is_hole(alphabet: &[u32], symbol: usize) -> bool
+    ensures { λ r. ⌜ r ≡ isHole (now (alphabet .entry)) symbol ⌝ }
+{
+    symbol < alphabet.len() && marks_hole(alphabet[symbol])
+}
+
+// Whether the alphabet has a hole.
+pub fn has_holes(alphabet: &[u32]) -> bool
+    ensures { λ r. ⌜ r ≡ hasHoles (now (alphabet .entry)) ⌝ }
+{
+    let mut i = 0;
+    while i < alphabet.len() && !marks_hole(alphabet[i]) {
+        i += 1;
+    }
+    i < alphabet.len()
+}
+
+// Whether a product or a closure may name the symbol: a constant, and where the alphabet has a hole, a hole.
+pub fn may_name(alphabet: &[u32], symbol: usize) -> bool
+    ensures { λ r. ⌜ r ≡ mayName (now (alphabet .entry)) symbol ⌝ }
+{
+    if !is_constant(alphabet, symbol) {
+        return false;
+    }
+    if !has_holes(alphabet) {
+        return true;
+    }
+    is_hole(alphabet, symbol)
+}
+
+// The highest rank of an entry: a hole is a constant.
+fn rank_most(w: u32) -> u32
+    ensures { λ r. ⌜ r ≡ cond (marksHole w) 0 rankMost ⌝ }
+{
+    if marks_hole(w) {
+        return 0;
+    }
+    RANK_MOST as u32
+}
+
 // Whether a word is an alphabet entry.
 fn is_entry(w: u32) -> bool
     ensures { λ r. ⌜ r ≡ isEntry w ⌝ }
 {
     let kind = kind_of(w);
     match kind {
-        Kind::Entry => spare_bits_clear(w) && w % SYMBOL_RANGE <= RANK_MOST as u32,
+        Kind::Entry => spare_bits_clear(w) && w % SYMBOL_RANGE <= rank_most(w),
         _ => false,
     }
 }

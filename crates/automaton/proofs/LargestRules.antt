@@ -6,7 +6,8 @@ use mathlib.Core.List.{List, [], _∷_, _++_, flatMap}
 use lib.ListN.{length, replicate}
 use Rattle.words.specs.Limits.{constantsMost, statesMost, compiledMost}
 use Rattle.words.specs.Word.{spareBitsClear, isOf, kindAt}
-use Rattle.words.specs.Alphabet.{isEntry, rankOf, isConstant, constantsFrom, constantsOf, noAlphabet, wrongConstants, alphabetFault}
+use Rattle.words.specs.Alphabet.{marksHole, isEntry, rankOf, isConstant, isHole, hasHoles, mayName, constantsFrom, constantsOf}
+use Rattle.words.specs.Alphabet.{noAlphabet, wrongConstants, alphabetFault}
 use Rattle.words.specs.Shape.{treesBy}
 use Rattle.words.specs.Postfix.{arity, notOneTree}
 use Rattle.words.specs.ExpressionWords.{isExpressionWord, wrongLength, notExpressionWords, expressionFault}
@@ -37,7 +38,8 @@ pub record LimitsAttained : Type 0 where
 
 pub limits-attained : LimitsAttained
 unfolding
-    kindAt spareBitsClear isOf isEntry rankOf isConstant constantsFrom constantsOf noAlphabet wrongConstants arity treesBy notOneTree
+    kindAt spareBitsClear isOf marksHole isEntry rankOf isConstant isHole hasHoles mayName constantsFrom constantsOf noAlphabet
+    wrongConstants arity treesBy notOneTree
     isExpressionWord wrongLength notExpressionWords hasEntries statesOf portOf ownTransitions portsFrom statesAfter transitionsFrom
     compiled flatMap
 limits-attained =

@@ -16,6 +16,7 @@ use Rattle.words.specs.Postfix.{arity}
 use Rattle.words.proofs.KindLaws.{kindOf-wordOf, lowByte-symbol, kindOf-hasKind}
 use Rattle.words.proofs.WordLaws.{arity-wordOf}
 use Rattle.words.proofs.AlphabetLaws.{isConstant-zero}
+use Rattle.words.proofs.HoleLaws.{mayName-constant}
 use Rattle.language.specs.Expression.{Expression, Expressions, symbol, empty, union, product}
 use Rattle.language.specs.Expression.{closure, noneᵉ, moreᵉ, numberᵉ, syntaxTree, ExpressionOver}
 use Rattle.automaton.specs.Numbering.{Port, statesOf, fullPort, leafPort, portOf, ownAt, ownTransitions}
@@ -107,7 +108,7 @@ module _ (a : List ℕ) where
         own-are = own-word unionKind 0 (omega arith) (fullPort cs x) (port cs F n) (port cs G (next cs F n) ∷ []);
       }
   last-word l (product c F G) n o =
-      let h : c < symbolRange = omega (arith, isConstant-zero a c (o .0) .0) in
+      let h : c < symbolRange = omega (arith, isConstant-zero a c (mayName-constant a c (o .0)) .0) in
       let e : arity a (wordOf productKind c) ≡ 2 = arity-wordOf a productKind c h in
       let x = exitState cs (product c F G) n in
       record {
@@ -117,7 +118,7 @@ module _ (a : List ℕ) where
         own-are = own-word productKind c h (fullPort cs x) (port cs F n) (port cs G (next cs F n) ∷ []);
       }
   last-word l (closure c F) n o =
-      let h : c < symbolRange = omega (arith, isConstant-zero a c (o .0) .0) in
+      let h : c < symbolRange = omega (arith, isConstant-zero a c (mayName-constant a c (o .0)) .0) in
       let e : arity a (wordOf closureKind c) ≡ 1 = arity-wordOf a closureKind c h in
       let x = exitState cs (closure c F) n in
       record {

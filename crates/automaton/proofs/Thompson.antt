@@ -9,6 +9,7 @@ use Rattle.words.specs.Alphabet.{rankOf, constantsOf}
 use Rattle.words.specs.Tree.{Tree}
 use Rattle.words.specs.Limits.{alphabetMost}
 use Rattle.words.proofs.AlphabetLaws.{zero-isConstant, constantsOf-isConstant}
+use Rattle.words.proofs.HoleLaws.{mayName-listed}
 use Rattle.words.proofs.AllLaws.{each-self, each-left, each-right, each-map}
 use Rattle.language.specs.Expression.{Expression, Expressions, symbol, empty, union, product, closure, noneᵉ}
 use Rattle.language.specs.Expression.{moreᵉ, numberᵉ, expressionWords, ExpressionOver, ExpressionsOver}
@@ -60,8 +61,8 @@ module _ (a : List ℕ) where
     constants-listed (symbol f es) o = (symbol-listed f es (o .0) (o .1), constants-listed-all es (o .2))
     constants-listed empty o = tt
     constants-listed (union F G) o = (constants-listed F (o .0), constants-listed G (o .1))
-    constants-listed (product c F G) o = (constantsOf-isConstant a c .1 (o .0), constants-listed F (o .1), constants-listed G (o .2))
-    constants-listed (closure c F) o = (constantsOf-isConstant a c .1 (o .0), constants-listed F (o .1))
+    constants-listed (product c F G) o = (mayName-listed a c (o .0), constants-listed F (o .1), constants-listed G (o .2))
+    constants-listed (closure c F) o = (mayName-listed a c (o .0), constants-listed F (o .1))
 
     constants-listed-all : (es : Expressions) → ExpressionsOver a es → ConstantsListedAll (constantsOf a) es
     constants-listed-all noneᵉ o = tt

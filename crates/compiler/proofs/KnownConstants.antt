@@ -10,11 +10,11 @@ use lib.ListN.{length, getD}
 use borrow.Author.Tests.{eq-eqb, ne-eqb}
 use Rattle.words.specs.Limits.{alphabetMost}
 use Rattle.words.specs.Word.{unionKind, productKind, closureKind, lowByte, symbolRange}
-use Rattle.words.specs.Alphabet.{isConstant, constantsOf}
+use Rattle.words.specs.Alphabet.{mayName, constantsOf}
 use Rattle.words.specs.Postfix.{arity}
 use Rattle.words.specs.ExpressionWords.{isExpressionWord}
 use Rattle.words.proofs.Ascending.{Ascending, end, next, ascending-at}
-use Rattle.words.proofs.AlphabetLaws.{constantsOf-isConstant}
+use Rattle.words.proofs.HoleLaws.{mayName-listed}
 use Rattle.words.proofs.ConstantLaws.{constants-ascending}
 use Rattle.words.proofs.WordLaws.{arity-kind, isExpressionWord-facts}
 use Rattle.automaton.specs.Numbering.{numbered, lookup}
@@ -52,8 +52,8 @@ module _ (a cs : List ℕ) (known : cs ≡ constantsOf a) where
   member-listed c (d ∷ ds) (List·Memᴰ·head e) = (0, omega arith, sym e)
   member-listed c (d ∷ ds) (List·Memᴰ·tail m) = let (k, h, e) = member-listed c ds m in (suc k, omega arith, e)
 
-  constant-listed : (c : ℕ) → isConstant a c ≡ true → ListedConstant cs c
-  constant-listed c h = rw known (member-listed c (constantsOf a) (constantsOf-isConstant a c .1 h))
+  substitution-listed : (c : ℕ) → mayName a c ≡ true → ListedConstant cs c
+  substitution-listed c h = rw known (member-listed c (constantsOf a) (mayName-listed a c h))
 
   pub word-emittable : (ps : List ℕ) (w : ℕ) → isExpressionWord a w ≡ true → length ps ≡ arity a w → OwnEmittable cs ps w
   word-emittable ps w h r =
@@ -61,10 +61,10 @@ module _ (a cs : List ℕ) (known : cs ≡ constantsOf a) where
         union = λ t. r ∙ arity-kind a w unionKind t;
         product = λ t. (
           r ∙ arity-kind a w productKind t,
-          constant-listed (lowByte w) (isExpressionWord-facts a w productKind t h .names),
+          substitution-listed (lowByte w) (isExpressionWord-facts a w productKind t h .names),
         );
         closure = λ t. (
           r ∙ arity-kind a w closureKind t,
-          constant-listed (lowByte w) (isExpressionWord-facts a w closureKind t h .names),
+          substitution-listed (lowByte w) (isExpressionWord-facts a w closureKind t h .names),
         );
       }

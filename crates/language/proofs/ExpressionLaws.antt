@@ -9,7 +9,7 @@ use lib.ListN.{length, getD}
 use borrow.Author.Tests.{lt-ltb}
 use Rattle.words.specs.Lists.{all}
 use Rattle.words.specs.Word.{Kind, symbolKind, emptyKind, unionKind, productKind, closureKind, fieldRange, wordOf, lowByte}
-use Rattle.words.specs.Alphabet.{isConstant}
+use Rattle.words.specs.Alphabet.{mayName}
 use Rattle.words.specs.Tree.{Tree, none, more, postfix, postfixAll}
 use Rattle.words.specs.Postfix.{arity, oneTree, stackAfter}
 use Rattle.words.specs.ExpressionWords.{namesAt, isExpressionWord}
@@ -24,7 +24,7 @@ use Rattle.words.proofs.TreeLaws.{TreeOf, exactly-one-tree}
 use Rattle.language.specs.Expression.{Expression, Expressions, symbol, empty, union, product, closure, noneᵉ, moreᵉ}
 use Rattle.language.specs.Expression.{syntaxTree, syntaxTrees, expressionWords, ExpressionOver, ExpressionsOver, ExpressionOf}
 use Rattle.language.specs.Reading.{expressionOn, expressionOf}
-use Rattle.language.proofs.ParseLaws.{treeExpression, number-syntaxTrees, tree-expression, constant-small, expression-back}
+use Rattle.language.proofs.ParseLaws.{treeExpression, number-syntaxTrees, tree-expression, named-small, expression-back}
 
 module _ (a : List ℕ) where
   expression-read : (e : List ℕ) → all (isExpressionWord a) e ≡ true → (t : Tree) → TreeOf (arity a) e t
@@ -42,8 +42,8 @@ module _ (a : List ℕ) where
       ranked-syntax empty h = (arity-wordOf a emptyKind 0 (omega arith), tt)
       ranked-syntax (union F G) h = (arity-wordOf a unionKind 0 (omega arith), (ranked-syntax F (h .0), (ranked-syntax G (h .1), tt)))
       ranked-syntax (product c F G) h =
-          (arity-wordOf a productKind c (constant-small a m c (h .0)), (ranked-syntax F (h .1), (ranked-syntax G (h .2), tt)))
-      ranked-syntax (closure c F) h = (arity-wordOf a closureKind c (constant-small a m c (h .0)), (ranked-syntax F (h .1), tt))
+          (arity-wordOf a productKind c (named-small a m c (h .0)), (ranked-syntax F (h .1), (ranked-syntax G (h .2), tt)))
+      ranked-syntax (closure c F) h = (arity-wordOf a closureKind c (named-small a m c (h .0)), (ranked-syntax F (h .1), tt))
 
       ranked-syntaxes : (es : Expressions) → ExpressionsOver a es → RankedAll (arity a) (syntaxTrees es)
       ranked-syntaxes noneᵉ h = tt
@@ -57,9 +57,9 @@ module _ (a : List ℕ) where
         (true-and (isExpressionWord a (wordOf k b)) true (isExpressionWord-wordOf a k b r n) refl)
 
     -- the substitution symbol of a product or a closure
-    names-constant : (c : ℕ) → isConstant a c ≡ true → isConstant a (lowByte c) ≡ true
-    names-constant c h =
-        let l = constant-small a m c h in
+    names-small : (c : ℕ) → mayName a c ≡ true → mayName a (lowByte c) ≡ true
+    names-small c h =
+        let l = named-small a m c h in
         let e : lowByte c ≡ c = omega arith in
         rw e h
 
@@ -85,11 +85,11 @@ module _ (a : List ℕ) where
       expression-words (product c F G) h =
           snoc-words (postfixAll (more (syntaxTree F) (more (syntaxTree G) none))) productKind c
           (pair-words F G (expression-words F (h .1)) (expression-words G (h .2)))
-          (constant-small a m c (h .0)) (names-constant c (h .0))
+          (named-small a m c (h .0)) (names-small c (h .0))
       expression-words (closure c F) h =
           snoc-words (postfixAll (more (syntaxTree F) none)) closureKind c
           (all-append (isExpressionWord a) (expressionWords F) [] (expression-words F (h .1)) refl)
-          (constant-small a m c (h .0)) (names-constant c (h .0))
+          (named-small a m c (h .0)) (names-small c (h .0))
 
       expressions-words : (es : Expressions) → ExpressionsOver a es → all (isExpressionWord a) (postfixAll (syntaxTrees es)) ≡ true
       expressions-words noneᵉ h = refl

@@ -8,7 +8,7 @@ use native.Mathlib.Omega.{arith}
 use lib.ListN.{length}
 use Rattle.words.specs.Lists.{all}
 use Rattle.words.specs.Word.{Kind, symbolKind, emptyKind, unionKind, productKind, closureKind, kindOf, bodyOf, wordOf, lowByte, symbolRange}
-use Rattle.words.specs.Alphabet.{rankOf, isConstant}
+use Rattle.words.specs.Alphabet.{rankOf, mayName}
 use Rattle.words.specs.Tree.{Tree, Trees, node, none, more, number, postfix, postfixAll}
 use Rattle.words.specs.Postfix.{arity}
 use Rattle.words.specs.ExpressionWords.{isExpressionWord}
@@ -18,6 +18,7 @@ use Rattle.words.proofs.TreeFold.{fold, foldAll}
 use Rattle.words.proofs.TestLaws.{and-true, all-left, all-right}
 use Rattle.words.proofs.KindLaws.{kindOf-wordOf, lowByte-symbol}
 use Rattle.words.proofs.AlphabetLaws.{isConstant-zero}
+use Rattle.words.proofs.HoleLaws.{mayName-constant}
 use Rattle.words.proofs.WordLaws.{IsExpressionWord, isExpressionWord-facts}
 use Rattle.words.proofs.ExpressionWordLaws.{ExpressionWord, symbolWord, emptyWord, unionWord, productWord, closureWord, expressionWord}
 use Rattle.language.specs.Expression.{Expression, Expressions, symbol, empty, union, product, closure, noneᵉ}
@@ -70,7 +71,7 @@ module _ (a : List ℕ) where
         }
     root-union (F ∷ G ∷ H ∷ es) f r o = absurd (omega arith)
 
-    root-product : (es : List Expression) → IsExpressionWord a w productKind → isConstant a (lowByte w) ≡ true → 2 ≡ numberᵉ (childrenᵉ es)
+    root-product : (es : List Expression) → IsExpressionWord a w productKind → mayName a (lowByte w) ≡ true → 2 ≡ numberᵉ (childrenᵉ es)
         → ExpressionsOver a (childrenᵉ es) → Root w es productKind
     root-product [] f c r o = absurd (omega arith)
     root-product (F ∷ []) f c r o = absurd (omega arith)
@@ -81,7 +82,7 @@ module _ (a : List ℕ) where
         }
     root-product (F ∷ G ∷ H ∷ es) f c r o = absurd (omega arith)
 
-    root-closure : (es : List Expression) → IsExpressionWord a w closureKind → isConstant a (lowByte w) ≡ true → 1 ≡ numberᵉ (childrenᵉ es)
+    root-closure : (es : List Expression) → IsExpressionWord a w closureKind → mayName a (lowByte w) ≡ true → 1 ≡ numberᵉ (childrenᵉ es)
         → ExpressionsOver a (childrenᵉ es) → Root w es closureKind
     root-closure [] f c r o = absurd (omega arith)
     root-closure (F ∷ []) f c r o =
@@ -123,8 +124,8 @@ module _ (a : List ℕ) where
   -- ---- and back
 
   module _ (m : length a ≤ alphabetMost) where
-    pub constant-small : (c : ℕ) → isConstant a c ≡ true → c < symbolRange
-    constant-small c h = omega (arith, isConstant-zero a c h .0)
+    pub named-small : (c : ℕ) → mayName a c ≡ true → c < symbolRange
+    named-small c h = omega (arith, isConstant-zero a c (mayName-constant a c h) .0)
 
     -- `treeExpression` gives the expression back
     kind-back : (k : Kind) (b : ℕ) (es : List Expression) → b < symbolRange
@@ -142,10 +143,10 @@ module _ (a : List ℕ) where
           kind-back unionKind 0 (treeExpression (syntaxTree F) ∷ treeExpression (syntaxTree G) ∷ []) (omega arith)
           ∙ ap₂ union (expression-back F (h .0)) (expression-back G (h .1))
       expression-back (product c F G) h =
-          kind-back productKind c (treeExpression (syntaxTree F) ∷ treeExpression (syntaxTree G) ∷ []) (constant-small c (h .0))
+          kind-back productKind c (treeExpression (syntaxTree F) ∷ treeExpression (syntaxTree G) ∷ []) (named-small c (h .0))
           ∙ ap₂ (product c) (expression-back F (h .1)) (expression-back G (h .2))
       expression-back (closure c F) h =
-          kind-back closureKind c (treeExpression (syntaxTree F) ∷ []) (constant-small c (h .0))
+          kind-back closureKind c (treeExpression (syntaxTree F) ∷ []) (named-small c (h .0))
           ∙ ap (closure c) (expression-back F (h .1))
 
       expressions-back : (es : Expressions) → ExpressionsOver a es → childrenᵉ (treeExpressions (syntaxTrees es)) ≡ es

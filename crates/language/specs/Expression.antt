@@ -1,10 +1,10 @@
 -- Regular tree expressions (document 01's rules), and expressions and subject trees as postfix words.
 use Prim.Native.Nat.{ℕ, suc, _<_}
 use mathlib.Core.Path.{_≡_}
-use mathlib.Core.Bool.{true}
+use mathlib.Core.Bool.{true, false}
 use mathlib.Core.List.{List, map}
 use lib.ListN.{length}
-use Rattle.words.specs.Alphabet.{isConstant, rankOf}
+use Rattle.words.specs.Alphabet.{rankOf, isHole, mayName}
 use Rattle.words.specs.Word.{symbolKind, emptyKind, unionKind, productKind, closureKind, nodeKind, wordOf}
 use Rattle.words.specs.Tree.{Tree, Trees, node, none, more, number, postfix}
 
@@ -51,18 +51,28 @@ abbrev mutual
   TreesOver a none = Unit {0}
   TreesOver a (more t ts) = TreeOver a t × TreesOver a ts
 
+-- "hole-free" (document 02, U8): no node is a hole
+abbrev mutual
+  pub HoleFree : List ℕ → Tree → Type 0
+  HoleFree a (node f ts) = (isHole a f ≡ false) × HoleFreeAll a ts
+
+  pub HoleFreeAll : List ℕ → Trees → Type 0
+  HoleFreeAll a none = Unit {0}
+  HoleFreeAll a (more t ts) = HoleFree a t × HoleFreeAll a ts
+
 abbrev pub numberᵉ : Expressions → ℕ
 numberᵉ noneᵉ = 0
 numberᵉ (moreᵉ E Es) = suc (numberᵉ Es)
 
--- an expression over the alphabet: each symbol as in a tree, and "c must be one", a constant
+-- an expression over the alphabet: each symbol as in a tree, and a c that may be named: "c must be one", a constant, and "Once an
+-- alphabet has a hole, only holes may be named in a product or closure" (document 02, U8)
 abbrev mutual
   pub ExpressionOver : List ℕ → Expression → Type 0
   ExpressionOver a (symbol f es) = (f < length a) × (rankOf a f ≡ numberᵉ es) × ExpressionsOver a es
   ExpressionOver a empty = Unit {0}
   ExpressionOver a (union F G) = ExpressionOver a F × ExpressionOver a G
-  ExpressionOver a (product c F G) = (isConstant a c ≡ true) × ExpressionOver a F × ExpressionOver a G
-  ExpressionOver a (closure c F) = (isConstant a c ≡ true) × ExpressionOver a F
+  ExpressionOver a (product c F G) = (mayName a c ≡ true) × ExpressionOver a F × ExpressionOver a G
+  ExpressionOver a (closure c F) = (mayName a c ≡ true) × ExpressionOver a F
 
   pub ExpressionsOver : List ℕ → Expressions → Type 0
   ExpressionsOver a noneᵉ = Unit {0}

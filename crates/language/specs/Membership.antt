@@ -3,8 +3,9 @@
 use Prim.Native.Nat.{ℕ, zero, suc}
 use mathlib.Core.Path.{_≡_}
 use mathlib.Core.Logic.{_⊎_}
+use mathlib.Core.List.{List}
 use Rattle.words.specs.Tree.{Tree, Trees, node, none, more, label, children}
-use Rattle.language.specs.Expression.{Expression, Expressions, symbol, empty, union, product, closure, noneᵉ, moreᵉ}
+use Rattle.language.specs.Expression.{Expression, Expressions, symbol, empty, union, product, closure, noneᵉ, moreᵉ, HoleFree}
 
 -- a language is a property of trees
 abbrev pub Language : Type 1
@@ -64,3 +65,7 @@ abbrev mutual
   Members noneᵉ (more t ts) = ⊥
   Members (moreᵉ E Es) none = ⊥
   Members (moreᵉ E Es) (more t ts) = Member E t × Members Es ts
+
+-- "Wherever chapters are compared with a rule's language, this now means its hole-free members" (document 02, U8)
+abbrev pub HoleFreeMember : List ℕ → Expression → Language
+HoleFreeMember a E t = HoleFree a t × Member E t

@@ -12,7 +12,7 @@ use Rattle.words.specs.Limits.{statesMost, nodesMost}
 use Rattle.words.specs.Refusal.{refusal, someHolds}
 use Rattle.words.specs.Alphabet.{alphabetRefusals, alphabetFault}
 use Rattle.words.specs.ExpressionWords.{expressionRefusals, expressionFault}
-use Rattle.words.specs.Chapter.{treeRefusals, treeFault, tooHigh}
+use Rattle.words.specs.Chapter.{treeRefusals, treeFault, tooHigh, holesIn}
 use Rattle.words.specs.Postfix.{splice}
 use Rattle.words.proofs.TestLaws.{or-false}
 use Rattle.words.proofs.LimitLaws.{Within, not-outside, is-within}
@@ -128,6 +128,8 @@ pub record MarkedAccepted (a table : List ℕ) (n : ℕ) (ch : List ℕ) (marksL
   pub tree : treeFault a ch ≡ 0
   -- 24
   pub low : tooHigh a ch ≡ false
+  -- 26
+  pub free : holesIn a ch ≡ false
   -- 12
   pub marks : n * sizeOf table ≤ marksLength
 
@@ -138,6 +140,7 @@ module _ (a table : List ℕ) (n : ℕ) (ch : List ℕ) (marksLength : ℕ) wher
       record {
         tree = part-passes rs refl h (treeRefusals a ch) refl;
         low = none-applies rs refl h 24;
+        free = none-applies rs refl h 26;
         marks = marks-fit table n marksLength (none-applies rs refl h 12);
       }
 
@@ -146,7 +149,7 @@ module _ (a table : List ℕ) (n : ℕ) (ch : List ℕ) (marksLength : ℕ) wher
       sym
       (found-refusal (markedRefusals a table n ch marksLength)
       (passes (treeRefusals a ch) refl (sym (g .tree)) refl
-      (next (g .low) (next (fit-marks table n marksLength (g .marks)) none))))
+      (next (g .low) (next (g .free) (next (fit-marks table n marksLength (g .marks)) none)))))
 
 -- ---- a change
 
@@ -184,6 +187,8 @@ pub record ChangeAccepted (a table : List ℕ) (n : ℕ) (used : List ℕ) (chap
   pub element : i < n
   -- 15
   pub replacement : Replacement a xs
+  -- 26
+  pub free : holesIn a xs ≡ false
   -- 16
   pub fits : ResultFits table (length (splice a used i xs)) chapterLength marksLength
   -- 24
@@ -199,6 +204,7 @@ change-accepted a table n used chapterLength marksLength i xs h =
     record {
       element = ltb-true i n (not-false (ltb i n) (not-so 14));
       replacement = replacement-right a xs (not-so 15);
+      free = not-so 26;
       fits = result-right table (length (splice a used i xs)) chapterLength marksLength (not-so 16);
       low = not-so 24;
     }
@@ -210,7 +216,7 @@ pub record RunAccepted (a table p : List ℕ) (marksLength : ℕ) : Type 0 where
   pub checked : TableAccepted a table
   -- 9
   pub counted : Within nodesMost (length p)
-  -- 10 11 24 12
+  -- 10 11 24 26 12
   pub marked : MarkedAccepted a table (length p) p marksLength
 
 module _ (a table p : List ℕ) (marksLength : ℕ) where
@@ -275,9 +281,9 @@ pub record ExchangeAccepted (a table : List ℕ) (n : ℕ) (used : List ℕ) (ch
   pub checked : TableAccepted a table
   -- 9
   pub count : UsedCount n chapterLength
-  -- 10 11 24 12
+  -- 10 11 24 26 12
   pub marked : MarkedAccepted a table n used marksLength
-  -- 14 15 16 24
+  -- 14 15 26 16 24
   pub change : ChangeAccepted a table n used chapterLength marksLength i xs
 
 pub exchange-accepted : (a table : List ℕ) (n : ℕ) (used : List ℕ) (chapterLength marksLength i : ℕ) (xs : List ℕ)

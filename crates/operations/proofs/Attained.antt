@@ -5,12 +5,13 @@ use mathlib.Core.Path.{_≡_, refl}
 use mathlib.Core.List.{List, [], _∷_, _++_, map}
 use lib.ListN.{replicate}
 use Rattle.words.specs.Word.{kindAt, spareBitsClear, isOf}
-use Rattle.words.specs.Alphabet.{isEntry, rankOf, isConstant, constantsFrom, constantsOf, noAlphabet, wrongConstants}
+use Rattle.words.specs.Alphabet.{marksHole, isEntry, rankOf, isConstant, isHole, hasHoles, mayName, constantsFrom, constantsOf}
+use Rattle.words.specs.Alphabet.{noAlphabet, wrongConstants}
 use Rattle.words.specs.Lists.{highest}
 use Rattle.words.specs.Shape.{treesBy, valueOnBy, stackAfterBy, heightOver, heightOfBy, startFromBy, spliceBy}
 use Rattle.words.specs.Postfix.{arity, notOneTree}
 use Rattle.words.specs.ExpressionWords.{isExpressionWord, wrongLength, notExpressionWords}
-use Rattle.words.specs.Chapter.{isNode, notNodes, tooHigh}
+use Rattle.words.specs.Chapter.{isNode, notNodes, tooHigh, holesIn}
 use Rattle.words.specs.Answer.{Answer, refused}
 use Rattle.automaton.specs.Transition.{automatonOf}
 use Rattle.automaton.specs.Numbering.{hasEntries, statesOf, portOf, ownTransitions, portsFrom, statesAfter, transitionsFrom, compiled}
@@ -45,6 +46,13 @@ two = 0x1000_0000 ∷ 0x1000_0002 ∷ []
 abbrev line : List ℕ
 line = 0x1000_0000 ∷ 0x1000_0001 ∷ []
 
+-- a constant 0, a symbol 1 of rank 2 and a hole 2; the same with the symbol of rank 1
+abbrev holed : List ℕ
+holed = 0x1000_0000 ∷ 0x1000_0002 ∷ 0x1000_0100 ∷ []
+
+abbrev holedLine : List ℕ
+holedLine = 0x1000_0000 ∷ 0x1000_0001 ∷ 0x1000_0100 ∷ []
+
 abbrev sixteen : List ℕ
 sixteen = replicate 16 0x1000_0000
 
@@ -62,6 +70,9 @@ leaf = 0x7000_0000
 abbrev pair : ℕ
 pair = 0x7000_0001
 
+abbrev hole : ℕ
+hole = 0x7000_0002
+
 -- a leaf and n nodes above it, over the alphabet `line`
 abbrev above : ℕ → List ℕ
 above n = leaf ∷ replicate n 0x7000_0001
@@ -75,6 +86,15 @@ calls =
     ∷ (5, compile two (0x2000_0001 ∷ []) [])
     ∷ (6, compile sixteen overLimit [])
     ∷ (7, compile two (0x2000_0000 ∷ []) (0 ∷ 0 ∷ []))
+    -- a hole of rank 1; 17 constants, of which one is a hole; a c that is no hole beside one, in a product and in a closure, where 5
+    -- holds too; a c that is a hole, and one where there is none; a hole as a symbol
+    ∷ (1, compile (0x1000_0000 ∷ 0x1000_0101 ∷ []) [] [])
+    ∷ (2, compile (0x1000_0100 ∷ sixteen) [] [])
+    ∷ (4, compile holed (0x5000_0000 ∷ []) [])
+    ∷ (4, compile holed (0x6000_0000 ∷ []) [])
+    ∷ (7, compile holed (0x2000_0000 ∷ 0x6000_0002 ∷ []) [])
+    ∷ (7, compile two (0x2000_0000 ∷ 0x6000_0000 ∷ []) [])
+    ∷ (7, compile holed (0x2000_0002 ∷ []) [])
     ∷ (1, run (0 ∷ []) [] [] [])
     ∷ (2, run (0x1000_0001 ∷ []) [] [] [])
     ∷ (8, run two [] [] [])
@@ -90,9 +110,20 @@ calls =
     ∷ (9, run two one (replicate 4097 0x6000_0000) [])
     ∷ (10, run two one (0x6000_0000 ∷ []) [])
     ∷ (11, run two one (pair ∷ []) [])
+    -- a tree of height 513 behind another
+    ∷ (11, run line one (leaf ∷ above 512) (replicate 514 0))
     -- of height 513, where 12 holds too, and where nothing else does
     ∷ (24, run line one (above 512) [])
     ∷ (24, run line one (above 512) (replicate 513 0))
+    -- a hole: at the root, where 12 holds too; first, in the middle and last of the leaves, where nothing else does; where 24, 11 or
+    -- 10 holds too
+    ∷ (26, run holed one (hole ∷ []) [])
+    ∷ (26, run holed one (hole ∷ leaf ∷ pair ∷ []) (replicate 3 0))
+    ∷ (26, run holed one (leaf ∷ hole ∷ leaf ∷ pair ∷ pair ∷ []) (replicate 5 0))
+    ∷ (26, run holed one (leaf ∷ hole ∷ pair ∷ []) (replicate 3 0))
+    ∷ (24, run holedLine one (hole ∷ replicate 512 0x7000_0001) [])
+    ∷ (11, run holed one (hole ∷ hole ∷ []) [])
+    ∷ (10, run holed one (hole ∷ 0x7000_0003 ∷ []) [])
     ∷ (12, run line one (above 511) [])
     ∷ (12, run two one (leaf ∷ []) [])
     ∷ (1, list (0x1000_0005 ∷ []) [] 0 [] [])
@@ -114,10 +145,18 @@ calls =
     ∷ (24, exchange line one (above 512) (replicate 513 0) 513 512 (leaf ∷ []))
     -- the result is too high, too
     ∷ (24, exchange line one (above 512 ++ 0 ∷ []) (replicate 514 0) 513 0 (above 1))
+    -- a hole in the used chapter, where 12 and 14 hold too, and where nothing else does; behind it, where it is not looked at
+    ∷ (26, exchange holed one (hole ∷ []) [] 1 1 [])
+    ∷ (26, exchange holed one (leaf ∷ hole ∷ pair ∷ []) (replicate 3 0) 3 1 (leaf ∷ []))
+    ∷ (14, exchange holed one (leaf ∷ hole ∷ []) (0 ∷ []) 1 1 (hole ∷ []))
     ∷ (12, exchange line one (above 511) [] 512 0 (leaf ∷ []))
     ∷ (12, exchange two one (leaf ∷ []) [] 1 1 [])
     ∷ (14, exchange two one (leaf ∷ []) (0 ∷ []) 1 1 (leaf ∷ leaf ∷ []))
     ∷ (15, exchange two one (leaf ∷ []) (0 ∷ []) 1 0 (leaf ∷ leaf ∷ []))
+    -- a hole in the replacement, where 15 holds too; where 16 does; and where nothing else does
+    ∷ (15, exchange holed one (leaf ∷ []) (0 ∷ []) 1 0 (hole ∷ hole ∷ []))
+    ∷ (26, exchange holed one (leaf ∷ []) (0 ∷ []) 1 0 (leaf ∷ hole ∷ pair ∷ []))
+    ∷ (26, exchange holed one (leaf ∷ []) (0 ∷ []) 1 0 (hole ∷ []))
     ∷ (16, exchange two one (leaf ∷ []) (0 ∷ []) 1 0 (leaf ∷ leaf ∷ pair ∷ []))
     -- a result of height 513 that is too long, too, and where nothing else holds
     ∷ (16, exchange line one (above 511) (replicate 513 0) 512 0 (above 1))
@@ -126,8 +165,9 @@ calls =
 
 -- each answers its number
 pub attained : map (λ r. answerTo (r .1)) calls ≡ map (λ r. refused (r .0)) calls
-unfolding kindAt spareBitsClear isOf isEntry rankOf isConstant constantsFrom constantsOf noAlphabet wrongConstants arity treesBy notOneTree
-    valueOnBy stackAfterBy heightOver highest heightOfBy tooHigh startFromBy spliceBy
+unfolding kindAt spareBitsClear isOf marksHole isEntry rankOf isConstant isHole hasHoles mayName constantsFrom constantsOf noAlphabet
+    wrongConstants arity treesBy notOneTree
+    valueOnBy stackAfterBy heightOver highest heightOfBy tooHigh holesIn startFromBy spliceBy
     isExpressionWord wrongLength notExpressionWords isNode notNodes automatonOf hasEntries statesOf portOf ownTransitions portsFrom
     statesAfter transitionsFrom
     compiled tableWordCount tableIn isHead isTableWord sourcesLeft areTransitions isTable noTable sizeFor tooManyStates tableTooLong

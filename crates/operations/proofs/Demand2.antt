@@ -1,25 +1,29 @@
 -- Demand 2 holds: List writes the nodes whose state sets hold the final state, a node's set holds the states that its subtree's
--- tree reaches, and by Thompson's theorem the final one is reached by the members of the rule's language.
+-- tree reaches, and by Thompson's theorem the final one is reached by the members of the rule's language. The
+-- trees of an accepted chapter are hole-free.
 use Prim.Native.Nat.{ℕ, _<_, _≤_}
 use mathlib.Core.Path.{_≡_, sym, _∙_, ap, ap₂, subst}
 use mathlib.Core.Logic.{_↔_}
-use mathlib.Core.Bool.{true}
+use mathlib.Core.Bool.{true, false}
 use mathlib.Core.List.{List, [], _∷_, flatten, head-eq-of-cons-eq, List·Memᴰ}
 use native.Mathlib.Omega.{arith}
 use native.Mathlib.Nat.{zero-add}
 use lib.ListN.{length, getD, take}
 use Rattle.words.specs.Limits.{alphabetMost}
+use Rattle.words.specs.Alphabet.{hasHoles}
 use Rattle.words.specs.Tree.{Tree}
 use Rattle.words.specs.Postfix.{subtreeOf}
 use Rattle.words.specs.ExactlyOne.{ExactlyOne}
 use Rattle.words.specs.Answer.{accepted}
 use Rattle.words.proofs.AcceptedTree.{tree-accepted}
+use Rattle.words.proofs.HoleLaws.{subtree-holes}
 use Rattle.words.proofs.ListLaws.{take-over}
 use Rattle.words.proofs.AnswerLaws.{accepted-values}
-use Rattle.language.specs.Expression.{Expression, ExpressionOf, SubjectOf}
-use Rattle.language.specs.Membership.{Member}
+use Rattle.language.specs.Expression.{Expression, HoleFree, ExpressionOf, SubjectOf}
+use Rattle.language.specs.Membership.{Member, HoleFreeMember}
 use Rattle.language.proofs.ExpressionLaws.{expression-of}
 use Rattle.language.proofs.SubjectSubtreeLaws.{exactly-one-subtree}
+use Rattle.language.proofs.HoleFreeLaws.{subject-holeFree, holeFree-without}
 use Rattle.automaton.specs.Transition.{automatonOf}
 use Rattle.automaton.specs.Numbering.{compiled}
 use Rattle.automaton.specs.StateSet.{contains}
@@ -134,6 +138,11 @@ module _ (c : ThreeCalls) (h : AllAccepted c) where
       let tree = tree-accepted a (c .chapter) (run .marked .tree) in
       exactly-one-subtree a (compiles .few) (c .chapter) i (tree .nodes) (tree .shape) l
 
+  subtree-free : (i : ℕ) (l : i < length (c .chapter)) → HoleFree a (subtree i l .the)
+  subtree-free i l =
+      subject-holeFree a (compiles .few) (subtreeOf a (c .chapter) i) (subtree i l .the) (subtree i l .has) .0
+      (subtree-holes a (c .chapter) i (run .marked .free))
+
   holding-member : (i : ℕ) (l : i < length (c .chapter))
       → (contains (getD (nodeSets a T (c .chapter)) i []) (finalOf T) ≡ true) ↔ Member (compiles .expression .the) (subtree i l .the)
   holding-member i l =
@@ -148,8 +157,8 @@ module _ (c : ThreeCalls) (h : AllAccepted c) where
     subtrees = subtree;
     within = λ i x. omega (arith, length-nodeSets a T (c .chapter), names-holding i .0 x .0);
     names = λ i l. (
-      (λ x. holding-member i l .0 (names-holding i .0 x .1)),
-      (λ x. names-holding i .1 (omega (arith, length-nodeSets a T (c .chapter)), holding-member i l .1 x)),
+      (λ x. (subtree-free i l, holding-member i l .0 (names-holding i .0 x .1))),
+      (λ x. names-holding i .1 (omega (arith, length-nodeSets a T (c .chapter)), holding-member i l .1 (x .1))),
     );
   }
 
@@ -159,8 +168,17 @@ demand2 c h = named-members c h
 -- the same of any expression whose words the rule is
 pub demand2-of : (c : ThreeCalls) (h : AllAccepted c) (E : Expression) → ExpressionOf (c .alphabet) (c .rule) E
     → (i : ℕ) (l : i < length (c .chapter))
-    → List·Memᴰ i (namesOf c) ↔ Member E (demand2 c h .subtrees i l .the)
+    → List·Memᴰ i (namesOf c) ↔ HoleFreeMember (c .alphabet) E (demand2 c h .subtrees i l .the)
 demand2-of c h E x i l =
-    subst (λ (F : Expression). List·Memᴰ i (namesOf c) ↔ Member F (demand2 c h .subtrees i l .the))
+    subst (λ (F : Expression). List·Memᴰ i (namesOf c) ↔ HoleFreeMember (c .alphabet) F (demand2 c h .subtrees i l .the))
     (sym (demand2 c h .expression .only E x))
     (demand2 c h .names i l)
+
+-- and over an alphabet without holes its members, none left out
+pub demand2-without : (c : ThreeCalls) (h : AllAccepted c) (E : Expression) → ExpressionOf (c .alphabet) (c .rule) E
+    → hasHoles (c .alphabet) ≡ false
+    → (i : ℕ) (l : i < length (c .chapter))
+    → List·Memᴰ i (namesOf c) ↔ Member E (demand2 c h .subtrees i l .the)
+demand2-without c h E x e i l =
+    let m = demand2-of c h E x i l in
+    ((λ n. m .0 n .1), (λ n. m .1 (holeFree-without (c .alphabet) e (demand2 c h .subtrees i l .the), n)))

@@ -3,18 +3,19 @@
 use Prim.Native.Nat.{ℕ, _+_, _-_, _<_}
 use mathlib.Core.Path.{_≡_, refl, sym}
 use mathlib.Core.Logic.{_↔_}
-use mathlib.Core.Bool.{true}
+use mathlib.Core.Bool.{true, false}
 use mathlib.Core.List.{List, [], _∷_, _++_, flatten, flatMap, map, List·Memᴰ}
 use lib.ListN.{length, getD, replicate, set}
 use lib.Count.{ones, onesIn}
 use Rattle.words.specs.Word.{kindAt, spareBitsClear, isOf}
-use Rattle.words.specs.Alphabet.{isEntry, rankOf, isConstant, constantsFrom, constantsOf, noAlphabet, wrongConstants}
+use Rattle.words.specs.Alphabet.{marksHole, isEntry, rankOf, isConstant, isHole, hasHoles, mayName, constantsFrom, constantsOf}
+use Rattle.words.specs.Alphabet.{noAlphabet, wrongConstants}
 use Rattle.words.specs.Lists.{highest}
 use Rattle.words.specs.Shape.{treesBy, valueOnBy, valuesBy, stackAfterBy, heightOver, heightOfBy, startFromBy, isAncestorBy, spliceBy}
 use Rattle.words.specs.Shape.{stackGivenBy}
 use Rattle.words.specs.Postfix.{arity, notOneTree, spanOf}
 use Rattle.words.specs.ExpressionWords.{isExpressionWord, wrongLength, notExpressionWords}
-use Rattle.words.specs.Chapter.{symbolOf, isNode, notNodes, tooHigh}
+use Rattle.words.specs.Chapter.{symbolOf, isNode, notNodes, tooHigh, holesIn}
 use Rattle.words.specs.Tree.{Tree}
 use Rattle.words.specs.Answer.{Answer, refused, accepted, valueOr}
 use Rattle.language.specs.Expression.{Expression, empty, union, product, closure}
@@ -35,7 +36,7 @@ use Rattle.operations.specs.ExchangeCall.{exchangeCall}
 use Rattle.operations.specs.Exchange.{wrongUsedCount, noElement, noReplacement, resultTooLong, recomputedIn}
 use Rattle.operations.specs.Exchange.{propagate, rootSet, outcomesBehind, outcomesAfter, fault, newTree}
 use Rattle.operations.specs.Exchange.{outcomes, exchangeAnswer, exchangeChapter, exchangeMarks}
-use Rattle.operations.proofs.Demand2.{demand2, demand2-of}
+use Rattle.operations.proofs.Demand2.{demand2, demand2-without}
 
 -- nodes
 abbrev a : ℕ
@@ -196,17 +197,22 @@ rows =
     ∷ inSource marks 3 (d ∷ g ∷ g ∷ g ∷ g ∷ []) (refused 16) slice marks (2 ∷ 3 ∷ 4 ∷ [])
     ∷ []
 
+-- the source's alphabet has no hole, and c may be named
+no-hole : hasHoles alphabet ≡ false
+unfolding marksHole hasHoles
+no-hole = refl
+
+is-c : mayName alphabet 2 ≡ true
+unfolding rankOf isConstant marksHole isHole hasHoles mayName
+is-c = refl
+
 -- the empty rule, and its closure over c, are the words of these expressions
 names-empty : Names (0x3000_0000 ∷ []) (λ t. ⊥)
-names-empty q ea ee h i l = demand2-of q h empty (record { over = tt; words = sym ee }) i l
-
-is-c : isConstant alphabet 2 ≡ true
-unfolding isConstant rankOf
-is-c = refl
+names-empty q ea ee h i l = demand2-without q h empty (record { over = tt; words = sym ee }) (rw ea no-hole) i l
 
 names-closure : Names (0x3000_0000 ∷ 0x6000_0002 ∷ []) (λ t. t ≡ constant 2)
 names-closure q ea ee h i l =
-    let m = demand2-of q h (closure 2 empty) (record { over = (rw ea is-c, tt); words = sym ee }) i l in
+    let m = demand2-without q h (closure 2 empty) (record { over = (rw ea is-c, tt); words = sym ee }) (rw ea no-hole) i l in
     let k = closure-empty (demand2 q h .subtrees i l .the) in
     (λ x. k .0 (m .0 x), λ x. m .1 (k .1 x))
 
@@ -220,15 +226,16 @@ unfolding ones onesIn
 two-cells = refl
 
 pub examples : AllHold rows
-unfolding kindAt spareBitsClear isOf isEntry rankOf isConstant constantsFrom constantsOf noAlphabet wrongConstants arity treesBy
-    notOneTree isExpressionWord wrongLength notExpressionWords hasEntries statesOf portOf ownTransitions portsFrom statesAfter
+unfolding kindAt spareBitsClear isOf marksHole isEntry rankOf isConstant isHole hasHoles mayName constantsFrom constantsOf noAlphabet
+    wrongConstants arity treesBy notOneTree isExpressionWord wrongLength notExpressionWords hasEntries statesOf portOf ownTransitions
+    portsFrom statesAfter
     transitionsFrom compiled
     tooManyStates tableTooLong flatMap flatten isNode notNodes tableWordCount isHead isTableWord sourcesLeft areTransitions isTable noTable
     wrongCount marksTooShort transitionsAt
     automatonOf sizeFor contains insert allContained symbolPass epsilonPass epsilonClosure stateSet sizeOf finalOf nodeSet nodeSets valuesBy
     valueOnBy runMarks cellsIn runAnswer runExit storedSet startFromBy
     matchesIn matchesOf spliceBy isAncestorBy stackAfterBy stackGivenBy sameWords refit wrongUsedCount noElement noReplacement resultTooLong
-    recomputedIn propagate rootSet highest heightOver heightOfBy tooHigh
+    recomputedIn propagate rootSet highest heightOver heightOfBy tooHigh holesIn
     outcomesBehind outcomesAfter fault newTree outcomes exchangeAnswer exchangeChapter exchangeMarks
 examples = (
   record { compiles = refl; stateCount = refl; wordCount = refl; headIs = refl; runs = refl; hits = refl },

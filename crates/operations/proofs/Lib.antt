@@ -16,6 +16,7 @@ pub mod AnyTable
 pub mod Demand2
 pub mod TableSlices
 pub mod Heights
+pub mod Holes
 pub mod BehindLaws
 pub mod FromChildren
 pub mod OutcomeParts

@@ -12,6 +12,7 @@ use Rattle.words.specs.Postfix.{arity, spanOf, splice}
 use Rattle.words.proofs.TestLaws.{all-left, all-right, all-append}
 use Rattle.words.proofs.AcceptedTree.{AcceptedTree, tree-accepted, accepted-tree}
 use Rattle.words.proofs.PostfixLaws.{splice-tree}
+use Rattle.words.proofs.HoleLaws.{splice-holes}
 use Rattle.operations.proofs.AcceptedLaws.{RunAccepted, ExchangeAccepted}
 
 module _ (a table used : List ℕ) (chapterLength marksLength i : ℕ) (xs : List ℕ)
@@ -46,6 +47,7 @@ module _ (a table used : List ℕ) (chapterLength marksLength i : ℕ) (xs : Lis
       tree = accepted-tree a (splice a used i xs)
           (record { nodes = nodes; shape = splice-tree (arity a) used i (old .shape) (k .change .element) xs (new .shape) });
       low = k .change .low;
+      free = splice-holes a used i xs (k .marked .free) (k .change .free);
       marks = k .change .fits .marks;
     };
   }

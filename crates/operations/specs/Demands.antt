@@ -1,36 +1,39 @@
--- The claims: what the three demands, and document 02's U1 and U6, say of the four operations, over the definitions that their contracts
--- cite. Each is proved in the file of proofs/ that is named with it.
+-- The claims: what the three demands, and document 02's U1, U6 and U8, say of the four operations, over the definitions that their
+-- contracts cite. Each is proved in the file of proofs/ that is named with it.
 use Prim.Native.Nat.{ℕ, _+_, _-_, _*_, _<_, _≤_}
 use mathlib.Core.Path.{_≡_}
 use mathlib.Core.Logic.{_↔_}
-use mathlib.Core.Bool.{true, false, cond}
+use mathlib.Core.Bool.{Bool, true, false, not, cond, _&&_, _||_}
 use mathlib.Core.List.{List, [], _∷_, _++_, map, flatten, List·Memᴰ}
 use lib.ListN.{length, getD, take, drop}
-use lib.Dec.{ltb}
-use Rattle.words.specs.Lists.{count, listFrom}
-use Rattle.words.specs.Limits.{alphabetMost, compiledMost, heightMost}
-use Rattle.words.specs.Word.{lengthKind, hasKind}
-use Rattle.words.specs.Refusal.{Refusals, refusal, First, NoneHolds}
+use lib.Dec.{ltb, leb}
+use Rattle.words.specs.Lists.{all, count, listFrom}
+use Rattle.words.specs.Limits.{outside, alphabetMost, rankMost, compiledMost, heightMost}
+use Rattle.words.specs.Word.{entryKind, productKind, closureKind, lengthKind, hasKind, bodyOf, symbolRange, spareBitsClear, lowByte}
+use Rattle.words.specs.Alphabet.{entryRank, isConstant, isHole, hasHoles, mayName, noAlphabet, alphabetRefusals}
+use Rattle.words.specs.ExpressionWords.{isExpressionWord, wrongLength}
+use Rattle.words.specs.Refusal.{Refusals, refusal, without, First, NoneHolds}
 use Rattle.words.specs.ExactlyOne.{ExactlyOne}
 use Rattle.words.specs.Tree.{Tree, height}
 use Rattle.words.specs.Shape.{heightOver}
-use Rattle.words.specs.Postfix.{heightOf, spanOf, subtreeOf, splice, stackAfter, childrenOf, depthOf}
-use Rattle.words.specs.Chapter.{symbolOf, treeFault, tooHigh}
+use Rattle.words.specs.Postfix.{notOneTree, heightOf, spanOf, subtreeOf, splice, stackAfter, childrenOf, depthOf}
+use Rattle.words.specs.Chapter.{symbolOf, treeFault, tooHigh, holesIn}
 use Rattle.words.specs.Answer.{Answer, refused, accepted}
-use Rattle.language.specs.Expression.{ExpressionOf, SubjectOf}
+use Rattle.language.specs.Expression.{Expression, HoleFree, ExpressionOf, SubjectOf}
 use Rattle.language.specs.Reading.{expressionOf}
-use Rattle.language.specs.Membership.{Member}
+use Rattle.language.specs.Membership.{Member, HoleFreeMember}
 use Rattle.automaton.specs.Transition.{transitionsWords, headWord, lengthWord}
 use Rattle.automaton.specs.Numbering.{compiled}
 use Rattle.automaton.specs.Table.{isLength, tableWordCount, tableIn, noTable}
 use Rattle.automaton.specs.StateSet.{StateSet}
-use Rattle.operations.specs.Compile.{compiledTable, ruleRefusals, compileRefusals, compileAnswer, compileExit}
+use Rattle.operations.specs.Compile.{compiledTable, tooManyStates, tableTooLong, ruleRefusals, compileRefusals, compileFault}
+use Rattle.operations.specs.Compile.{compileAnswer, compileExit}
 use Rattle.operations.specs.Marks.{sizeOf, nodeSet, ReachedSet, nodeSets, storedSet}
-use Rattle.operations.specs.Run.{runRefusals, runAnswer, runExit, cellsIn}
+use Rattle.operations.specs.Run.{runRefusals, runFault, runAnswer, runExit, cellsIn}
 use Rattle.operations.specs.Listing.{listRefusals, listAnswer, listExit, matchesOf}
 use Rattle.operations.specs.ExchangeCall.{ExchangeCall, exchangeCall}
 use Rattle.operations.specs.Exchange.{kept, recomputed, recomputedIn, rootSet, used, refusalsOf, newTree, storedIn, outcomes}
-use Rattle.operations.specs.Exchange.{exchangeAnswer, exchangeChapter, exchangeMarks}
+use Rattle.operations.specs.Exchange.{exchangeRefusals, exchangeFault, exchangeAnswer, exchangeChapter, exchangeMarks}
 use Rattle.operations.specs.Recomputation.{outcomeOf, setAfter, startIn, behindIn, oldNumber, newNumber, recomputes}
 use Rattle.operations.specs.History.{Call, Memory, exchanges, plains}
 
@@ -114,8 +117,10 @@ pub record Named (c : ThreeCalls) : Type 0 where
   pub subtrees : (i : ℕ) → i < length (c .chapter) → ExactlyOne (SubjectOf (c .alphabet) (subtreeOf (c .alphabet) (c .chapter) i))
   -- every number that List writes is an element's
   pub within : (i : ℕ) → List·Memᴰ i (namesOf c) → i < length (c .chapter)
-  -- "names an element if and only if its subtree belongs to the rule's language"
-  pub names : (i : ℕ) (l : i < length (c .chapter)) → List·Memᴰ i (namesOf c) ↔ Member (expression .the) (subtrees i l .the)
+  -- "names an element if and only if its subtree belongs to the rule's language", of which document 02's U8 leaves "its hole-free
+  -- members"
+  pub names : (i : ℕ) (l : i < length (c .chapter))
+      → List·Memᴰ i (namesOf c) ↔ HoleFreeMember (c .alphabet) (expression .the) (subtrees i l .the)
 
 abbrev pub Demand2 : Type 0
 Demand2 = (c : ThreeCalls) → AllAccepted c → Named c
@@ -267,3 +272,58 @@ pub record Heights : Type 0 where
       → runAnswer alphabet table chapter marks ≡ accepted (elements ∷ cells ∷ []) → heightOf alphabet chapter ≤ heightMost
   pub exchange : (c : ExchangeCall) (elements workedOut : ℕ) → exchangeAnswer c ≡ accepted (elements ∷ workedOut ∷ [])
       → (heightOf (c .alphabet) (used c) ≤ heightMost) × (heightOf (c .alphabet) (newTree c) ≤ heightMost)
+
+-- ---- Holes (document 02, U8; Holes): "Bit 8 of a constant's alphabet word now marks a hole".
+
+-- the tree whose words these are is hole-free; accepted words are those of exactly one tree
+abbrev pub HoleFreeWords : List ℕ → List ℕ → Type 0
+HoleFreeWords alphabet words = (t : Tree) → SubjectOf alphabet words t → HoleFree alphabet t
+
+-- document 01's alphabet entries, in which no bit above the rank is named, and its 1
+abbrev pub isPlainEntry : ℕ → Bool
+isPlainEntry w = hasKind entryKind w && ltb (bodyOf w) symbolRange && leb (entryRank w) rankMost
+
+abbrev pub noPlainAlphabet : List ℕ → Bool
+noPlainAlphabet alphabet = outside alphabetMost (length alphabet) || not (all isPlainEntry alphabet)
+
+-- document 01's rule words: the c of a product or a closure is any constant; and its list for Compile
+abbrev pub isPlainWord : List ℕ → ℕ → Bool
+isPlainWord alphabet w =
+    cond (hasKind productKind w || hasKind closureKind w) (spareBitsClear w && isConstant alphabet (lowByte w))
+    (isExpressionWord alphabet w)
+
+abbrev pub plainCompileRefusals : List ℕ → List ℕ → ℕ → Refusals
+plainCompileRefusals alphabet rule tableLength =
+    alphabetRefusals alphabet
+    ++ ((3, wrongLength rule) ∷ (4, not (all (isPlainWord alphabet) rule)) ∷ (5, notOneTree alphabet rule)
+    ∷ (6, tooManyStates alphabet rule) ∷ (7, tableTooLong alphabet rule tableLength) ∷ [])
+
+pub record Holes : Type 0 where
+  -- "with rank above 0 it is refused as 1": otherwise a hole is a constant
+  pub constant : (alphabet : List ℕ) (s : ℕ) → noAlphabet alphabet ≡ false → isHole alphabet s ≡ true → isConstant alphabet s ≡ true
+  -- "Once an alphabet has a hole, only holes may be named in a product or closure"
+  pub named : (alphabet : List ℕ) (c : ℕ) → noAlphabet alphabet ≡ false → hasHoles alphabet ≡ true → mayName alphabet c ≡ isHole alphabet c
+  -- 26's condition: the tree whose words the chapter has is not hole-free
+  pub judged : (alphabet chapter : List ℕ) (t : Tree) → length alphabet ≤ alphabetMost → SubjectOf alphabet chapter t
+      → (holesIn alphabet chapter ≡ false) ↔ HoleFree alphabet t
+  -- "Chapters and replacements must then hold none": where a call is accepted
+  pub run : (alphabet table chapter marks : List ℕ) (elements cells : ℕ)
+      → runAnswer alphabet table chapter marks ≡ accepted (elements ∷ cells ∷ []) → HoleFreeWords alphabet chapter
+  pub exchange : (c : ExchangeCall) (elements workedOut : ℕ) → exchangeAnswer c ≡ accepted (elements ∷ workedOut ∷ [])
+      → HoleFreeWords (c .alphabet) (used c) × HoleFreeWords (c .alphabet) (c .replacement) × HoleFreeWords (c .alphabet) (newTree c)
+  -- "Without holes all reads as before": document 01's alphabets are those without a hole that 1 lets pass
+  pub alphabets : (alphabet : List ℕ) → noPlainAlphabet alphabet ≡ noAlphabet alphabet || hasHoles alphabet
+  -- over one of them Compile refuses what it refused, any constant may be named, every tree is hole-free, and of a rule's language no
+  -- member is left out
+  pub rules : (alphabet rule : List ℕ) (tableLength : ℕ) → hasHoles alphabet ≡ false
+      → compileFault alphabet rule tableLength ≡ refusal (plainCompileRefusals alphabet rule tableLength)
+  pub constants : (alphabet : List ℕ) (c : ℕ) → hasHoles alphabet ≡ false → mayName alphabet c ≡ isConstant alphabet c
+  pub trees : (alphabet : List ℕ) (t : Tree) → hasHoles alphabet ≡ false → HoleFree alphabet t
+  pub members : (alphabet : List ℕ) (E : Expression) (t : Tree) → hasHoles alphabet ≡ false → HoleFreeMember alphabet E t ↔ Member E t
+  -- and 26, which the lists of Run and Exchange have beside document 01's numbers and U6's, refuses nothing: it can be left out
+  pub runs : (alphabet table chapter : List ℕ) (marksLength : ℕ) → hasHoles alphabet ≡ false
+      → runFault alphabet table chapter marksLength ≡ refusal (without 26 (runRefusals alphabet table chapter marksLength))
+  pub exchanges : (alphabet table : List ℕ) (n : ℕ) (elements : List ℕ) (chapterLength marksLength i : ℕ) (replacement : List ℕ)
+      → hasHoles alphabet ≡ false
+      → exchangeFault alphabet table n elements chapterLength marksLength i replacement
+      ≡ refusal (without 26 (exchangeRefusals alphabet table n elements chapterLength marksLength i replacement))

@@ -8,7 +8,7 @@ use lib.Dec.{ltb}
 use Rattle.words.specs.Lists.{listFrom}
 use Rattle.words.specs.Limits.{nodesMost}
 use Rattle.words.specs.Refusal.{Refusals, refusal, someHolds}
-use Rattle.words.specs.Chapter.{treeRefusals, tooHigh}
+use Rattle.words.specs.Chapter.{treeRefusals, tooHigh, holesIn}
 use Rattle.words.specs.Postfix.{arity, spanOf, isAncestor, splice, valueOn, stackAfter, stackGiven}
 use Rattle.words.specs.Answer.{Answer, answerOf, exitOf}
 use Rattle.automaton.specs.StateSet.{StateSet}
@@ -32,10 +32,11 @@ noReplacement a xs = wrongCount (length xs) || someHolds (treeRefusals a xs)
 unfoldable pub resultTooLong : List ℕ → ℕ → ℕ → ℕ → Bool
 resultTooLong table n chapterLength marksLength = ltb nodesMost n || ltb chapterLength n || marksTooShort table n marksLength
 
--- of a change in n used elements; "24 .. after 16 for the result" (document 02, U6)
+-- of a change in n used elements; "24 .. after 16 for the result" (document 02, U6); "26 a hole .. in a replacement, directly after
+-- 15" (U8)
 abbrev pub changeRefusals : List ℕ → List ℕ → ℕ → List ℕ → ℕ → ℕ → ℕ → List ℕ → Refusals
 changeRefusals a table n used chapterLength marksLength i xs =
-    (14, noElement n i) ∷ (15, noReplacement a xs)
+    (14, noElement n i) ∷ (15, noReplacement a xs) ∷ (26, holesIn a xs)
     ∷ (16, resultTooLong table (length (splice a used i xs)) chapterLength marksLength)
     ∷ (24, tooHigh a (splice a used i xs)) ∷ []
 

@@ -9,7 +9,7 @@ use lib.Count.{ones}
 use Rattle.words.specs.Limits.{outside, nodesMost}
 use Rattle.words.specs.Refusal.{Refusals, refusal}
 use Rattle.words.specs.Alphabet.{alphabetRefusals}
-use Rattle.words.specs.Chapter.{treeRefusals, tooHigh}
+use Rattle.words.specs.Chapter.{treeRefusals, tooHigh, holesIn}
 use Rattle.words.specs.Answer.{Answer, answerOf, exitOf}
 use Rattle.automaton.specs.Table.{noTable}
 use Rattle.operations.specs.Marks.{sizeOf, nodeSets}
@@ -28,8 +28,12 @@ tableRefusals a table = alphabetRefusals a ++ ((8, noTable a table) ∷ [])
 
 -- of a chapter's elements, behind their count: Run, Exchange and `marklist` have them; "24 too high: in Run after 11; in Exchange
 -- after 11 for the old" (document 02, U6)
+abbrev pub heightRefusals : List ℕ → List ℕ → Refusals
+heightRefusals a ch = treeRefusals a ch ++ ((24, tooHigh a ch) ∷ [])
+
+-- "26 a hole in a chapter, after 11 and U6's 24" (document 02, U8)
 abbrev pub elementRefusals : List ℕ → List ℕ → Refusals
-elementRefusals a ch = treeRefusals a ch ++ ((24, tooHigh a ch) ∷ [])
+elementRefusals a ch = heightRefusals a ch ++ ((26, holesIn a ch) ∷ [])
 
 -- of n elements and a marks slice of that length: Run and Exchange have them
 abbrev pub markedRefusals : List ℕ → List ℕ → ℕ → List ℕ → ℕ → Refusals

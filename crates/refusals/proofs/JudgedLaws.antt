@@ -12,61 +12,96 @@ use Rattle.words.specs.Limits.{nodesMost, heightMost}
 use Rattle.words.specs.Refusal.{refusal}
 use Rattle.words.specs.Shape.{spliceBy}
 use Rattle.words.specs.Postfix.{arity, heightOf, splice}
-use Rattle.words.specs.Chapter.{treeRefusals, tooHigh}
+use Rattle.words.specs.Chapter.{treeRefusals, tooHigh, holesIn}
 use Rattle.words.proofs.RefusalLaws.{Found, none, here, next, found-refusal, refuses, passes}
 use Rattle.words.proofs.AcceptedTree.{tree-accepted}
 use Rattle.words.proofs.PostfixLaws.{start-le, length-splice}
 use Rattle.words.proofs.ScanLaws.{drop-part}
 use Rattle.words.proofs.HeightLaws.{height-few, splice-height-most, splice-height-kept}
-use Rattle.syntax.specs.declared.shape.Shape.{Shape}
-use Rattle.syntax.specs.TreeShape.{ShapeOf}
-use Rattle.operations.specs.Run.{marksTooShort, elementRefusals, markedRefusals}
+use Rattle.bounds.specs.declared.shape.Shape.{Shape}
+use Rattle.bounds.specs.TreeShape.{ShapeOf}
+use Rattle.operations.specs.Run.{marksTooShort, heightRefusals, elementRefusals, markedRefusals}
 use Rattle.refusals.specs.declared.exchange.JudgedCall.{JudgedCall}
 use Rattle.refusals.specs.Judged.{JudgedShape, JudgedChange, Spliceable}
 
-abbrev made : ℕ → ℕ → Shape
-made f b = record { fault = f; bound = b }
+abbrev made : ℕ → ℕ → Bool → Shape
+made f b h = record { fault = f; bound = b; holes = h }
 
 -- ---- 10, 11 and 24
 
 module _ {a ch : List ℕ} {s : Shape} (g : ShapeOf a ch s) where
-  pub shape-refused : (s .fault ≡ 0 → ⊥) → JudgedShape (refusal (elementRefusals a ch)) a ch s
+  pub shape-refused : (s .fault ≡ 0 → ⊥) → JudgedShape (refusal (heightRefusals a ch)) a ch s
   shape-refused h = record {
-    fault = found-refusal (elementRefusals a ch) (refuses (treeRefusals a ch) ((24, tooHigh a ch) ∷ []) (g .fault) h);
+    fault = found-refusal (heightRefusals a ch) (refuses (treeRefusals a ch) ((24, tooHigh a ch) ∷ []) (g .fault) h);
     low = λ e. absurd (h e);
     most = λ e. absurd (h e);
+    holes = g .holes;
   }
 
   module _ (e : s .fault ≡ 0) where
-    judged : {f : ℕ} → Found ((24, tooHigh a ch) ∷ []) f → f ≡ refusal (elementRefusals a ch)
-    judged r = found-refusal (elementRefusals a ch) (passes (treeRefusals a ch) refl (g .fault) e r)
+    judged : {f : ℕ} → Found ((24, tooHigh a ch) ∷ []) f → f ≡ refusal (heightRefusals a ch)
+    judged r = found-refusal (heightRefusals a ch) (passes (treeRefusals a ch) refl (g .fault) e r)
 
     -- the bound tells that the chapter is low
-    pub shape-low : s .bound ≤ heightMost → JudgedShape (refusal (elementRefusals a ch)) a ch s
+    pub shape-low : s .bound ≤ heightMost → JudgedShape (refusal (heightRefusals a ch)) a ch s
     unfolding tooHigh
     shape-low h = record {
       fault = e ∙ judged (next (le-ltb heightMost (heightOf a ch) (omega (arith, g .low e))) none);
       low = g .low;
       most = λ z. h;
+      holes = g .holes;
     }
 
     -- or the height does
     module _ {high : ℕ} (k : high ≡ heightOf a ch) where
-      pub height-refused : heightMost < high → JudgedShape (refusal (elementRefusals a ch)) a ch (made 24 high)
+      pub height-refused : heightMost < high → JudgedShape (refusal (heightRefusals a ch)) a ch (made 24 high (s .holes))
       unfolding tooHigh
       height-refused h = record {
         fault = judged (here (lt-ltb heightMost (heightOf a ch) (omega (arith, k))));
         low = λ z. omega (arith, k);
         most = λ z. absurd (omega arith);
+        holes = g .holes;
       }
 
-      pub height-low : high ≤ heightMost → JudgedShape (refusal (elementRefusals a ch)) a ch (made 0 high)
+      pub height-low : high ≤ heightMost → JudgedShape (refusal (heightRefusals a ch)) a ch (made 0 high (s .holes))
       unfolding tooHigh
       height-low h = record {
         fault = judged (next (le-ltb heightMost (heightOf a ch) (omega (arith, k))) none);
         low = λ z. omega (arith, k);
         most = λ z. h;
+        holes = g .holes;
       }
+
+-- ---- 26 behind them
+
+module _ {a ch : List ℕ} {s : Shape} (g : JudgedShape (refusal (heightRefusals a ch)) a ch s) where
+  pub height-refuses : (s .fault ≡ 0 → ⊥) → JudgedShape (refusal (elementRefusals a ch)) a ch s
+  height-refuses h = record {
+    fault = found-refusal (elementRefusals a ch) (refuses (heightRefusals a ch) ((26, holesIn a ch) ∷ []) (g .fault) h);
+    low = g .low;
+    most = g .most;
+    holes = g .holes;
+  }
+
+  module _ (e : s .fault ≡ 0) where
+    judged-holes : {f : ℕ} → Found ((26, holesIn a ch) ∷ []) f → f ≡ refusal (elementRefusals a ch)
+    judged-holes r = found-refusal (elementRefusals a ch) (passes (heightRefusals a ch) refl (g .fault) e r)
+
+    pub holes-refused : s .holes ≡ true → JudgedShape (refusal (elementRefusals a ch)) a ch (made 26 (s .bound) true)
+    holes-refused h = record {
+      fault = judged-holes (here (sym (g .holes) ∙ h));
+      low = λ z. g .low e;
+      most = λ z. g .most e;
+      holes = sym h ∙ g .holes;
+    }
+
+    pub holes-none : s .holes ≡ false → JudgedShape (refusal (elementRefusals a ch)) a ch s
+    holes-none h = record {
+      fault = e ∙ judged-holes (next (sym (g .holes) ∙ h) none);
+      low = g .low;
+      most = g .most;
+      holes = g .holes;
+    }
 
 -- ---- 12 behind them
 
@@ -78,21 +113,28 @@ module _ {a ch : List ℕ} {s : Shape} (g : JudgedShape (refusal (elementRefusal
         (refuses (elementRefusals a ch) ((12, marksTooShort table n marksLength) ∷ []) (g .fault) h);
     low = g .low;
     most = g .most;
+    holes = g .holes;
   }
 
   module _ (e : s .fault ≡ 0) {b : Bool} (k : b ≡ marksTooShort table n marksLength) where
     judged-marks : {f : ℕ} → Found ((12, marksTooShort table n marksLength) ∷ []) f → f ≡ refusal (markedRefusals a table n ch marksLength)
     judged-marks r = found-refusal (markedRefusals a table n ch marksLength) (passes (elementRefusals a ch) refl (g .fault) e r)
 
-    pub marks-refused : b ≡ true → JudgedShape (refusal (markedRefusals a table n ch marksLength)) a ch (made 12 (s .bound))
+    pub marks-refused : b ≡ true → JudgedShape (refusal (markedRefusals a table n ch marksLength)) a ch (made 12 (s .bound) (s .holes))
     marks-refused h = record {
       fault = judged-marks (here (sym k ∙ h));
       low = λ z. g .low e;
       most = λ z. g .most e;
+      holes = g .holes;
     }
 
     pub marks-enough : b ≡ false → JudgedShape (refusal (markedRefusals a table n ch marksLength)) a ch s
-    marks-enough h = record { fault = e ∙ judged-marks (next (sym k ∙ h) none); low = g .low; most = g .most }
+    marks-enough h = record {
+      fault = e ∙ judged-marks (next (sym k ∙ h) none);
+      low = g .low;
+      most = g .most;
+      holes = g .holes;
+    }
 
 -- ---- a refused change
 

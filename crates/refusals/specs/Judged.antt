@@ -5,15 +5,16 @@ use mathlib.Core.List.{List}
 use lib.ListN.{length}
 use Rattle.words.specs.Limits.{nodesMost, heightMost}
 use Rattle.words.specs.Postfix.{heightOf, spanOf, splice}
-use Rattle.words.specs.Chapter.{treeFault}
-use Rattle.syntax.specs.declared.shape.Shape.{Shape}
+use Rattle.words.specs.Chapter.{treeFault, holesIn}
+use Rattle.bounds.specs.declared.shape.Shape.{Shape}
 use Rattle.refusals.specs.declared.exchange.JudgedCall.{JudgedCall}
 
--- the number of a refusal, or 0, and then a height that the chapter does not exceed
+-- the number of a refusal, or 0, and then a height that the chapter does not exceed; and whether it has a hole
 pub record JudgedShape (number : ℕ) (a ch : List ℕ) (s : Shape) : Type 0 where
   pub fault : s .fault ≡ number
   pub low : s .fault ≡ 0 → heightOf a ch ≤ s .bound
   pub most : s .fault ≡ 0 → s .bound ≤ heightMost
+  pub holes : s .holes ≡ holesIn a ch
 
 -- the number of a refusal, or 0, and then where the element's subtree begins
 pub record JudgedChange (number : ℕ) (a used : List ℕ) (i : ℕ) (j : JudgedCall) : Type 0 where

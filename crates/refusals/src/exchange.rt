@@ -10,6 +10,7 @@ use super::shared::marked_shape;
 use super::shared::marks_too_short;
 use super::shared::table_fault;
 use super::shared::wrong_count;
+use syntax::chapter::holes_in;
 use syntax::chapter::tree_fault;
 use syntax::height::joined_height;
 use syntax::postfix::subtree_span;
@@ -93,8 +94,8 @@ fn result_too_high(
     height > HEIGHT_MOST
 }
 
-// Of the element and the replacement: 14, 15, 16 or 24, the first that applies, or 0, for a chapter that is at most `bound` high. For
-// 16 the result's length is known: what stands before the element's subtree, the replacement, and what stands behind.
+// Of the element and the replacement: 14, 15, 26, 16 or 24, the first that applies, or 0, for a chapter that is at most `bound` high.
+// For 16 the result's length is known: what stands before the element's subtree, the replacement, and what stands behind.
 fn change_fault(
     alphabet: &[u32],
     table: &[u32],
@@ -119,6 +120,9 @@ fn change_fault(
     }
     if no_replacement(alphabet, replacement) {
         return refused(15);
+    }
+    if holes_in(alphabet, replacement) {
+        return refused(26);
     }
     let span = subtree_span(alphabet, used, element);
     let start = span.start;

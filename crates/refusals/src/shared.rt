@@ -4,12 +4,12 @@ ghost use Prim.Native.Nat.{_≤_};
 ghost use lib.ListN.{length};
 ghost use Rattle.words.specs.Limits.{nodesMost};
 ghost use Rattle.words.specs.Refusal.{refusal};
-ghost use Rattle.operations.specs.Run.{wrongCount, marksTooShort, tableRefusals, elementRefusals, markedRefusals};
+ghost use Rattle.operations.specs.Run.{wrongCount, marksTooShort, tableRefusals, heightRefusals, elementRefusals, markedRefusals};
 ghost use Rattle.refusals.specs.Judged.{JudgedShape};
 use alphabet::alphabet_fault;
+use bounds::shape::Shape;
+use bounds::shape::tree_shape;
 use syntax::height::words_height;
-use syntax::shape::Shape;
-use syntax::shape::tree_shape;
 use tables::check::is_table;
 use tables::head::set_size;
 use words::limits::HEIGHT_MOST;
@@ -47,10 +47,10 @@ pub(crate) fn marks_too_short(table: &[u32], count: usize, marks_length: usize) 
 
 // Of a chapter's elements: 10, 11 or 24, the first that applies, or 0. Heights are worked out only where the words' shape does not
 // tell that the chapter is low enough.
-fn element_shape(alphabet: &[u32], nodes: &[u32]) -> Shape
+fn height_shape(alphabet: &[u32], nodes: &[u32]) -> Shape
     requires { ⌜ length (now nodes) ≤ nodesMost ⌝ }
     ensures { λ r. ⌜
-        JudgedShape (refusal (elementRefusals (now (alphabet .entry)) (now (nodes .entry)))) (now (alphabet .entry)) (now (nodes .entry)) r
+        JudgedShape (refusal (heightRefusals (now (alphabet .entry)) (now (nodes .entry)))) (now (alphabet .entry)) (now (nodes .entry)) r
         ⌝ }
 {
     let shape = tree_shape(alphabet, nodes);
@@ -65,15 +65,38 @@ fn element_shape(alphabet: &[u32], nodes: &[u32]) -> Shape
         return Shape {
             fault: 24,
             bound: height,
+            holes: shape.holes,
         };
     }
     Shape {
         fault: 0,
         bound: height,
+        holes: shape.holes,
     }
 }
 
-// Of a chapter's elements and a marks slice of this length: 10, 11, 24 or 12, the first that applies, or 0.
+// Of a chapter's elements: 10, 11, 24 or 26, the first that applies, or 0.
+fn element_shape(alphabet: &[u32], nodes: &[u32]) -> Shape
+    requires { ⌜ length (now nodes) ≤ nodesMost ⌝ }
+    ensures { λ r. ⌜
+        JudgedShape (refusal (elementRefusals (now (alphabet .entry)) (now (nodes .entry)))) (now (alphabet .entry)) (now (nodes .entry)) r
+        ⌝ }
+{
+    let shape = height_shape(alphabet, nodes);
+    if shape.fault != 0 {
+        return shape;
+    }
+    if shape.holes {
+        return Shape {
+            fault: 26,
+            bound: shape.bound,
+            holes: true,
+        };
+    }
+    shape
+}
+
+// Of a chapter's elements and a marks slice of this length: 10, 11, 24, 26 or 12, the first that applies, or 0.
 pub(crate) fn marked_shape(
     alphabet: &[u32],
     table: &[u32],
@@ -96,6 +119,7 @@ pub(crate) fn marked_shape(
         return Shape {
             fault: 12,
             bound: shape.bound,
+            holes: shape.holes,
         };
     }
     shape

@@ -1,5 +1,5 @@
 -- `marklist` never says 24: a chapter of at most 256 elements is not too high, and of more it says 9 first (document 02, U6).
-use mathlib.Core.Path.{_≡_, refl}
+use mathlib.Core.Path.{_≡_, refl, sym, _∙_}
 use mathlib.Core.Bool.{true, false}
 use mathlib.Core.List.{List, [], _∷_, _++_}
 use Prim.Native.Nat.{ℕ, _≤_}
@@ -7,12 +7,12 @@ use native.Mathlib.Omega.{arith}
 use lib.ListN.{length}
 use borrow.Author.Tests.{le-ltb}
 use Rattle.words.specs.Limits.{heightMost}
-use Rattle.words.specs.Refusal.{Refusals}
+use Rattle.words.specs.Refusal.{refusal, without}
 use Rattle.words.specs.Postfix.{arity, heightOf}
-use Rattle.words.specs.Chapter.{treeRefusals, tooHigh}
-use Rattle.words.proofs.TestLaws.{Tested, holds, fails, tested, false-or}
+use Rattle.words.specs.Chapter.{tooHigh}
+use Rattle.words.proofs.TestLaws.{Tested, holds, fails, tested}
 use Rattle.words.proofs.LimitLaws.{not-outside}
-use Rattle.words.proofs.RefusalLaws.{found-refusal, refusal-found, none-behind, refusal-most, holds-ends}
+use Rattle.words.proofs.RefusalLaws.{found-refusal, refusal-most, holds-ends, without-never}
 use Rattle.words.proofs.HeightLaws.{height-few}
 use Rattle.operations.specs.Compile.{ruleRefusals}
 use Rattle.operations.specs.Run.{elementRefusals}
@@ -22,10 +22,6 @@ module _ (a e ch : List ℕ) where
   few-low : length ch ≤ chapterMost → tooHigh a ch ≡ false
   unfolding tooHigh
   few-low h = le-ltb heightMost (heightOf a ch) (omega (arith, height-few (arity a) ch))
-
-  -- the refusals without it
-  abbrev others : Refusals
-  others = ruleRefusals a e ++ ((9, wrongChapter ch) ∷ treeRefusals a ch)
 
   pub marklist-never-24 : marklistFault a e ch ≡ 24 → ⊥
   unfolding wrongChapter
@@ -37,7 +33,5 @@ module _ (a e ch : List ℕ) where
           omega (arith, h, q, refusal-most 9 (ruleRefusals a e ++ ((9, true) ∷ [])) refl)
       go (fails w) =
           let low = few-low (not-outside chapterMost (length ch) w .few) in
-          let q =
-          found-refusal (marklistRefusals a e ch)
-          (none-behind (refusal-found others refl) ((24, tooHigh a ch) ∷ []) (false-or (tooHigh a ch) false low refl)) in
-          omega (arith, h, q, refusal-most 11 others refl)
+          let q : marklistFault a e ch ≡ refusal (without 24 (marklistRefusals a e ch)) = rw low in
+          without-never 24 (marklistRefusals a e ch) (omega arith) (sym q ∙ h)

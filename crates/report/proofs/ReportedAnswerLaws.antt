@@ -123,7 +123,7 @@ module _ (a e : List ℕ) where
           asked = runRefusals a (compiledTable a e) ch marksLength
 
           go : {f : ℕ} → Found (chapterRefusals a ch) f → Found (behindNumber 8 asked) f
-          go r = found-alike same-count (none-behind r (behindNumber 24 asked) (false-or _ false marks-enough refl))
+          go r = found-alike same-count (none-behind r (behindNumber 26 asked) (false-or _ false marks-enough refl))
 
       -- a refused Run: its number is printed
       pub run-refusal : (marks : List ℕ) (n : ℕ) → length marks ≡ marksLength → refused n ≡ runAnswer a (compiledTable a e) ch marks

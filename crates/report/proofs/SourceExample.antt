@@ -5,9 +5,10 @@ use mathlib.Core.Path.{_≡_, refl, ap, _∙_, sym}
 use mathlib.Core.List.{List, [], _∷_, _++_, map, flatMap}
 use lib.ListN.{replicate}
 use Rattle.words.specs.Word.{kindAt, spareBitsClear, isOf}
-use Rattle.words.specs.Alphabet.{isEntry, rankOf, isConstant, constantsFrom, constantsOf, noAlphabet, wrongConstants}
+use Rattle.words.specs.Alphabet.{marksHole, isEntry, rankOf, isConstant, isHole, hasHoles, mayName, constantsFrom, constantsOf}
+use Rattle.words.specs.Alphabet.{noAlphabet, wrongConstants}
 use Rattle.words.specs.ExpressionWords.{isExpressionWord, wrongLength, notExpressionWords}
-use Rattle.words.specs.Chapter.{isNode, notNodes, tooHigh}
+use Rattle.words.specs.Chapter.{isNode, notNodes, tooHigh, holesIn}
 use Rattle.words.specs.Lists.{highest}
 use Rattle.words.specs.Shape.{treesBy, valueOnBy, stackAfterBy, heightOver, heightOfBy, startFromBy}
 use Rattle.words.specs.Postfix.{arity, notOneTree}
@@ -81,10 +82,10 @@ hits-are =
 
 no-fault : marklistFault alphabet rule chapter ≡ 0
 unfolding
-    kindAt spareBitsClear isOf isEntry rankOf isConstant constantsFrom constantsOf noAlphabet wrongConstants isExpressionWord wrongLength
-    notExpressionWords isNode notNodes arity treesBy notOneTree hasEntries statesOf portOf ownTransitions portsFrom statesAfter
-    transitionsFrom compiled
-    valueOnBy stackAfterBy heightOver highest heightOfBy tooHigh tooManyStates wrongChapter
+    kindAt spareBitsClear isOf marksHole isEntry rankOf isConstant isHole hasHoles mayName constantsFrom constantsOf noAlphabet
+    wrongConstants isExpressionWord wrongLength notExpressionWords isNode notNodes arity treesBy notOneTree hasEntries statesOf portOf
+    ownTransitions portsFrom statesAfter transitionsFrom compiled
+    valueOnBy stackAfterBy heightOver highest heightOfBy tooHigh holesIn tooManyStates wrongChapter
 no-fault = refl
 
 words-are : wordsIn exampleInput ≡ 7 ∷ 9 ∷ 7 ∷ (alphabet ++ (rule ++ (chapter ++ [])))

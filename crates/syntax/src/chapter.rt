@@ -1,8 +1,10 @@
-// The words of a chapter, and refusals 10 and 11.
+// The words of a chapter, refusals 10 and 11, and whether a hole is among them.
 ghost use mathlib.Core.Path.{_≡_};
 ghost use Rattle.words.specs.Lists.{all};
 ghost use Rattle.words.specs.Word.{nodeKind, isOf};
-ghost use Rattle.words.specs.Chapter.{isNode, treeFault};
+ghost use Rattle.words.specs.Chapter.{isNode, treeFault, holesIn};
+use alphabet::has_holes;
+use alphabet::is_hole;
 use alphabet::node_arity;
 use words::word::Kind;
 use words::word::SYMBOL_RANGE;
@@ -10,7 +12,7 @@ use words::word::kind_of;
 use words::word::spare_bits_clear;
 
 // Whether a word is of the chapter's kind, its spare bits clear.
-pub(crate) fn is_element(w: u32) -> bool
+pub fn is_element(w: u32) -> bool
     ensures { λ r. ⌜ r ≡ isOf nodeKind w ⌝ }
 {
     let kind = kind_of(w);
@@ -68,4 +70,21 @@ pub fn tree_fault(alphabet: &[u32], words: &[u32]) -> u32
         return 0;
     }
     11
+}
+
+// Whether some word's symbol is a hole. Where the alphabet has none, no word is looked at.
+pub fn holes_in(alphabet: &[u32], words: &[u32]) -> bool
+    ensures { λ r. ⌜ r ≡ holesIn (now (alphabet .entry)) (now (words .entry)) ⌝ }
+{
+    if !has_holes(alphabet) {
+        return false;
+    }
+    let mut place = 0;
+    while place < words.len() {
+        if is_hole(alphabet, (words[place] % SYMBOL_RANGE) as usize) {
+            return true;
+        }
+        place += 1;
+    }
+    false
 }

@@ -3,7 +3,7 @@ ghost use mathlib.Core.Path.{_≡_};
 ghost use Rattle.words.specs.Lists.{all};
 ghost use Rattle.words.specs.ExpressionWords.{isExpressionWord, expressionFault};
 use super::postfix::one_tree;
-use alphabet::is_constant;
+use alphabet::may_name;
 use words::limits::EXPRESSION_MOST;
 use words::limits::is_outside;
 use words::word::Kind;
@@ -11,7 +11,7 @@ use words::word::SYMBOL_RANGE;
 use words::word::kind_of;
 use words::word::spare_bits_clear;
 
-// Whether a word is a rule word with a known symbol or a constant where it names one.
+// Whether a word is a rule word with a known symbol, or a constant that may be named, where it names one.
 fn is_expression_word(alphabet: &[u32], w: u32) -> bool
     ensures { λ r. ⌜ r ≡ isExpressionWord (now (alphabet .entry)) w ⌝ }
 {
@@ -24,8 +24,8 @@ fn is_expression_word(alphabet: &[u32], w: u32) -> bool
         Kind::Symbol => symbol < alphabet.len(),
         Kind::Empty => true,
         Kind::Union => true,
-        Kind::Product => is_constant(alphabet, symbol),
-        Kind::Closure => is_constant(alphabet, symbol),
+        Kind::Product => may_name(alphabet, symbol),
+        Kind::Closure => may_name(alphabet, symbol),
         _ => false,
     }
 }

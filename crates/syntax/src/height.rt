@@ -12,7 +12,7 @@ use alphabet::arity;
 use words::limits::NODES_MOST;
 
 // The higher of two heights.
-pub(crate) fn higher(left: u32, right: u32) -> u32
+pub fn higher(left: u32, right: u32) -> u32
     ensures { λ r. ⌜ r ≡ max left right ⌝ }
 {
     if left < right {
@@ -22,7 +22,7 @@ pub(crate) fn higher(left: u32, right: u32) -> u32
 }
 
 // The highest of the heights; 0 if there are none.
-pub(crate) fn highest_of(heights: &[u32]) -> u32
+pub fn highest_of(heights: &[u32]) -> u32
     ensures { λ r. ⌜ r ≡ highest (now (heights .entry)) ⌝ }
 {
     let mut high = 0;

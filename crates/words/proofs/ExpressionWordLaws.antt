@@ -7,7 +7,7 @@ use lib.ListN.{length}
 use borrow.Author.Tests.{ltb-true}
 use Rattle.words.specs.Word.{Kind, entryKind, symbolKind, emptyKind, unionKind, productKind, closureKind, nodeKind}
 use Rattle.words.specs.Word.{headKind, transitionKind, epsilonKind, sourceKind, lengthKind, noKind, kindOf, spareBitsClear, lowByte}
-use Rattle.words.specs.Alphabet.{rankOf, isConstant}
+use Rattle.words.specs.Alphabet.{rankOf, mayName}
 use Rattle.words.specs.Postfix.{arity}
 use Rattle.words.specs.ExpressionWords.{namesAt, isExpressionWord}
 use Rattle.words.proofs.TestLaws.{and-true}
@@ -17,8 +17,8 @@ pub data ExpressionWord (a : List ℕ) (w : ℕ) : Type 0 where
   symbolWord : kindOf w ≡ symbolKind → lowByte w < length a → arity a w ≡ rankOf a (lowByte w) → ExpressionWord a w
   emptyWord : kindOf w ≡ emptyKind → arity a w ≡ 0 → ExpressionWord a w
   unionWord : kindOf w ≡ unionKind → arity a w ≡ 2 → ExpressionWord a w
-  productWord : kindOf w ≡ productKind → isConstant a (lowByte w) ≡ true → arity a w ≡ 2 → ExpressionWord a w
-  closureWord : kindOf w ≡ closureKind → isConstant a (lowByte w) ≡ true → arity a w ≡ 1 → ExpressionWord a w
+  productWord : kindOf w ≡ productKind → mayName a (lowByte w) ≡ true → arity a w ≡ 2 → ExpressionWord a w
+  closureWord : kindOf w ≡ closureKind → mayName a (lowByte w) ≡ true → arity a w ≡ 1 → ExpressionWord a w
 
 module _ (a : List ℕ) (w : ℕ) where
   named : (k : Kind) → kindOf w ≡ k → namesAt a (lowByte w) k ≡ true → ExpressionWord a w

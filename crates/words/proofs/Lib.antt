@@ -4,6 +4,7 @@ pub mod Ascending
 pub mod AcceptedAlphabet
 pub mod AcceptedExpression
 pub mod AcceptedTree
+pub mod HoleLaws
 pub mod DistinctLaws
 pub mod ConstantLaws
 pub mod ExpressionWordLaws

@@ -7,9 +7,9 @@ use Prim.Native.Nat.{ℕ, zero, suc, _<_, _≤_}
 use native.Mathlib.Omega.{arith}
 use lib.ListN.{length, take}
 use lib.Dec.{ltb, leb, eqb}
-use borrow.Author.Tests.{ltb-true, leb-true, ne-eqb}
-use Rattle.words.specs.Refusal.{Refusals, refusal, someHolds, NoneHolds, First, here as first-here, later}
-use Rattle.words.proofs.TestLaws.{and-true, or-false, false-or}
+use borrow.Author.Tests.{ltb-true, leb-true, eqb-false, ne-eqb}
+use Rattle.words.specs.Refusal.{Refusals, refusal, without, someHolds, NoneHolds, First, here as first-here, later}
+use Rattle.words.proofs.TestLaws.{Tested, holds, fails, tested, and-true, or-false, false-or}
 
 -- ---- parts of a list of which no condition holds
 
@@ -186,6 +186,17 @@ module _ (whole : Refusals) (p : positive whole ≡ true) (h : refusal whole ≡
   part-behind n rs e =
       let rest = none-behind-number n whole (refusal-none whole p h) in
       none-refusal rs (subst NoneHolds e (none-taken (length rs) (behindNumber n whole) rest))
+
+-- a list without the number n does not refuse by it
+pub without-never : (n : ℕ) (rs : Refusals) → 0 < n → refusal (without n rs) ≡ n → ⊥
+without-never n [] h e = omega arith
+without-never n ((m, c) ∷ rs) h e = go (tested (eqb m n)) c (λ x. without-never n rs h x) e
+  where
+    go : Tested (eqb m n) → (c : Bool) → (refusal (without n rs) ≡ n → ⊥)
+        → refusal (cond (eqb m n) (without n rs) ((m, c) ∷ without n rs)) ≡ n → ⊥
+    go (holds t) c i e = i (rw t at e)
+    go (fails t) true i e = eqb-false m n t (rw t at e)
+    go (fails t) false i e = i (rw t at e)
 
 -- the first number of the list that applies, or n
 abbrev pub refusalOr : Refusals → ℕ → ℕ

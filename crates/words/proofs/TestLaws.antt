@@ -1,11 +1,11 @@
 -- Laws of tests: a test with its outcome, two tests that hold together, both and either of two tests, and a test of every word
--- of a list.
-use mathlib.Core.Path.{_≡_, refl, sym, _∙_}
+-- of a list, or of some.
+use mathlib.Core.Path.{_≡_, refl, sym, ap, _∙_}
 use mathlib.Core.Logic.{_⊎_, inl, inr}
 use mathlib.Core.Bool.{Bool, true, false, cond, _&&_, _||_, true≢false, false≢true}
 use mathlib.Core.List.{List, [], _∷_, _++_}
 use Prim.Native.Nat.{ℕ}
-use Rattle.words.specs.Lists.{all}
+use Rattle.words.specs.Lists.{all, some}
 
 -- a test with its outcome, to branch on
 pub data Tested (b : Bool) : Type 0 where
@@ -67,6 +67,10 @@ pub or-none : (b : Bool) → b || false ≡ b
 or-none true = refl
 or-none false = refl
 
+pub or-assoc : (b c d : Bool) → b || (c || d) ≡ b || c || d
+or-assoc true c d = refl
+or-assoc false c d = refl
+
 pub or-true : (b c : Bool) → b || c ≡ true → (b ≡ true) ⊎ (c ≡ true)
 or-true true c e = inl refl
 or-true false c e = inr e
@@ -93,3 +97,9 @@ module _ (f : ℕ → Bool) where
   pub all-append : (l k : List ℕ) → all f l ≡ true → all f k ≡ true → all f (l ++ k) ≡ true
   all-append [] k h g = g
   all-append (x ∷ l) k h g = let p = and-true (f x) (all f l) h in true-and (f x) (all f (l ++ k)) (p .0) (all-append l k (p .1) g)
+
+  -- ---- some word of a list
+
+  pub some-append : (l k : List ℕ) → some f (l ++ k) ≡ some f l || some f k
+  some-append [] k = refl
+  some-append (x ∷ l) k = ap (λ (b : Bool). f x || b) (some-append l k) ∙ or-assoc (f x) (some f l) (some f k)

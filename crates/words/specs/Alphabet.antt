@@ -1,21 +1,25 @@
--- The alphabet (document 01, kind 1): ranks, constants in symbol order, and refusals 1 and 2.
+-- The alphabet (document 01, kind 1): ranks, constants in symbol order, holes (document 02, U8), and refusals 1 and 2.
 use Prim.Native.Nat.{ℕ, suc}
 use mathlib.Core.List.{List, [], _∷_}
 use mathlib.Core.Bool.{Bool, not, cond, _&&_, _||_}
 use lib.ListN.{length, getD}
 use lib.Dec.{ltb, leb, eqb}
-use Rattle.words.specs.Lists.{all}
+use Rattle.words.specs.Lists.{all, some}
 use Rattle.words.specs.Limits.{outside, alphabetMost, constantsMost, rankMost}
 use Rattle.words.specs.Refusal.{Refusals, refusal}
-use Rattle.words.specs.Word.{entryKind, isOf, lowByte}
+use Rattle.words.specs.Word.{entryKind, isOf, lowByte, holeAbove}
 
 -- the rank in an entry: bits 7..0
 abbrev pub entryRank : ℕ → ℕ
 entryRank w = lowByte w
 
--- an alphabet entry has a rank of 0 to 4
+-- "Bit 8 of a constant's alphabet word now marks a hole" (document 02, U8)
+unfoldable pub marksHole : ℕ → Bool
+marksHole w = eqb (holeAbove w) 1
+
+-- an alphabet entry has a rank of 0 to 4; with the mark of a hole a "rank above 0 .. is refused"
 unfoldable pub isEntry : ℕ → Bool
-isEntry w = isOf entryKind w && leb (entryRank w) rankMost
+isEntry w = isOf entryKind w && leb (entryRank w) (cond (marksHole w) 0 rankMost)
 
 -- the rank of a symbol, whose number is its entry's index; 0 for an unknown one
 unfoldable pub rankOf : List ℕ → ℕ → ℕ
@@ -28,6 +32,18 @@ isSymbol a s = ltb s (length a)
 -- "A symbol of rank 0 is a constant"
 unfoldable pub isConstant : List ℕ → ℕ → Bool
 isConstant a s = isSymbol a s && eqb (rankOf a s) 0
+
+-- a symbol that is marked as a hole; an unknown one is not
+unfoldable pub isHole : List ℕ → ℕ → Bool
+isHole a s = marksHole (getD a s 0)
+
+-- an alphabet that "has a hole"
+unfoldable pub hasHoles : List ℕ → Bool
+hasHoles a = some marksHole a
+
+-- the c of a product or closure: a constant, and "Once an alphabet has a hole, only holes may be named"
+unfoldable pub mayName : List ℕ → ℕ → Bool
+mayName a c = isConstant a c && (not (hasHoles a) || isHole a c)
 
 -- the symbols of rank 0 among entries of which the first has number s
 unfoldable pub constantsFrom : ℕ → List ℕ → List ℕ

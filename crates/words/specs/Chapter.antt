@@ -1,13 +1,13 @@
--- The words of a chapter (document 01, kind 7) and refusals 10, 11 and 24.
+-- The words of a chapter (document 01, kind 7) and refusals 10, 11, 24 and 26.
 use Prim.Native.Nat.{ℕ}
 use mathlib.Core.List.{List, [], _∷_}
 use mathlib.Core.Bool.{Bool, not, _&&_}
 use lib.Dec.{ltb}
-use Rattle.words.specs.Lists.{all}
+use Rattle.words.specs.Lists.{all, some}
 use Rattle.words.specs.Limits.{heightMost}
 use Rattle.words.specs.Refusal.{Refusals, refusal}
 use Rattle.words.specs.Word.{nodeKind, isOf, lowByte}
-use Rattle.words.specs.Alphabet.{isSymbol}
+use Rattle.words.specs.Alphabet.{isSymbol, isHole}
 use Rattle.words.specs.Postfix.{notOneTree, heightOf}
 
 -- the symbol of a node: bits 7..0
@@ -33,3 +33,7 @@ treeFault a ch = refusal (treeRefusals a ch)
 -- 24: "too high" (document 02, U6)
 unfoldable pub tooHigh : List ℕ → List ℕ → Bool
 tooHigh a ch = ltb heightMost (heightOf a ch)
+
+-- 26: "a hole in a chapter", or in a replacement (document 02, U8); every element is looked at
+unfoldable pub holesIn : List ℕ → List ℕ → Bool
+holesIn a ch = some (λ w. isHole a (symbolOf w)) ch

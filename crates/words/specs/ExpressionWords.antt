@@ -8,16 +8,16 @@ use Rattle.words.specs.Limits.{outside, expressionMost}
 use Rattle.words.specs.Refusal.{Refusals, refusal}
 use Rattle.words.specs.Word.{Kind, entryKind, symbolKind, emptyKind, unionKind, productKind, closureKind, nodeKind}
 use Rattle.words.specs.Word.{headKind, transitionKind, epsilonKind, sourceKind, lengthKind, noKind, kindOf, spareBitsClear, lowByte}
-use Rattle.words.specs.Alphabet.{isSymbol, isConstant}
+use Rattle.words.specs.Alphabet.{isSymbol, mayName}
 use Rattle.words.specs.Postfix.{notOneTree}
 
--- whether the low byte of a rule word of a kind is in order: a symbol that the alphabet has; a c that is a constant
+-- whether the low byte of a rule word of a kind is in order: a symbol that the alphabet has; a c that may be named
 abbrev pub namesAt : List ℕ → ℕ → Kind → Bool
 namesAt a s symbolKind = isSymbol a s
 namesAt a s emptyKind = true
 namesAt a s unionKind = true
-namesAt a s productKind = isConstant a s
-namesAt a s closureKind = isConstant a s
+namesAt a s productKind = mayName a s
+namesAt a s closureKind = mayName a s
 namesAt a s nodeKind = false
 namesAt a s entryKind = false
 namesAt a s headKind = false
@@ -35,7 +35,8 @@ isExpressionWord a w = spareBitsClear w && namesAt a (lowByte w) (kindOf w)
 unfoldable pub wrongLength : List ℕ → Bool
 wrongLength e = outside expressionMost (length e)
 
--- 4: "a word that is no rule word, an unknown symbol, or a c that is no constant"
+-- 4: "a word that is no rule word, an unknown symbol, or a c that is no constant"; or no hole, where the alphabet has one (document
+-- 02, U8)
 unfoldable pub notExpressionWords : List ℕ → List ℕ → Bool
 notExpressionWords a e = not (all (isExpressionWord a) e)
 

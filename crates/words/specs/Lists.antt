@@ -1,13 +1,18 @@
 -- Tests over a list, properties of all its members, lists by their index, and words written into a slice.
 use Prim.Native.Nat.{ℕ, zero, suc, _+_, _<_, max}
 use mathlib.Core.List.{List, [], _∷_, _++_}
-use mathlib.Core.Bool.{Bool, true, cond, _&&_}
+use mathlib.Core.Bool.{Bool, true, false, cond, _&&_, _||_}
 use lib.ListN.{length, drop}
 
 -- the test holds of every number of the list
 abbrev pub all : (ℕ → Bool) → List ℕ → Bool
 all f [] = true
 all f (x ∷ xs) = f x && all f xs
+
+-- the test holds of some number of the list
+abbrev pub some : (ℕ → Bool) → List ℕ → Bool
+some f [] = false
+some f (x ∷ xs) = f x || some f xs
 
 -- how many numbers of the list pass the test
 abbrev pub count : (ℕ → Bool) → List ℕ → ℕ

@@ -64,10 +64,13 @@ kindOf w = kindAt (numberOf w)
 abbrev pub bodyOf : ℕ → ℕ
 bodyOf w = w % kindUnit
 
--- the range of each field: a rank, a symbol and a substitution symbol (document 01's c) have eight bits, a state has ten, a
--- state count eleven, and a word count twelve
+-- the range of each field: a rank, a symbol and a substitution symbol (document 01's c) have eight bits, what tells a hole (document
+-- 02, U8) one, a state has ten, a state count eleven, and a word count twelve
 abbrev pub symbolRange : ℕ
 symbolRange = 0x100
+
+abbrev pub holeRange : ℕ
+holeRange = 0x2
 
 abbrev pub stateRange : ℕ
 stateRange = 0x400
@@ -80,7 +83,7 @@ lengthRange = 0x1000
 
 -- The named bits of each kind are its lowest ones: a word's other 28 bits stay below this number.
 abbrev pub fieldRange : Kind → ℕ
-fieldRange entryKind = symbolRange
+fieldRange entryKind = holeRange * symbolRange
 fieldRange symbolKind = symbolRange
 fieldRange emptyKind = 0x1
 fieldRange unionKind = 0x1
@@ -109,6 +112,10 @@ wordOf k body = kindNumber k * kindUnit + body
 -- bits 7..0: a rank, a symbol or a substitution symbol
 abbrev pub lowByte : ℕ → ℕ
 lowByte w = w % symbolRange
+
+-- bit 8: whether an alphabet entry is a hole's
+abbrev pub holeAbove : ℕ → ℕ
+holeAbove w = w / symbolRange % holeRange
 
 -- bits 17..10: the symbol of a transition (a symbol move)
 abbrev pub symbolAbove : ℕ → ℕ

@@ -48,6 +48,9 @@ pub const LENGTH: u32 = 0xC;
 // Bits 7..0 of an entry are its rank, those of rule words and elements a symbol or a constant.
 pub const SYMBOL_RANGE: u32 = 0x100;
 
+// Bit 8 of an entry marks a hole: above the rank stands a number below this.
+pub const HOLE_RANGE: u32 = 0x2;
+
 // Bits 9..0 of a word of a table, but for the length word, are a state. Above them stand a head's state count, a symbol
 // transition's symbol, or the from state of an epsilon transition.
 pub const STATE_RANGE: u32 = 0x400;
@@ -102,7 +105,7 @@ fn field_range(kind: Kind) -> u32
     ensures { λ r. ⌜ r ≡ fieldRange (kindIn kind) ⌝ }
 {
     match kind {
-        Kind::Entry => SYMBOL_RANGE,
+        Kind::Entry => HOLE_RANGE * SYMBOL_RANGE,
         Kind::Symbol => SYMBOL_RANGE,
         Kind::Empty => 0x1,
         Kind::Union => 0x1,

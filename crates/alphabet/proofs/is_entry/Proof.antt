@@ -1,4 +1,4 @@
--- `alphabet::is_entry` meets its contract: of a word of the kind the spare bits and then the field decide, and no other word is one.
+-- `alphabet::is_entry` meets its contract: of a word of the kind the spare bits and then the rank decide, and no other word is one.
 use mathlib.Core.Path.{refl, _∙_, sym}
 use mathlib.Core.List.{[], _∷_}
 use native.Mathlib.Omega.{arith}
@@ -19,15 +19,16 @@ enum-told c = search needs
 spare-bits-clear-requires : tie.Need-spare-bits-clear-requires
 spare-bits-clear-requires c κs = search needs
 
-cast-result : tie.Need-cast-result
-cast-result c = search needs
+rank-most-requires : tie.Need-rank-most-requires
+rank-most-requires c κs = search needs
 
 returns : tie.Need-returns
 unfolding isEntry
 returns c =
-    let t = c .before .before in
+    let clear = c .before in
+    let t = clear .before .before in
     let decides = told-isOf _ _ (t .before .before .kind-of .ensures) Entry (t .enum-told .given .1) (omega arith) in
-    rw (decides ∙ sym (c .before .spare-bits-clear .ensures) ∙ c .if1 .taken)
+    rw (decides ∙ sym (clear .before .spare-bits-clear .ensures) ∙ clear .if1 .taken, ← c .rank-most .ensures)
 
 returns-2 : tie.Need-returns-2
 unfolding isEntry
@@ -43,4 +44,4 @@ returns-3 c = rw (left-isOf _ (c .before .kind-of .result) (c .before .kind-of .
 pub is-entry-spec : {M : Type 1} → statement M
 is-entry-spec =
     tie.close
-    (tie.spec kind-of-requires enum-told spare-bits-clear-requires cast-result returns returns-2 returns-3)
+    (tie.spec kind-of-requires enum-told spare-bits-clear-requires rank-most-requires returns returns-2 returns-3)

@@ -1,5 +1,5 @@
--- `alphabet::write_ranks` meets its contract: before each turn the ranks of the symbols before `symbol` are written, and the list is
--- as it was from there on.
+-- `alphabet::write_ranks` meets its contract: before each turn the ranks of the symbols before `symbol` are written, but for holes, and
+-- the list is as it was from there on.
 use Prim.Native.Nat.{_-_}
 use lib.ListN.{length}
 use borrow.Author.Needs.{needs}
@@ -17,14 +17,23 @@ abbrev μ-loop : tie.MeasureT-loop
 loop-holds : tie.Need-loop-holds Inv-loop μ-loop
 loop-holds c = ranks-none _ _
 
+mul-rank-unless-hole : tie.Need-mul-rank-unless-hole Inv-loop μ-loop
+mul-rank-unless-hole c = search needs
+
+shared-slice-read-rank-unless-hole : tie.Need-shared-slice-read-rank-unless-hole Inv-loop μ-loop
+shared-slice-read-rank-unless-hole c = search needs
+
+mul-rank-unless-hole-2 : tie.Need-mul-rank-unless-hole-2 Inv-loop μ-loop
+mul-rank-unless-hole-2 c = search needs
+
+slice-read-rank-unless-hole : tie.Need-slice-read-rank-unless-hole Inv-loop μ-loop
+slice-read-rank-unless-hole c = search needs
+
+rank-unless-hole-requires : tie.Need-rank-unless-hole-requires Inv-loop μ-loop
+rank-unless-hole-requires c κs = search needs
+
 mul-ranks : tie.Need-mul-ranks Inv-loop μ-loop
 mul-ranks c = search needs
-
-shared-slice-read-ranks : tie.Need-shared-slice-read-ranks Inv-loop μ-loop
-shared-slice-read-ranks c = search needs
-
-mul-ranks-2 : tie.Need-mul-ranks-2 Inv-loop μ-loop
-mul-ranks-2 c = search needs
 
 slice-write-ranks : tie.Need-slice-write-ranks Inv-loop μ-loop
 slice-write-ranks c = search needs
@@ -37,8 +46,8 @@ loop-less c = search needs
 
 loop-again : tie.Need-loop-again Inv-loop μ-loop
 loop-again c =
-    let t = c .before in
-    ranks-more (t .before .before .loop .inv) (t .before .loop-test .taken) (ltb-true _ _ (t .if1 .taken))
+    let t = c .before .before .before in
+    ranks-more (t .before .before .loop .inv) (t .before .loop-test .taken) (ltb-true _ _ (t .if1 .taken)) _ (c .rank-unless-hole .ensures)
 
 same-length : tie.Need-same-length Inv-loop μ-loop
 same-length c = c .before .before .loop .inv .long
@@ -59,9 +68,12 @@ write-ranks-spec =
     Inv-loop
     μ-loop
     loop-holds
+    mul-rank-unless-hole
+    shared-slice-read-rank-unless-hole
+    mul-rank-unless-hole-2
+    slice-read-rank-unless-hole
+    rank-unless-hole-requires
     mul-ranks
-    shared-slice-read-ranks
-    mul-ranks-2
     slice-write-ranks
     add-symbol
     loop-less

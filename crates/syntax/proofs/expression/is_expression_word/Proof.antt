@@ -55,14 +55,14 @@ enum-told-3 c = search needs
 enum-told-4 : tie.Need-enum-told-4
 enum-told-4 c = search needs
 
-is-constant-requires : tie.Need-is-constant-requires
-is-constant-requires c κs = search needs
+may-name-requires : tie.Need-may-name-requires
+may-name-requires c κs = search needs
 
 enum-told-5 : tie.Need-enum-told-5
 enum-told-5 c = search needs
 
-is-constant-requires-2 : tie.Need-is-constant-requires-2
-is-constant-requires-2 c κs = search needs
+may-name-requires-2 : tie.Need-may-name-requires-2
+may-name-requires-2 c κs = search needs
 
 returns-2 : tie.Need-returns-2
 returns-2 c =
@@ -85,14 +85,14 @@ returns-4 c =
 returns-5 : tie.Need-returns-5
 returns-5 c =
     let t = c .before .before .before in
-    c .is-constant .ensures
+    c .may-name .ensures
     ∙ sym (named _ _ _ _ _ (t .before .before .spare-bits-clear .ensures) (t .before .if1 .left) (t .kind-of .ensures)
     (c .before .enum-told4 .given .1))
 
 returns-6 : tie.Need-returns-6
 returns-6 c =
     let t = c .before .before .before in
-    c .is-constant2 .ensures
+    c .may-name2 .ensures
     ∙ sym (named _ _ _ _ _ (t .before .before .spare-bits-clear .ensures) (t .before .if1 .left) (t .kind-of .ensures)
     (c .before .enum-told5 .given .1))
 
@@ -111,9 +111,9 @@ is-expression-word-spec =
     enum-told-2
     enum-told-3
     enum-told-4
-    is-constant-requires
+    may-name-requires
     enum-told-5
-    is-constant-requires-2
+    may-name-requires-2
     returns-2
     returns-3
     returns-4
