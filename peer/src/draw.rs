@@ -7,10 +7,10 @@ use crate::language::{Expression, Tree};
 use crate::words::{self, Operator};
 
 /// A tree in which members of the language stand at some leaves, or one that is a member as a whole, so that matches
-/// are frequent.
+/// are frequent. It has no hole, unless all constants are holes.
 pub fn planted_tree(random: &mut Random, alphabet: &[u32], expression: &Expression, budget: usize) -> Tree {
     if random.once_in(3) {
-        if let Some(member) = large_member(random, expression, budget) {
+        if let Some(member) = large_member(random, alphabet, expression, budget) {
             return member;
         }
     }
@@ -20,7 +20,7 @@ pub fn planted_tree(random: &mut Random, alphabet: &[u32], expression: &Expressi
     for symbol in tree(random, alphabet, ground) {
         let is_leaf = words::arity(alphabet, symbol) == Some(0);
         let member = if is_leaf && random.once_in(2) {
-            large_member(random, expression, spare + 1)
+            large_member(random, alphabet, expression, spare + 1)
         } else {
             None
         };
@@ -35,11 +35,26 @@ pub fn planted_tree(random: &mut Random, alphabet: &[u32], expression: &Expressi
     planted
 }
 
-/// The largest of a few drawn members.
-fn large_member(random: &mut Random, expression: &Expression, limit: usize) -> Option<Tree> {
+/// The largest of a few drawn members without holes.
+fn large_member(
+    random: &mut Random,
+    alphabet: &[u32],
+    expression: &Expression,
+    limit: usize,
+) -> Option<Tree> {
     (0..4)
-        .filter_map(|_| member(random, expression, limit))
+        .filter_map(|_| hole_free_member(random, alphabet, expression, limit))
         .max_by_key(Tree::len)
+}
+
+/// A drawn member in which no hole stands.
+pub fn hole_free_member(
+    random: &mut Random,
+    alphabet: &[u32],
+    expression: &Expression,
+    limit: usize,
+) -> Option<Tree> {
+    member(random, expression, limit).filter(|tree| !words::has_hole(alphabet, tree))
 }
 
 /// A member of the expression's language with at most `limit` nodes, where one is found: each operator is read as the

@@ -6,7 +6,10 @@ use crate::length_word::with_length_word;
 use crate::limits::{ARITY_LIMIT, CONSTANT_LIMIT, STATE_LIMIT, SYMBOL_LIMIT, TABLE_LIMIT};
 use crate::words::{self, Operator, TableWord};
 
-/// An alphabet: mostly small, so that symbols meet each other often; sometimes up to the limits.
+pub mod holes;
+
+/// An alphabet without holes: mostly small, so that symbols meet each other often; sometimes up to the
+/// limits.
 pub fn alphabet(random: &mut Random) -> Vec<u32> {
     let (constants, others) = if random.once_in(10) {
         let constants = random.between(1, CONSTANT_LIMIT);
@@ -64,22 +67,39 @@ fn split(random: &mut Random, budget: usize, parts: usize) -> Vec<usize> {
     all
 }
 
-/// An expression of at most `budget` words.
+/// An expression of at most `budget` words, which Compile does not refuse by 3 to 5.
 pub fn expression(random: &mut Random, alphabet: &[u32], budget: usize) -> Vec<u32> {
+    let operators = if words::holes(alphabet).is_empty() {
+        operators(random, alphabet, budget)
+    } else {
+        holes::operators(random, alphabet, budget)
+    };
+    words::operator_words(&operators)
+}
+
+/// The operators of an expression. Where the alphabet has holes, these alone are named in products and
+/// closures; as symbols all constants stand there.
+fn operators(random: &mut Random, alphabet: &[u32], budget: usize) -> Vec<Operator> {
     let constants = words::constants(alphabet);
-    let favored: Vec<usize> = (0..2).map(|_| random.pick(&constants)).collect();
-    let operators = grow(random, budget, |random, own| {
+    let named = words::named(alphabet);
+    let favored = [random.pick(&constants), random.pick(&named)];
+    grow(random, budget, |random, own| {
         let constant = if random.once_in(3) {
             random.pick(&constants)
         } else {
             random.pick(&favored)
         };
+        let over = if named.contains(&constant) {
+            constant
+        } else {
+            random.pick(&named)
+        };
         let symbols = symbols_within(alphabet, 1, own - 1);
         loop {
             let choice = match random.below(8) {
                 0 if own == 1 && random.once_in(8) => (Operator::Empty, 0),
-                1..=2 if own >= 2 => (Operator::Closure(constant), 1),
-                3 if own >= 3 => (Operator::Product(constant), 2),
+                1..=2 if own >= 2 => (Operator::Closure(over), 1),
+                3 if own >= 3 => (Operator::Product(over), 2),
                 4 if own >= 3 => (Operator::Union, 2),
                 5..=6 if !symbols.is_empty() => {
                     let (symbol, arity) = random.pick(&symbols);
@@ -90,8 +110,7 @@ pub fn expression(random: &mut Random, alphabet: &[u32], budget: usize) -> Vec<u
             };
             return choice;
         }
-    });
-    words::operator_words(&operators)
+    })
 }
 
 /// The symbols with an arity in this range, with their arities.
@@ -102,17 +121,27 @@ fn symbols_within(alphabet: &[u32], least: usize, most: usize) -> Vec<(usize, us
         .collect()
 }
 
-/// A tree of at most `budget` nodes, and of nearly so many where the alphabet has symbols to reach it.
+/// A tree of at most `budget` nodes, and of nearly so many where the alphabet has symbols to reach it. It has
+/// no hole, unless all constants are holes.
 pub fn tree(random: &mut Random, alphabet: &[u32], budget: usize) -> Tree {
-    let constants = words::constants(alphabet);
+    let leaves = leaves(alphabet);
     grow(random, budget, |random, own| {
         let symbols = symbols_within(alphabet, 1, own - 1);
         if symbols.is_empty() {
-            (random.pick(&constants), 0)
+            (random.pick(&leaves), 0)
         } else {
             random.pick(&symbols)
         }
     })
+}
+
+/// The constants that are no holes, or all of them where each is one.
+fn leaves(alphabet: &[u32]) -> Vec<usize> {
+    let leaves = words::leaves(alphabet);
+    if leaves.is_empty() {
+        return words::constants(alphabet);
+    }
+    leaves
 }
 
 /// An alphabet that has symbols with children.
@@ -130,7 +159,7 @@ pub fn alphabet_with_children(random: &mut Random) -> Vec<u32> {
 pub fn high_tree(random: &mut Random, alphabet: &[u32], height: usize) -> Tree {
     let symbols = symbols_within(alphabet, 1, ARITY_LIMIT);
     let mut before: Vec<Tree> = Vec::new();
-    let mut behind = vec![random.pick(&words::constants(alphabet))];
+    let mut behind = vec![random.pick(&leaves(alphabet))];
     for below in 1..height {
         let (symbol, arity) = random.pick(&symbols);
         let place = random.below(arity);

@@ -4,6 +4,9 @@
 /// An alphabet entry.
 pub const ENTRY: u32 = 1;
 
+/// The bit of an alphabet entry by which it is a hole (document 02, U8).
+pub const HOLE: u32 = 1 << 8;
+
 // The words of an expression.
 pub const SYMBOL: u32 = 2;
 pub const EMPTY: u32 = 3;

@@ -5,8 +5,9 @@
 //! HAQBYLUR_LIB_DIR names the folder of the static library when this is built, HAQBYLUR_MARKLIST the program when it runs.
 
 use peer::cases::{
-    behind, damage, examples, faults, heights, high_chapters, high_histories, histories, largest,
-    length_words, lengths, limits, packed, program, raised, random,
+    behind, damage, examples, faults, heights, high_chapters, high_histories, histories, hole_histories,
+    hole_members, hole_places, hole_random, hole_rules, holes, largest, length_words, lengths, limits,
+    packed, program, raised, random,
 };
 use peer::compare::{said, Comparison, Tally};
 use peer::library;
@@ -53,6 +54,14 @@ fn main() -> ExitCode {
     section("nothing behind a table", &mut behind::compare);
     section("heights of chapters", &mut heights::compare);
     section("exchanges that raise or lower", &mut raised::compare);
+    section("holes in alphabets", &mut holes::compare);
+    section("holes in rules", &mut |all| {
+        hole_rules::compare(all, seed, cases / 4)
+    });
+    section("holes in chapters", &mut hole_places::compare);
+    section("members without holes", &mut |all| {
+        hole_members::compare(all, seed, cases / 40)
+    });
     section("two faults at once", &mut faults::compare);
     section("damaged words", &mut |all| damage::compare(all, seed, cases / 4));
     section("random rules and chapters", &mut |all| {
@@ -60,6 +69,12 @@ fn main() -> ExitCode {
     });
     section("lists of exchanges", &mut |all| {
         histories::compare(all, seed, cases / 4)
+    });
+    section("random rules and chapters with holes", &mut |all| {
+        hole_random::compare(all, seed, cases)
+    });
+    section("lists of exchanges with holes", &mut |all| {
+        hole_histories::compare(all, seed, cases / 4)
     });
     section("random high chapters", &mut |all| {
         high_chapters::compare(all, seed, 1 + cases / 40)

@@ -1,8 +1,9 @@
-//! Document 01's "Refused calls", with document 02's U1 and U6. Every condition is judged by itself, so that a call has a
-//! list of faults in the documents' order; the first of them is its refusal, and a call without a fault is accepted.
-//! A condition that rests on something missing (the table of a rule that is none, say) is judged by what holds of every
-//! such thing: a table has two words, a state set has a word, a result has the replacement's nodes. What is no tree has no
-//! height, so it is not too high.
+//! Document 01's "Refused calls", with document 02's U1, U6 and U8. Every condition is judged by itself, so
+//! that a call has a list of faults in the documents' order; the first of them is its refusal, and a call
+//! without a fault is accepted. A condition that rests on something missing (the table of a rule that is
+//! none, say) is judged by what holds of every such thing: a table has two words, a state set has a word, a
+//! result has the replacement's nodes. What is no tree has no height, so it is not too high. A hole is looked
+//! for in any words; those that are no nodes with a known symbol are none.
 
 use crate::automaton;
 use crate::call::{Call, Operation};
@@ -11,11 +12,12 @@ use crate::length_word::LEAST_WORDS;
 use crate::limits::{CONSTANT_LIMIT, EXPRESSION_LIMIT, HEIGHT_LIMIT, NODE_LIMIT, STATE_LIMIT, SYMBOL_LIMIT};
 use crate::marks::Table;
 use crate::postfix;
-use crate::words::{self, Operator};
+use crate::words::{self, Entry, Operator};
 use std::fmt;
 
-/// A condition by which an operation refuses: its number, and whether that stands in the operation's order for the second
-/// time. Exchange's first 24 is asked of the used chapter, its second of the result.
+/// A condition by which an operation refuses: its number, and whether that stands in the operation's order
+/// for the second time. Exchange's first 24 and 26 are asked of the used chapter, the second 24 of the
+/// result, the second 26 of the replacement.
 #[derive(Clone, Copy, Debug, PartialEq, Eq, PartialOrd, Ord)]
 pub struct Condition {
     pub number: u32,
@@ -113,7 +115,7 @@ fn marked(call: &Call, parts: &[fn(&Marked) -> Judged]) -> Judged {
 
 fn alphabet(call: &Call) -> Judged {
     let alphabet = &call.alphabet;
-    let has_no_entry = alphabet.iter().any(|word| words::read_entry(*word).is_none());
+    let has_no_entry = alphabet.iter().any(|word| Entry::read(*word).is_none());
     let constants = words::constants(alphabet).len();
     vec![
         (1, is_outside(alphabet.len(), SYMBOL_LIMIT) || has_no_entry),
@@ -126,9 +128,15 @@ fn expression(call: &Call) -> Judged {
         alphabet, expression, ..
     } = call;
     let operands = leaf_unless_known(expression.iter().map(|word| words::operands(alphabet, *word)));
+    let named = words::named(alphabet);
     vec![
         (3, is_outside(expression.len(), EXPRESSION_LIMIT)),
-        (4, expression.iter().any(|word| is_no_operator(alphabet, *word))),
+        (
+            4,
+            expression
+                .iter()
+                .any(|word| is_no_operator(alphabet, &named, *word)),
+        ),
         (5, postfix::children(&operands).is_none()),
         (6, automaton::states(alphabet, expression) > STATE_LIMIT),
     ]
@@ -156,6 +164,7 @@ fn tree(own: &Marked) -> Judged {
         (10, has_no_node(alphabet, own.tree)),
         (11, children.is_none()),
         (24, is_too_high(children)),
+        (26, has_hole(alphabet, own.tree)),
     ]
 }
 
@@ -184,6 +193,7 @@ fn change(own: &Marked) -> Judged {
     vec![
         (14, *node >= own.count),
         (15, is_no_replacement),
+        (26, has_hole(alphabet, replacement)),
         (16, nodes > NODE_LIMIT || is_over_slice),
         (24, is_too_high(postfix::children(&result))),
     ]
@@ -200,19 +210,23 @@ fn is_outside(length: usize, limit: usize) -> bool {
     length == 0 || length > limit
 }
 
-fn is_no_operator(alphabet: &[u32], word: u32) -> bool {
+fn is_no_operator(alphabet: &[u32], named: &[usize], word: u32) -> bool {
     match Operator::read(word) {
         None => true,
         Some(Operator::Symbol(symbol)) => words::arity(alphabet, symbol).is_none(),
-        Some(Operator::Product(constant) | Operator::Closure(constant)) => {
-            words::arity(alphabet, constant) != Some(0)
-        }
+        Some(Operator::Product(constant) | Operator::Closure(constant)) => !named.contains(&constant),
         Some(Operator::Empty | Operator::Union) => false,
     }
 }
 
 fn has_no_node(alphabet: &[u32], tree: &[u32]) -> bool {
     tree.iter().any(|word| node_arity(alphabet, *word).is_none())
+}
+
+fn has_hole(alphabet: &[u32], tree: &[u32]) -> bool {
+    let is_hole = |symbol: usize| words::is_hole(alphabet, symbol);
+    tree.iter()
+        .any(|word| words::read_node(*word).is_some_and(is_hole))
 }
 
 fn node_arity(alphabet: &[u32], word: u32) -> Option<usize> {

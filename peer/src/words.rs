@@ -5,6 +5,15 @@ use crate::kinds;
 use crate::limits::ARITY_LIMIT;
 use std::fmt;
 
+/// What an alphabet word says of its symbol.
+#[derive(Clone, Copy, Debug, PartialEq, Eq)]
+pub enum Entry {
+    /// It takes so many children (document 01: its rank).
+    Symbol(usize),
+    /// It is a constant that marks a place (document 02, U8).
+    Hole,
+}
+
 /// One word of an expression (document 01: a rule word).
 #[derive(Clone, Copy, Debug, PartialEq, Eq)]
 pub enum Operator {
@@ -27,12 +36,38 @@ pub enum TableWord {
 
 /// The alphabet entry of a symbol with this arity (document 01: rank).
 pub fn entry_word(arity: usize) -> u32 {
-    kinds::symbol_word(kinds::ENTRY, arity)
+    Entry::Symbol(arity).word()
 }
 
 /// The tree word of a node with this symbol (document 01: a chapter element).
 pub fn node_word(symbol: usize) -> u32 {
     kinds::symbol_word(kinds::NODE, symbol)
+}
+
+impl Entry {
+    pub fn word(self) -> u32 {
+        match self {
+            Entry::Symbol(arity) => kinds::symbol_word(kinds::ENTRY, arity),
+            Entry::Hole => kinds::word(kinds::ENTRY) | kinds::HOLE,
+        }
+    }
+
+    /// None for a word that is no alphabet entry.
+    pub fn read(word: u32) -> Option<Entry> {
+        let entry = match kinds::symbol(word) {
+            0 if word & kinds::HOLE != 0 => Entry::Hole,
+            arity if arity <= ARITY_LIMIT => Entry::Symbol(arity),
+            _ => return None,
+        };
+        (entry.word() == word).then_some(entry)
+    }
+
+    pub fn arity(self) -> usize {
+        match self {
+            Entry::Symbol(arity) => arity,
+            Entry::Hole => 0,
+        }
+    }
 }
 
 impl Operator {
@@ -95,35 +130,68 @@ impl TableWord {
     }
 }
 
-/// The arity that an alphabet word gives its symbol; None for a word that is no alphabet entry.
-pub fn read_entry(word: u32) -> Option<usize> {
-    (0..=ARITY_LIMIT).find(|arity| entry_word(*arity) == word)
-}
-
 /// The symbol of a tree word; None for a word that is no element.
 pub fn read_node(word: u32) -> Option<usize> {
     let symbol = kinds::symbol(word);
     (node_word(symbol) == word).then_some(symbol)
 }
 
-/// The arity of a symbol; None for an unknown one.
-pub fn arity(alphabet: &[u32], symbol: usize) -> Option<usize> {
-    read_entry(*alphabet.get(symbol)?)
+/// What the alphabet says of a symbol; None for an unknown one.
+fn entry(alphabet: &[u32], symbol: usize) -> Option<Entry> {
+    Entry::read(*alphabet.get(symbol)?)
 }
 
-/// The constants of an alphabet in symbol order.
+/// The arity of a symbol; None for an unknown one.
+pub fn arity(alphabet: &[u32], symbol: usize) -> Option<usize> {
+    entry(alphabet, symbol).map(Entry::arity)
+}
+
+pub fn is_hole(alphabet: &[u32], symbol: usize) -> bool {
+    entry(alphabet, symbol) == Some(Entry::Hole)
+}
+
+/// The constants of an alphabet in symbol order; holes are among them.
 pub fn constants(alphabet: &[u32]) -> Vec<usize> {
     (0..alphabet.len())
         .filter(|symbol| arity(alphabet, *symbol) == Some(0))
         .collect()
 }
 
+/// The holes of an alphabet in symbol order.
+pub fn holes(alphabet: &[u32]) -> Vec<usize> {
+    (0..alphabet.len())
+        .filter(|symbol| is_hole(alphabet, *symbol))
+        .collect()
+}
+
+/// The constants that a product or a closure may name: any where the alphabet has no hole, otherwise the
+/// holes alone.
+pub fn named(alphabet: &[u32]) -> Vec<usize> {
+    let holes = holes(alphabet);
+    if holes.is_empty() {
+        return constants(alphabet);
+    }
+    holes
+}
+
+/// The constants that may stand in a tree: those that are no holes.
+pub fn leaves(alphabet: &[u32]) -> Vec<usize> {
+    let mut leaves = constants(alphabet);
+    leaves.retain(|symbol| !is_hole(alphabet, *symbol));
+    leaves
+}
+
 /// The arities of an alphabet's symbols.
 pub fn arities(alphabet: &[u32]) -> Vec<usize> {
     alphabet
         .iter()
-        .map(|word| read_entry(*word).expect("an alphabet entry"))
+        .map(|word| Entry::read(*word).expect("an alphabet entry").arity())
         .collect()
+}
+
+/// Whether a hole stands in a tree of symbols.
+pub fn has_hole(alphabet: &[u32], tree: &[usize]) -> bool {
+    tree.iter().any(|symbol| is_hole(alphabet, *symbol))
 }
 
 /// The symbols of a tree's words.

@@ -3,7 +3,7 @@
 
 use peer::automaton;
 use peer::call::{Answer, Call, Matcher, Operation};
-use peer::cases::{damage, examples, faults, histories, largest, lengths, limits, random};
+use peer::cases::{damage, examples, faults, histories, hole_members, largest, lengths, limits, random};
 use peer::chance::Random;
 use peer::compare::Comparison;
 use peer::exchange::splice;
@@ -157,6 +157,7 @@ fn the_model_differs_from_itself() {
     limits::compare(&mut comparison);
     lengths::compare(&mut comparison);
     largest::compare(&mut comparison, 5, 20);
+    hole_members::compare(&mut comparison, 5, 20);
     assert_eq!(comparison.differences(), 0);
 }
 

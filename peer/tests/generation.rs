@@ -2,21 +2,23 @@
 //! refused would show little.
 
 use peer::automaton;
-use peer::call::Operation;
+use peer::call::{Call, Operation};
 use peer::cases::heights::RESULT_TOO_HIGH;
-use peer::cases::high_histories;
-use peer::cases::random::pattern;
+use peer::cases::holes::{HOLE_IN_CHAPTER, HOLE_IN_REPLACEMENT};
+use peer::cases::random::{pattern, pattern_over};
+use peer::cases::{high_histories, hole_histories, hole_random};
 use peer::chance::Random;
 use peer::compare::Comparison;
 use peer::draw;
 use peer::exchange::{exchange, MarkedTree};
+use peer::generate::holes;
 use peer::language::membership::Membership;
 use peer::language::Expression;
 use peer::marks::Table;
 use peer::model::Model;
 use peer::postfix;
-use peer::refusals::Condition;
-use peer::words::arities;
+use peer::refusals::{self, Condition};
+use peer::words::{self, arities};
 
 #[test]
 fn random_trees_match_nearly_never_or_nearly_always() {
@@ -87,4 +89,72 @@ fn lists_on_high_chapters_are_all_accepted_or_all_refused() {
         .iter()
         .all(|number| times(Some(Condition::first(*number))) > 0));
     assert_eq!(answered.len(), 5);
+}
+
+#[test]
+fn rules_with_holes_are_refused_or_match_nearly_never() {
+    let (mut all_holes, mut one_hole, mut filled, mut with_a_match) = (0, 0, 0, 0);
+    for case in 0..2000 {
+        let mut random = Random::of_case("test", 7, case);
+        let own = pattern_over(&mut random, holes::alphabet);
+        let compile = Call::compile(&own.alphabet, &own.expression, vec![0; 2048]);
+        assert_eq!(refusals::faults(&compile), []);
+        one_hole += usize::from(words::holes(&own.alphabet).len() == 1);
+        if words::leaves(&own.alphabet).is_empty() {
+            all_holes += 1;
+            continue;
+        }
+        let read = Expression::read(&own.alphabet, &own.expression).expect("an expression");
+        let tree = draw::planted_tree(&mut random, &own.alphabet, &read, 24);
+        assert!(!words::has_hole(&own.alphabet, &tree));
+        let arities = arities(&own.alphabet);
+        let matches = Membership::new(&read, arities.len()).subtrees(&tree, &arities);
+        with_a_match += usize::from((0..tree.len()).any(|node| arities[tree[node]] > 0 && matches[node]));
+        filled += usize::from(own.expression.iter().any(|word| names_hole(&own.alphabet, *word)));
+    }
+    println!(
+        "{all_holes} all holes, {one_hole} one, {filled} rules name a hole, {with_a_match} have a match"
+    );
+    assert!(all_holes > 150 && all_holes < 400 && one_hole > 800);
+    assert!(filled > 1000 && with_a_match > 300);
+}
+
+fn names_hole(alphabet: &[u32], word: u32) -> bool {
+    match words::Operator::read(word) {
+        Some(words::Operator::Product(hole) | words::Operator::Closure(hole)) => {
+            words::is_hole(alphabet, hole)
+        }
+        _ => false,
+    }
+}
+
+/// How often an operation was refused by a condition, or accepted.
+fn times(comparison: &Comparison, operation: Operation, refusal: Option<Condition>) -> u64 {
+    let answered = &comparison.numbers[&operation];
+    answered.get(&refusal).copied().unwrap_or(0)
+}
+
+#[test]
+fn inputs_with_holes_are_all_accepted_or_all_refused() {
+    let mut comparison = Comparison::with(Box::new(Model));
+    hole_random::compare(&mut comparison, 3, 400);
+    println!("{:?}", comparison.numbers);
+    let times = |operation, refusal| times(&comparison, operation, refusal);
+    assert!(times(Operation::Compile, None) > 800);
+    assert!(times(Operation::Compile, Some(Condition::first(4))) > 300);
+    assert!(times(Operation::Run, None) > 800);
+    assert!(times(Operation::Run, Some(HOLE_IN_CHAPTER)) > 200);
+    for refusal in [None, Some(HOLE_IN_CHAPTER), Some(HOLE_IN_REPLACEMENT)] {
+        assert!(times(Operation::Exchange, refusal) > 100);
+    }
+}
+
+#[test]
+fn lists_with_holes_are_all_accepted_or_all_refused() {
+    let mut comparison = Comparison::with(Box::new(Model));
+    hole_histories::compare(&mut comparison, 3, 100);
+    println!("{:?}", comparison.numbers);
+    let times = |refusal| times(&comparison, Operation::Exchange, refusal);
+    assert!(times(None) > 300);
+    assert!(times(Some(HOLE_IN_CHAPTER)) > 100 && times(Some(HOLE_IN_REPLACEMENT)) > 100);
 }

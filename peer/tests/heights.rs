@@ -63,11 +63,11 @@ fn the_numbers_stand_in_another_order() {
         conditions.map(|condition| condition.number).collect()
     };
     assert_eq!(numbers(Operation::Compile), [1, 2, 3, 4, 5, 6, 7]);
-    assert_eq!(numbers(Operation::Run), [1, 2, 8, 9, 10, 11, 24, 12]);
+    assert_eq!(numbers(Operation::Run), [1, 2, 8, 9, 10, 11, 24, 26, 12]);
     assert_eq!(numbers(Operation::List), [1, 2, 8, 9, 12, 13]);
     assert_eq!(
         numbers(Operation::Exchange),
-        [1, 2, 8, 9, 10, 11, 24, 12, 14, 15, 16, 24]
+        [1, 2, 8, 9, 10, 11, 24, 26, 12, 14, 15, 26, 16, 24]
     );
 }
 
@@ -75,7 +75,7 @@ fn the_numbers_stand_in_another_order() {
 fn the_two_conditions_of_one_number_are_confused() {
     let [before, after] = [Condition::first(24), Condition::second(24)];
     let conditions = refusals::conditions(Operation::Exchange);
-    assert_eq!((conditions[6], conditions[11]), (before, after));
+    assert_eq!((conditions[6], conditions[13]), (before, after));
     assert_eq!(
         (before.to_string(), after.to_string()),
         ("24".into(), "second 24".into())

@@ -1,5 +1,7 @@
 //! Matchers that are wrong about heights in one respect (document 02, U6): the comparison finds each of them.
 
+mod wrong;
+
 use peer::call::{Answer, Call, Matcher, Operation};
 use peer::cases::heights::{RESULT_TOO_HIGH, TOO_HIGH};
 use peer::cases::{faults, heights, high_chapters, high_histories, raised};
@@ -191,19 +193,13 @@ fn highest_tree(arities: &[usize]) -> usize {
     highest
 }
 
-/// How many differences these cases find in a matcher with this fault.
-fn differences(cases: fn(&mut Comparison), fault: Fault) -> u64 {
-    let mut comparison = Comparison::quietly_with(Box::new(Judge { fault, exchanges: 0 }));
-    cases(&mut comparison);
-    assert_eq!(comparison.checks.differences, 0);
-    comparison.differences()
-}
-
 fn assert_found(cases: fn(&mut Comparison), faults: &[Fault]) {
-    assert_eq!(differences(cases, Fault::None), 0);
-    for fault in faults {
-        assert!(differences(cases, *fault) > 0, "{fault:?} is not found");
-    }
+    wrong::assert_found(
+        |fault| Box::new(Judge { fault, exchanges: 0 }),
+        Fault::None,
+        cases,
+        faults,
+    );
 }
 
 #[test]

@@ -1,9 +1,10 @@
 //! The two readings of a language against each other and against document 01's examples.
 
 use peer::cases::examples::{alphabet, A, B, C, F, G};
-use peer::cases::random::pattern;
+use peer::cases::random::{pattern, pattern_over, Alphabets};
 use peer::chance::Random;
 use peer::draw;
+use peer::generate::{self, holes};
 use peer::language::literal::{self, members};
 use peer::language::membership::Membership;
 use peer::language::{Expression, Tree};
@@ -100,9 +101,19 @@ fn a_product_misses_the_constants_that_one_inside_has_put() {
 
 #[test]
 fn the_literal_members_are_not_those_decided() {
+    compare_readings(generate::alphabet);
+}
+
+#[test]
+fn the_literal_members_over_holes_are_not_those_decided() {
+    compare_readings(holes::alphabet);
+}
+
+/// All trees up to a size, those with holes too, with rules over alphabets that are drawn so.
+fn compare_readings(alphabets: Alphabets) {
     for case in 0..300 {
         let mut random = Random::of_case("test", 77, case);
-        let pattern = pattern(&mut random);
+        let pattern = pattern_over(&mut random, alphabets);
         let arities = arities(&pattern.alphabet);
         let read = Expression::read(&pattern.alphabet, &pattern.expression).expect("an expression");
         let limit = literal::size_with_at_most(&arities, 120);

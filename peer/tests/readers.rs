@@ -1,5 +1,7 @@
 //! Matchers that are wrong about a table's length in one respect (document 02, U1): the comparison finds each of them.
 
+mod wrong;
+
 use peer::automaton;
 use peer::call::{Answer, Call, Matcher, Operation};
 use peer::cases::{behind, length_words, packed};
@@ -129,18 +131,8 @@ impl Reader {
     }
 }
 
-/// How many differences these cases find in a matcher with this fault.
-fn differences(cases: fn(&mut Comparison), fault: Fault) -> u64 {
-    let mut comparison = Comparison::quietly_with(Box::new(Reader(fault)));
-    cases(&mut comparison);
-    comparison.differences()
-}
-
 fn assert_found(cases: fn(&mut Comparison), faults: &[Fault]) {
-    assert_eq!(differences(cases, Fault::None), 0);
-    for fault in faults {
-        assert!(differences(cases, *fault) > 0, "{fault:?} is not found");
-    }
+    wrong::assert_found(|fault| Box::new(Reader(fault)), Fault::None, cases, faults);
 }
 
 #[test]

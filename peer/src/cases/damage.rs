@@ -1,19 +1,22 @@
-//! Damaged words: single bits changed in every argument of an accepted call. On the source's example every bit of every
-//! word is tried, elsewhere random ones.
+//! Damaged words: single bits changed in every argument of an accepted call. On the source's example, with
+//! and without holes, every bit of every word is tried, elsewhere random ones, and in every alphabet entry
+//! the bit that marks a hole.
 
 use crate::automaton;
 use crate::call::{Call, Operation};
-use crate::cases::examples;
-use crate::cases::random::{pattern, Pattern};
+use crate::cases::examples::{self, A, B, C, D, F, G, H};
+use crate::cases::holes::source_with;
+use crate::cases::random::{pattern_over, Alphabets, Pattern};
 use crate::chance::Random;
 use crate::compare::Comparison;
-use crate::generate;
+use crate::generate::{self, holes};
+use crate::kinds::HOLE;
 use crate::marks::Table;
 use crate::model;
 use crate::words;
 
-/// One accepted call of each operation on this alphabet, rule and tree, with so much to spare in each slice: words that no
-/// rule writes, and behind the table words that are none of it.
+/// One accepted call of each operation on this alphabet, rule and tree without holes, with so much to spare
+/// in each slice: words that no rule writes, and behind the table words that are none of it.
 pub fn accepted_calls(alphabet: &[u32], expression: &[u32], tree: &[u32], spare: usize) -> Vec<Call> {
     let mut table = automaton::table(alphabet, expression).expect("an expression");
     table.resize(table.len() + spare, 0x2468_ace0);
@@ -23,7 +26,7 @@ pub fn accepted_calls(alphabet: &[u32], expression: &[u32], tree: &[u32], spare:
     sets.resize(sets.len() + spare * read.width(), 0x0f0f_0f0f);
     let mut chapter = tree.to_vec();
     chapter.resize(count + spare, 0x1234_5678);
-    let leaf = words::node_words(&words::constants(alphabet)[..1]);
+    let leaf = words::node_words(&words::leaves(alphabet)[..1]);
     vec![
         Call::compile(alphabet, expression, vec![0x3c3c_3c3c; table.len()]),
         Call::run(alphabet, &table, tree, vec![0x5a5a_5a5a; sets.len()]),
@@ -33,16 +36,21 @@ pub fn accepted_calls(alphabet: &[u32], expression: &[u32], tree: &[u32], spare:
 }
 
 pub fn compare(comparison: &mut Comparison, seed: u64, cases: u64) {
-    for call in accepted_calls(
-        &examples::alphabet(),
-        &examples::expression(),
-        &examples::tree(),
-        3,
-    ) {
-        every_bit(comparison, &call);
+    let hole_free = words::node_words(&[A, B, F, A, G, H, F]);
+    for (alphabet, tree) in [
+        (examples::alphabet(), examples::tree()),
+        (source_with(&[C, D]), hole_free),
+    ] {
+        for call in accepted_calls(&alphabet, &examples::expression(), &tree, 3) {
+            every_bit(comparison, &call);
+        }
     }
     comparison.random_cases("damaged words", seed, cases, |comparison, _, random| {
-        some_bits(comparison, random);
+        some_bits(comparison, random, generate::alphabet);
+    });
+    comparison.random_cases("damaged holes", seed, cases / 2, |comparison, _, random| {
+        some_bits(comparison, random, holes::mixed_alphabet);
+        every_mark(comparison, random);
     });
 }
 
@@ -72,11 +80,16 @@ fn every_bit(comparison: &mut Comparison, accepted: &Call) {
     }
 }
 
-fn some_bits(comparison: &mut Comparison, random: &mut Random) {
-    let Pattern { alphabet, expression } = pattern(random);
+/// One accepted call of each operation over an alphabet that is drawn so.
+fn random_calls(random: &mut Random, alphabets: Alphabets) -> Vec<Call> {
+    let Pattern { alphabet, expression } = pattern_over(random, alphabets);
     let budget = random.between(1, 20);
     let tree = words::node_words(&generate::tree(random, &alphabet, budget));
-    for mut call in accepted_calls(&alphabet, &expression, &tree, 4) {
+    accepted_calls(&alphabet, &expression, &tree, 4)
+}
+
+fn some_bits(comparison: &mut Comparison, random: &mut Random, alphabets: Alphabets) {
+    for mut call in random_calls(random, alphabets) {
         call.node = random.below(call.count.max(1));
         for _ in 0..random.between(1, 2) {
             let mut filled = arguments(&mut call);
@@ -84,5 +97,17 @@ fn some_bits(comparison: &mut Comparison, random: &mut Random) {
             generate::flip(random, filled[argument]);
         }
         comparison.call("a changed bit is taken otherwise", &call);
+    }
+}
+
+/// Every alphabet entry in turn as a hole, or no longer as one.
+fn every_mark(comparison: &mut Comparison, random: &mut Random) {
+    let alphabets = random.pick(&[generate::alphabet as Alphabets, holes::mixed_alphabet]);
+    for call in random_calls(random, alphabets) {
+        for symbol in 0..call.alphabet.len() {
+            let mut changed = call.clone();
+            changed.alphabet[symbol] ^= HOLE;
+            comparison.call("an entry's mark is taken otherwise", &changed);
+        }
     }
 }

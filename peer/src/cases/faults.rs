@@ -6,6 +6,8 @@ use crate::call::{Call, Operation};
 use crate::cases::damage::accepted_calls;
 use crate::cases::examples::{self, A, D, G, H};
 use crate::cases::heights::{RESULT_TOO_HIGH, TOO_HIGH};
+use crate::cases::hole_faults;
+use crate::cases::holes::HOLE_IN_REPLACEMENT;
 use crate::cases::shapes::{chain, comb, low, source_words};
 use crate::compare::Comparison;
 use crate::length_word::{say, table_in};
@@ -16,10 +18,10 @@ use crate::refusals::{self, Condition};
 use crate::words::{self, entry_word, node_word, Operator, TableWord};
 use std::collections::BTreeSet;
 
-type Change = fn(&mut Call);
+pub type Change = fn(&mut Call);
 
 /// A change that gives a call the fault with this number, whatever else is wrong with it.
-type Fault = (u32, Change);
+pub type Fault = (u32, Change);
 
 /// More nodes than a slice needs for any tree.
 const ROOM: usize = 2 * NODE_LIMIT;
@@ -52,7 +54,8 @@ pub fn compare_operation(comparison: &mut Comparison, operation: Operation) {
     }
 }
 
-/// Words that are no tree have no height. Among the cases of `heights` are some that hold trees which are too high.
+/// Words that are no tree have no height. Among the cases of `heights` are some that hold trees which are too
+/// high. A hole may stand among any words, so that 26 meets every other number.
 fn can_meet(first: Condition, second: Condition) -> bool {
     (first, second) != (Condition::first(11), TOO_HIGH)
 }
@@ -85,10 +88,10 @@ fn pairs(comparison: &mut Comparison, accepted: &Call) -> BTreeSet<Vec<Condition
 
 fn faults(operation: Operation) -> Vec<(Condition, Change)> {
     let parts: &[fn() -> Vec<Fault>] = match operation {
-        Operation::Compile => &[alphabet, compile],
-        Operation::Run => &[alphabet, table, nodes, sets, run],
+        Operation::Compile => &[alphabet, compile, hole_faults::rule],
+        Operation::Run => &[alphabet, table, nodes, hole_faults::tree, sets, run],
         Operation::List => &[alphabet, table, count, sets, list],
-        Operation::Exchange => &[alphabet, table, count, nodes, sets, exchange],
+        Operation::Exchange => &[alphabet, table, count, nodes, hole_faults::tree, sets, exchange],
     };
     let faults = parts.iter().flat_map(|part| part());
     let mut faults: Vec<_> = faults
@@ -96,6 +99,7 @@ fn faults(operation: Operation) -> Vec<(Condition, Change)> {
         .collect();
     if operation == Operation::Exchange {
         faults.extend(high_results().map(|change| (RESULT_TOO_HIGH, change)));
+        faults.extend(hole_faults::replacement().map(|change| (HOLE_IN_REPLACEMENT, change)));
     }
     faults
 }
@@ -353,14 +357,14 @@ fn use_tree(call: &mut Call, tree: Vec<u32>) {
     pad(&mut call.sets, ROOM, 0);
 }
 
-fn pad(words: &mut Vec<u32>, length: usize, word: u32) {
+pub fn pad(words: &mut Vec<u32>, length: usize, word: u32) {
     if words.len() < length {
         words.resize(length, word);
     }
 }
 
 /// Writes a word where the slice has that place.
-fn put(words: &mut [u32], place: usize, word: u32) {
+pub fn put(words: &mut [u32], place: usize, word: u32) {
     if let Some(old) = words.get_mut(place) {
         *old = word;
     }
@@ -379,7 +383,7 @@ fn put_last(words: &mut [u32], word: u32) {
     }
 }
 
-fn set_bit(words: &mut [u32], place: usize, bit: u32) {
+pub fn set_bit(words: &mut [u32], place: usize, bit: u32) {
     if let Some(word) = words.get_mut(place) {
         *word |= 1 << bit;
     }

@@ -33,21 +33,28 @@ pub const RESULT_TOO_HIGH: Condition = Condition::second(24);
 /// has one child in a state, and leaves beside it, reaches the next one. So an exchange at the bottom of a comb changes the
 /// marks of everything above it, unless the replacement reaches the first state too.
 pub fn turning() -> Vec<u32> {
-    let mut table = vec![
-        TableWord::Head {
-            states: 3,
-            accepting: 0,
-        },
-        TableWord::Transition { symbol: 0, target: 0 },
-    ];
-    for (symbol, place) in combs() {
+    with_length_word(&turning_over(&[0, 1, 2, 3, 4]))
+}
+
+/// The words of that table but for its length, over an alphabet with these symbols, one of each arity in
+/// order.
+pub fn turning_over(symbols: &[usize; ARITY_LIMIT + 1]) -> Vec<TableWord> {
+    let transition = |arity: usize, target: usize| TableWord::Transition {
+        symbol: symbols[arity],
+        target,
+    };
+    let head = TableWord::Head {
+        states: 3,
+        accepting: 0,
+    };
+    let mut table = vec![head, transition(0, 0)];
+    for (arity, place) in combs() {
         for state in 0..3 {
-            let target = (state + 1) % 3;
-            table.push(TableWord::Transition { symbol, target });
-            table.extend((0..symbol).map(|child| TableWord::Child(if child == place { state } else { 0 })));
+            table.push(transition(arity, (state + 1) % 3));
+            table.extend((0..arity).map(|child| TableWord::Child(if child == place { state } else { 0 })));
         }
     }
-    with_length_word(&table)
+    table
 }
 
 /// Compares the call, and checks that it has these faults and no others.

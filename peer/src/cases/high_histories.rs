@@ -18,7 +18,9 @@ pub fn compare(comparison: &mut Comparison, seed: u64, cases: u64) {
         comparison.random_cases("high lists", seed, cases, |comparison, _, random| {
             let start = start(comparison, random);
             let calls = random.between(20, 40);
-            demand_3(comparison, random, start, calls, draw);
+            demand_3(comparison, random, start, calls, |_, random, call, place| {
+                draw(random, call, place);
+            });
         });
     });
 }

@@ -4,12 +4,12 @@
 
 use crate::automaton;
 use crate::call::Call;
-use crate::cases::random::{pattern, Pattern};
+use crate::cases::random::{pattern_over, Alphabets, Pattern};
 use crate::chance::Random;
 use crate::compare::Comparison;
 use crate::draw;
 use crate::exchange::splice;
-use crate::generate;
+use crate::generate::{self, holes};
 use crate::language::{Expression, Tree};
 use crate::marks::Table;
 use crate::postfix;
@@ -17,29 +17,35 @@ use crate::refusals;
 use crate::words::{self, Hex};
 
 /// The Exchange whose slices and count stay through a list of calls, and the expression of its table, if it has one.
-struct History {
-    call: Call,
-    expression: Option<Expression>,
+pub struct History {
+    pub call: Call,
+    pub expression: Option<Expression>,
 }
 
 pub fn compare(comparison: &mut Comparison, seed: u64, cases: u64) {
     comparison.random_cases("lists of exchanges", seed, cases, |comparison, case, random| {
         true_marks(comparison, random, 40, 12);
-        false_marks(comparison, random);
+        false_marks(comparison, random, generate::alphabet);
         if case % 200 == 0 {
             true_marks(comparison, random, 500, 400);
         }
     });
 }
 
-/// A rule's or any other table, a tree that Run marked, and slices with room to grow.
-fn start(comparison: &mut Comparison, random: &mut Random, budget: usize) -> History {
+/// A rule's or any other table over an alphabet that is drawn so, a tree that Run marked, and slices with
+/// room to grow.
+pub fn start(
+    comparison: &mut Comparison,
+    random: &mut Random,
+    budget: usize,
+    alphabets: Alphabets,
+) -> History {
     let (alphabet, expression, mut table) = if random.once_in(4) {
-        let alphabet = generate::alphabet(random);
+        let alphabet = alphabets(random);
         let table = generate::table(random, &alphabet);
         (alphabet, None, table)
     } else {
-        let Pattern { alphabet, expression } = pattern(random);
+        let Pattern { alphabet, expression } = pattern_over(random, alphabets);
         let table = automaton::table(&alphabet, &expression).expect("an expression");
         let read = Expression::read(&alphabet, &expression);
         (alphabet, read, table)
@@ -72,7 +78,7 @@ fn draw_tree(random: &mut Random, alphabet: &[u32], expression: &Option<Expressi
 }
 
 /// Draws an element and a replacement: mostly good, sometimes one or the other at fault.
-fn draw(random: &mut Random, call: &mut Call, expression: &Option<Expression>) {
+pub fn draw(random: &mut Random, call: &mut Call, expression: &Option<Expression>) {
     let count = call.count;
     call.node = match random.below(16) {
         0 => count,
@@ -85,7 +91,10 @@ fn draw(random: &mut Random, call: &mut Call, expression: &Option<Expression>) {
     } else {
         random.between(1, 10)
     };
-    let tree = draw_tree(random, &call.alphabet, expression, size);
+    let mut tree = draw_tree(random, &call.alphabet, expression, size);
+    if !words::holes(&call.alphabet).is_empty() && random.once_in(5) {
+        holes::put(random, &call.alphabet, &mut tree);
+    }
     call.replacement = words::node_words(&tree);
     match random.below(20) {
         0 => call.replacement.clear(),
@@ -105,9 +114,9 @@ fn step(comparison: &mut Comparison, wrong: &str, call: &mut Call) {
 }
 
 fn true_marks(comparison: &mut Comparison, random: &mut Random, budget: usize, calls: usize) {
-    let History { call, expression } = start(comparison, random, budget);
+    let History { call, expression } = start(comparison, random, budget, generate::alphabet);
     let calls = random.between(0, calls);
-    demand_3(comparison, random, call, calls, |random, call, _| {
+    demand_3(comparison, random, call, calls, |_, random, call, _| {
         draw(random, call, &expression);
     });
 }
@@ -119,11 +128,11 @@ pub fn demand_3(
     random: &mut Random,
     mut call: Call,
     calls: usize,
-    mut draw: impl FnMut(&mut Random, &mut Call, usize),
+    mut draw: impl FnMut(&mut Comparison, &mut Random, &mut Call, usize),
 ) {
     let mut plain = call.tree[..call.count].to_vec();
     for place in 0..calls {
-        draw(random, &mut call, place);
+        draw(comparison, random, &mut call, place);
         plain = plain_exchange(&call, &plain);
         step(comparison, "an exchange on true marks differs", &mut call);
     }
@@ -179,8 +188,8 @@ fn plain_exchange(call: &Call, plain: &[u32]) -> Vec<u32> {
 }
 
 /// Stored marks count as they stand: some or all of them are changed before and between the calls.
-fn false_marks(comparison: &mut Comparison, random: &mut Random) {
-    let History { mut call, expression } = start(comparison, random, 40);
+pub fn false_marks(comparison: &mut Comparison, random: &mut Random, alphabets: Alphabets) {
+    let History { mut call, expression } = start(comparison, random, 40, alphabets);
     if random.once_in(3) {
         call.sets = random.words(call.sets.len());
     }

@@ -1,13 +1,13 @@
 //! The program `marklist`: what it prints for an input of bytes, compared with what document 01 says, and that it ends
 //! well. The program's path is in HAQBYLUR_MARKLIST.
 
-use crate::cases::random::{pattern, Pattern};
-use crate::cases::{examples, limits};
+use crate::cases::random::{pattern_over, Alphabets, Pattern};
+use crate::cases::{examples, hole_inputs, limits};
 use crate::chance::Random;
 use crate::compare::Comparison;
 use crate::draw;
 use crate::driver::{Outcome, Program};
-use crate::generate;
+use crate::generate::{self, holes};
 use crate::language::Expression;
 use crate::limits::{
     CONSTANT_LIMIT, EXPRESSION_LIMIT, HEIGHT_LIMIT, NODE_LIMIT, PROGRAM_LIMIT, SYMBOL_LIMIT,
@@ -28,8 +28,12 @@ pub fn compare(comparison: &mut Comparison, path: &str, seed: u64, cases: u64) {
     early_ends(comparison, program);
     lengths(comparison, program);
     heights(comparison, program);
+    hole_inputs::compare(comparison, program);
     comparison.random_cases("inputs of marklist", seed, cases, |comparison, _, random| {
-        random_input(comparison, program, random);
+        random_input(comparison, program, random, generate::alphabet);
+    });
+    comparison.random_cases("inputs with holes", seed, cases, |comparison, _, random| {
+        random_input(comparison, program, random, holes::alphabet);
     });
 }
 
@@ -48,7 +52,8 @@ impl Compared<'_> {
     }
 }
 
-fn same(comparison: &mut Comparison, program: &mut Compared, wrong: &str, bytes: &[u8], ended: bool) {
+/// Compares a run of the program on these bytes, which end or go on.
+pub fn same(comparison: &mut Comparison, program: &mut Compared, wrong: &str, bytes: &[u8], ended: bool) {
     if program.hangs {
         return;
     }
@@ -191,18 +196,27 @@ fn heights(comparison: &mut Comparison, program: &mut Compared) {
     }
 }
 
-fn random_input(comparison: &mut Comparison, program: &mut Compared, random: &mut Random) {
+fn random_input(
+    comparison: &mut Comparison,
+    program: &mut Compared,
+    random: &mut Random,
+    alphabets: Alphabets,
+) {
     let Pattern {
         mut alphabet,
         mut expression,
-    } = pattern(random);
+    } = pattern_over(random, alphabets);
     let read = Expression::read(&alphabet, &expression).expect("an expression");
     let budget = if random.once_in(8) {
         random.between(PROGRAM_LIMIT - 56, PROGRAM_LIMIT + 14)
     } else {
         random.between(1, 40)
     };
-    let mut tree = words::node_words(&draw::planted_tree(random, &alphabet, &read, budget));
+    let mut tree = draw::planted_tree(random, &alphabet, &read, budget);
+    if !words::holes(&alphabet).is_empty() && random.once_in(4) {
+        holes::put(random, &alphabet, &mut tree);
+    }
+    let mut tree = words::node_words(&tree);
     match random.below(6) {
         0 => generate::flip(random, &mut alphabet),
         1 => generate::flip(random, &mut expression),

@@ -3,6 +3,7 @@
 
 use crate::automaton;
 use crate::call::Call;
+use crate::cases::holes::HOLE_IN_CHAPTER;
 use crate::chance::Random;
 use crate::compare::Comparison;
 use crate::draw;
@@ -21,9 +22,18 @@ pub struct Pattern {
     pub expression: Vec<u32>,
 }
 
+/// A pattern without holes.
 pub fn pattern(random: &mut Random) -> Pattern {
+    pattern_over(random, generate::alphabet)
+}
+
+/// A function that draws alphabets.
+pub type Alphabets = fn(&mut Random) -> Vec<u32>;
+
+/// A pattern over an alphabet that is drawn so.
+pub fn pattern_over(random: &mut Random, alphabets: Alphabets) -> Pattern {
     loop {
-        let alphabet = generate::alphabet(random);
+        let alphabet = alphabets(random);
         let budget = if random.once_in(12) {
             random.between(1, EXPRESSION_LIMIT)
         } else {
@@ -37,7 +47,7 @@ pub fn pattern(random: &mut Random) -> Pattern {
 }
 
 /// A length at, below or above the one that is needed.
-fn length_near(random: &mut Random, needed: usize) -> usize {
+pub fn length_near(random: &mut Random, needed: usize) -> usize {
     match random.below(8) {
         0 => needed - 1,
         1..=4 => needed,
@@ -47,19 +57,37 @@ fn length_near(random: &mut Random, needed: usize) -> usize {
 
 pub fn compare(comparison: &mut Comparison, seed: u64, cases: u64) {
     comparison.random_cases("rules and chapters", seed, cases, |comparison, case, random| {
-        pattern_case(comparison, random);
-        if case % 4 == 0 {
-            table_case(comparison, random);
-        }
-        if case % 16 == 0 {
-            literal_case(comparison, random);
-        }
+        cases_over(comparison, case, random, generate::alphabet);
     });
 }
 
+/// A pattern with the slice of its table, and a tree that was compared with it.
+pub struct Matched {
+    pub pattern: Pattern,
+    pub table: Vec<u32>,
+    pub tree: Tree,
+}
+
+/// A pattern over an alphabet that is drawn so, and a tree; sometimes also another table, or all small trees.
+pub fn cases_over(
+    comparison: &mut Comparison,
+    case: u64,
+    random: &mut Random,
+    alphabets: Alphabets,
+) -> Matched {
+    let matched = pattern_case(comparison, random, alphabets);
+    if case % 4 == 0 {
+        table_case(comparison, random, alphabets);
+    }
+    if case % 16 == 0 {
+        literal_case(comparison, random, alphabets);
+    }
+    matched
+}
+
 /// A rule and a tree: table, marks, list, and the language.
-fn pattern_case(comparison: &mut Comparison, random: &mut Random) {
-    let Pattern { alphabet, expression } = pattern(random);
+fn pattern_case(comparison: &mut Comparison, random: &mut Random, alphabets: Alphabets) -> Matched {
+    let Pattern { alphabet, expression } = pattern_over(random, alphabets);
     let mut table = automaton::table(&alphabet, &expression).expect("an expression");
     let length = length_near(random, table.len());
     let lent = random.words(length);
@@ -80,15 +108,17 @@ fn pattern_case(comparison: &mut Comparison, random: &mut Random) {
     };
     let tree = draw::planted_tree(random, &alphabet, &read, budget);
     let hits = marked_hits(comparison, random, &alphabet, &table, &tree);
-    let arities = words::arities(&alphabet);
-    let in_language = Membership::new(&read, alphabet.len()).subtrees(&tree, &arities);
-    comparison.check(
-        "the hits are not the subtrees in the language",
-        hits == in_language,
-        || input(&alphabet, &expression, &tree),
-    );
+    if !words::has_hole(&alphabet, &tree) {
+        let arities = words::arities(&alphabet);
+        let in_language = Membership::new(&read, alphabet.len()).subtrees(&tree, &arities);
+        comparison.check(
+            "the hits are not the subtrees in the language",
+            hits == in_language,
+            || input(&alphabet, &expression, &tree),
+        );
+    }
 
-    if let Some(member) = draw::member(random, &read, 40) {
+    if let Some(member) = draw::hole_free_member(random, &alphabet, &read, 40) {
         let hits = marked_hits(comparison, random, &alphabet, &table, &member);
         comparison.check(
             "a member of the language is no hit",
@@ -96,11 +126,13 @@ fn pattern_case(comparison: &mut Comparison, random: &mut Random) {
             || input(&alphabet, &expression, &member),
         );
     }
+    let pattern = Pattern { alphabet, expression };
+    Matched { pattern, table, tree }
 }
 
 /// A table that need not come from a rule.
-fn table_case(comparison: &mut Comparison, random: &mut Random) {
-    let alphabet = generate::alphabet(random);
+fn table_case(comparison: &mut Comparison, random: &mut Random, alphabets: Alphabets) {
+    let alphabet = alphabets(random);
     let mut table = generate::table(random, &alphabet);
     table.extend(generate::behind(random));
     let budget = random.between(1, 30);
@@ -108,8 +140,9 @@ fn table_case(comparison: &mut Comparison, random: &mut Random) {
     marked_hits(comparison, random, &alphabet, &table, &tree);
 }
 
-/// Runs and lists, with slices of many lengths that hold anything before; answers which nodes are hits.
-fn marked_hits(
+/// Runs and lists, with slices of many lengths that hold anything before; answers which nodes are hits. Run
+/// refuses by 26 exactly where the tree has a hole; List does not see the tree.
+pub fn marked_hits(
     comparison: &mut Comparison,
     random: &mut Random,
     alphabet: &[u32],
@@ -121,10 +154,12 @@ fn marked_hits(
     let needed = tree.len() * read.width();
     let length = length_near(random, needed);
     let lent = random.words(length);
-    comparison.call(
-        "a tree has other marks",
-        &Call::run(alphabet, table, &tree_words, lent),
-    );
+    let run = Call::run(alphabet, table, &tree_words, lent);
+    let is_refused = comparison.call("a tree has other marks", &run).number == HOLE_IN_CHAPTER.number;
+    let wrong = "a tree is taken with a hole, or refused for one that it has not";
+    comparison.check(wrong, is_refused == words::has_hole(alphabet, tree), || {
+        run.to_string()
+    });
 
     let sets = model::state_sets(alphabet, &read, &tree_words);
     let length = length_near(random, tree.len());
@@ -136,9 +171,10 @@ fn marked_hits(
     sets.chunks(read.width()).map(|own| read.is_match(own)).collect()
 }
 
-/// All trees up to a size: members by the literal reading, members by the decision, and hits.
-fn literal_case(comparison: &mut Comparison, random: &mut Random) {
-    let Pattern { alphabet, expression } = pattern(random);
+/// All trees up to a size, those with holes too: members by the literal reading, members by the decision, and
+/// hits.
+fn literal_case(comparison: &mut Comparison, random: &mut Random, alphabets: Alphabets) {
+    let Pattern { alphabet, expression } = pattern_over(random, alphabets);
     let arities = words::arities(&alphabet);
     let read = Expression::read(&alphabet, &expression).expect("an expression");
     let limit = literal::size_with_at_most(&arities, 250);

@@ -3,7 +3,7 @@
 
 use crate::cases::examples::{A, F, G};
 use crate::language::Tree;
-use crate::limits::ARITY_LIMIT;
+use crate::limits::{ARITY_LIMIT, HEIGHT_LIMIT};
 use crate::postfix;
 use crate::words::node_word;
 
@@ -32,11 +32,20 @@ pub fn chain(height: usize) -> Tree {
 
 /// So many nodes, none or more, in a tree that is hardly higher than it must be with arities of at most 2.
 pub fn low(nodes: usize) -> Tree {
+    let mut shape = Vec::with_capacity(nodes);
+    push_low(&mut shape, nodes);
+    shape
+}
+
+fn push_low(shape: &mut Tree, nodes: usize) {
     if nodes < 3 {
-        return postfix::chain(0, 1, nodes);
+        shape.extend(&[0, 1][..nodes]);
+        return;
     }
     let first = (nodes - 1) / 2;
-    [low(first), low(nodes - 1 - first), vec![2]].concat()
+    push_low(shape, first);
+    push_low(shape, nodes - 1 - first);
+    shape.push(2);
 }
 
 /// How high that tree is: one more than its larger part.
@@ -66,6 +75,32 @@ pub fn chain_over_low(nodes: usize, height: usize) -> Tree {
     let is_so_high = |above: &usize| above + low_height(nodes - above) == height;
     let above = (0..nodes).find(is_so_high).expect("a chain");
     [low(nodes - above), vec![1; above]].concat()
+}
+
+/// So many nodes with a leaf at this place, which may not be the last of more than one: what stands before
+/// the leaf and behind it is made by `part`.
+pub fn with_leaf(nodes: usize, place: usize, part: fn(usize) -> Tree) -> Tree {
+    if place == 0 {
+        return part(nodes);
+    }
+    let mut shape = [part(place), vec![0, 2]].concat();
+    let rest = nodes - shape.len();
+    if rest >= 2 {
+        shape.extend(part(rest - 1));
+    }
+    if rest >= 1 {
+        shape.push(rest.min(2));
+    }
+    shape
+}
+
+/// So many nodes, in a chain unless that would be too high: then it has a low tree beside it.
+pub fn high(nodes: usize) -> Tree {
+    const HIGH: usize = HEIGHT_LIMIT - 12;
+    if nodes <= HIGH {
+        return chain(nodes);
+    }
+    chain_beside_low(nodes, HIGH, true)
 }
 
 pub fn shape_children(shape: &[usize]) -> Vec<Vec<usize>> {
