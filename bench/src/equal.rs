@@ -1,12 +1,14 @@
 //! Before anything is timed: the library, the two simulations and the incremental Exchange give what the model gives, on
-//! every call that is to be timed, and the incremental Exchange on random, damaged and refused calls too.
+//! every call that is to be timed; the incremental Exchange on random, damaged and refused calls too, and where the alphabet
+//! has holes, with one in the chapter or in the replacement.
 
 use crate::exchanges;
 use crate::incremental::Incremental;
 use crate::runs::SIMULATIONS;
-use crate::workloads::Workload;
+use crate::workloads::{self, Workload};
 use peer::call::{Answer, Call};
 use peer::cases::{damage, faults, heights, histories, length_words, lengths, packed, raised};
+use peer::cases::{hole_histories, hole_places, holes};
 use peer::compare::Comparison;
 use peer::library;
 use peer::model;
@@ -27,11 +29,29 @@ pub fn all(workloads: &[Workload]) -> bool {
         exchanges::compare(&mut library, work);
         exchanges::compare(&mut incremental, work);
     }
-    simulations_agree && library.differences() == 0 && incremental.differences() == 0
+    let pairs_agree = with_holes(&workloads::with_holes());
+    simulations_agree && pairs_agree && library.differences() == 0 && incremental.differences() == 0
+}
+
+/// Whether the library and the incremental Exchange are right on pairs of workloads, without and with holes in the alphabet;
+/// prints where not.
+pub fn with_holes(pairs: &[[Workload; 2]]) -> bool {
+    let mut library = Comparison::with(library::matcher());
+    let mut incremental = Comparison::with(Box::new(Incremental));
+    for [unmarked, marked] in pairs {
+        for work in [unmarked, marked] {
+            timed(&mut library, work);
+            exchanges::compare(&mut library, work);
+            exchanges::compare(&mut incremental, work);
+        }
+        holed(&mut library, marked);
+        holed(&mut incremental, marked);
+    }
+    library.differences() == 0 && incremental.differences() == 0
 }
 
 /// Every pair of faults, changed bits, lists of exchanges, slices of all lengths, tables in longer slices, chapters and results
-/// around the greatest height; every number is answered.
+/// around the greatest height, alphabets with holes, and holes at all places; every number is answered.
 fn untimed(comparison: &mut Comparison) {
     faults::compare(comparison);
     damage::compare(comparison, SEED, CASES);
@@ -41,6 +61,9 @@ fn untimed(comparison: &mut Comparison) {
     packed::compare(comparison);
     heights::compare(comparison);
     raised::compare(comparison);
+    holes::compare(comparison);
+    hole_places::compare(comparison);
+    hole_histories::compare(comparison, SEED, CASES);
     comparison.check_numbers();
 }
 
@@ -73,6 +96,31 @@ fn timed(comparison: &mut Comparison, work: &Workload) {
         let lent = vec![0; work.table.len()];
         let call = Call::compile(&work.alphabet, &work.expression, lent);
         accepted(comparison, work, &call);
+    }
+}
+
+/// A hole in the place of the first leaf and of the last, for Run and for Exchange, and one as the replacement.
+fn holed(comparison: &mut Comparison, work: &Workload) {
+    let hole = words::node_word(words::holes(&work.alphabet)[0]);
+    let leaves = words::node_words(&words::leaves(&work.alphabet));
+    let is_leaf = |node: &usize| leaves.contains(&work.tree[*node]);
+    let places: Vec<usize> = (0..work.tree.len()).filter(is_leaf).collect();
+    let exchange = |tree: Vec<u32>, replacement: u32| Call {
+        tree,
+        replacement: vec![replacement],
+        ..exchanges::exchange(work)
+    };
+    let mut calls = vec![exchange(work.tree.clone(), hole)];
+    for place in [places[0], places[places.len() - 1]] {
+        let mut tree = work.tree.clone();
+        tree[place] = hole;
+        let lent = vec![0; tree.len() * work.width()];
+        calls.push(Call::run(&work.alphabet, &work.table, &tree, lent));
+        calls.push(exchange(tree, leaves[0]));
+    }
+    for call in calls {
+        let answer = comparison.call(work.name, &call);
+        comparison.check("a hole is not refused", answer.number == 26, || call.to_string());
     }
 }
 

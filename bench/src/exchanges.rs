@@ -36,11 +36,11 @@ fn pair(work: &Workload, sizes: &[usize], node: usize, replacement: Vec<u32>) ->
     }
 }
 
-/// Sixteen leaves spread over the chapter, or as many as there are, each for another constant.
+/// Sixteen leaves spread over the chapter, or as many as there are, each for another constant that is no hole.
 fn leaves(work: &Workload) -> Vec<Pair> {
     let sizes = sizes(work);
     let all: Vec<usize> = (0..work.tree.len()).filter(|node| sizes[*node] == 1).collect();
-    let constants = words::constants(&work.alphabet);
+    let constants = words::leaves(&work.replacements);
     all.iter()
         .step_by(all.len().div_ceil(16))
         .map(|node| {
@@ -60,12 +60,12 @@ fn subtree(work: &Workload) -> Vec<Pair> {
     let node = (0..sizes.len())
         .min_by_key(|node| sizes[*node].abs_diff(100))
         .expect("a node");
-    let replacement = generate::tree(&mut Random::new(100), &work.alphabet, sizes[node]);
+    let replacement = generate::tree(&mut Random::new(100), &work.replacements, sizes[node]);
     vec![pair(work, &sizes, node, words::node_words(&replacement))]
 }
 
 /// An Exchange on the chapter as Run leaves it; the element and the replacement are to be set.
-fn exchange(work: &Workload) -> Call {
+pub fn exchange(work: &Workload) -> Call {
     let read = work.read_table();
     let sets = model::state_sets(&work.alphabet, &read, &work.tree);
     let tree = work.tree.clone();

@@ -1,7 +1,7 @@
 //! Exchange as it would be written for speed without a proof: the refusals of documents 01 and 02 in order, then the
 //! splice, and the replacement's nodes and the ancestors worked out by the textbook node step. Nothing is kept between
-//! calls. The words of the chapter are read once for their shape and once for their height; of the result no height is
-//! worked out, but at most the place's ancestors are counted.
+//! calls. The words of the chapter are read once for their shape and once for their height, and where the alphabet has
+//! holes, once for these; of the result no height is worked out, but at most the place's ancestors are counted.
 
 mod moves;
 mod shape;
@@ -60,6 +60,9 @@ fn check(alphabet: &Alphabet, moves: &Moves, call: &Call) -> Result<Place, u32> 
     if height > HEIGHT_LIMIT {
         return Err(24);
     }
+    if alphabet.is_holed(&call.tree[..count]) {
+        return Err(26);
+    }
     if call.sets.len() < count * moves.width {
         return Err(12);
     }
@@ -71,6 +74,9 @@ fn check(alphabet: &Alphabet, moves: &Moves, call: &Call) -> Result<Place, u32> 
         return Err(15);
     }
     let replacement = Shape::check(alphabet, &call.replacement).map_err(|_| 15_u32)?;
+    if alphabet.is_holed(&call.replacement) {
+        return Err(26);
+    }
     let old = shape.subtree(call.node);
     let root = old.start + nodes - 1;
     let result = root + count - call.node;

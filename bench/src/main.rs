@@ -1,7 +1,8 @@
 //! Times Run, Exchange and Compile of the library beside two other simulations and an incremental Exchange on the same
 //! inputs, after checking that all results are equal: `bench [MILLISECONDS]`, the length of one batch. Prints tables of
-//! times and ratios, and what the ratios are held to. `bench beside OTHER` times the library beside that of another build of
-//! this program; both are started as `bench batch`, which prints the time of one batch of each call.
+//! times and ratios, and what the ratios are held to. `bench holes` times the library over an alphabet with holes beside the
+//! same without their marks. `bench beside OTHER` times the library beside that of another build of this program; both are
+//! started as `bench batch`, which prints the time of one batch of each call.
 //! HAQBYLUR_LIB_DIR names the folder of the static library when this is built.
 
 mod automaton;
@@ -12,6 +13,7 @@ mod compiles;
 mod consed;
 mod equal;
 mod exchanges;
+mod holes;
 mod incremental;
 mod measure;
 mod runs;
@@ -28,7 +30,7 @@ use std::time::Duration;
 /// The length of a batch where none is given.
 const MILLISECONDS: u64 = 5;
 
-const USAGE: &str = "the arguments are [MILLISECONDS], beside OTHER or batch";
+const USAGE: &str = "the arguments are [MILLISECONDS], holes, beside OTHER or batch";
 
 fn main() -> ExitCode {
     if !library::LINKED {
@@ -41,6 +43,7 @@ fn main() -> ExitCode {
             beside::print_batch(&measure(MILLISECONDS, 1), &workloads::all());
             ExitCode::SUCCESS
         }
+        ["holes"] => print_holes(),
         ["beside", other] => match beside::print(Path::new(other)) {
             Ok(()) => ExitCode::SUCCESS,
             Err(error) => failed(&error),
@@ -63,6 +66,15 @@ fn measure(milliseconds: u64, batches: usize) -> Measure {
         batch: Duration::from_millis(milliseconds),
         batches,
     }
+}
+
+fn print_holes() -> ExitCode {
+    let pairs = workloads::with_holes();
+    if !equal::with_holes(&pairs) {
+        return ExitCode::FAILURE;
+    }
+    holes::print(&measure(MILLISECONDS, 1), &pairs);
+    ExitCode::SUCCESS
 }
 
 fn print_tables(milliseconds: u64) -> ExitCode {

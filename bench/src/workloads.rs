@@ -3,6 +3,7 @@
 use crate::books;
 use crate::byhand;
 use peer::automaton;
+use peer::cases::holes::source_with;
 use peer::cases::{examples, largest};
 use peer::chance::Random;
 use peer::generate;
@@ -11,9 +12,12 @@ use peer::marks::Table;
 use peer::postfix;
 use peer::words::{self, entry_word, Operator};
 
+#[derive(Clone)]
 pub struct Workload {
     pub name: &'static str,
     pub alphabet: Vec<u32>,
+    /// The alphabet over which replacements are made.
+    pub replacements: Vec<u32>,
     pub expression: Vec<u32>,
     pub table: Vec<u32>,
     pub tree: Vec<u32>,
@@ -48,6 +52,7 @@ impl Workload {
         });
         Workload {
             name,
+            replacements: alphabet.clone(),
             alphabet,
             expression: Vec::new(),
             table,
@@ -90,6 +95,24 @@ pub fn all() -> Vec<Workload> {
         Workload::new("book, many sets", books::emphasis_at_sixteen(), books::random),
         Workload::with_table("table by hand, chains", byhand::table(), byhand::chains),
     ]
+}
+
+/// The source's rule over its alphabet with the constants that the rule names as holes, on a random chapter of the most
+/// elements and on one of 500; before each, the same without the marks. No chapter and no replacement has a hole.
+pub fn with_holes() -> [[Workload; 2]; 2] {
+    let source = || (source_with(&[examples::C, examples::D]), examples::expression());
+    let few = |alphabet: &[u32], nodes: usize| random_tree(alphabet, nodes * 500 / NODE_LIMIT);
+    let works = [
+        Workload::new("source's rule with holes, random", source(), random_tree),
+        Workload::new("source's rule with holes, 500 elements", source(), few),
+    ];
+    works.map(|work| {
+        let unmarked = Workload {
+            alphabet: examples::alphabet(),
+            ..work.clone()
+        };
+        [unmarked, work]
+    })
 }
 
 fn random_tree(alphabet: &[u32], nodes: usize) -> Vec<usize> {

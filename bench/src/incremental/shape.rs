@@ -1,13 +1,14 @@
 //! The alphabet and the trees over it, checked: one pass over a tree's words leaves one number a word, from which the
 //! subtree, the parent, the children and the ancestors of a node and the tree's height are found.
 
-use peer::kinds::{self, ENTRY, NODE};
+use peer::kinds::{self, ENTRY, HOLE, NODE};
 use peer::limits::{ARITY_LIMIT, CONSTANT_LIMIT, SYMBOL_LIMIT};
 
-/// A checked alphabet: how many symbols it has, and their arities.
+/// A checked alphabet: how many symbols it has, their arities, and a bit for each, which is set where it is a hole.
 pub struct Alphabet {
     symbols: u32,
     arities: [u8; SYMBOL_LIMIT],
+    holes: u64,
 }
 
 impl Alphabet {
@@ -18,8 +19,13 @@ impl Alphabet {
         }
         let mut arities = [0; SYMBOL_LIMIT];
         let mut constants = 0;
-        for (arity, word) in arities.iter_mut().zip(words) {
-            let own = word ^ kinds::word(ENTRY);
+        let mut holes = 0;
+        for (symbol, (arity, word)) in arities.iter_mut().zip(words).enumerate() {
+            let mut own = word ^ kinds::word(ENTRY);
+            if own == HOLE {
+                holes |= 1 << symbol;
+                own = 0;
+            }
             if own > ARITY_LIMIT as u32 {
                 return Err(1);
             }
@@ -32,6 +38,7 @@ impl Alphabet {
         Ok(Alphabet {
             symbols: words.len() as u32,
             arities,
+            holes,
         })
     }
 
@@ -42,6 +49,11 @@ impl Alphabet {
 
     pub fn has(&self, symbol: u32) -> bool {
         symbol < self.symbols
+    }
+
+    /// Whether a tree over the alphabet holds a hole. Its words are looked at only where the alphabet has one.
+    pub fn is_holed(&self, tree: &[u32]) -> bool {
+        self.holes != 0 && tree.iter().any(|word| self.holes >> symbol(*word) & 1 == 1)
     }
 }
 
