@@ -1,5 +1,5 @@
-"""Document 01's words and limits and document 02's length word (U1) and height (U6), each number once, for words.py and ./judge. A
-word has its kind in bits 31..28 and the kind's fields below; every other bit is zero."""
+"""Document 01's words and limits and document 02's length word (U1), height (U6) and holes (U8), each number once, for words.py
+and ./judge. A word has its kind in bits 31..28 and the kind's fields below; every other bit is zero."""
 
 # ---- kinds
 
@@ -21,10 +21,12 @@ LENGTH = 12
 
 # The bits of each kind's fields. In a word of a table, but for its length, the lowest STATE_BITS are a state.
 FIELDS = {
-    ENTRY: 0xFF, SYMBOL: 0xFF, EMPTY: 0, UNION: 0, PRODUCT: 0xFF, CLOSURE: 0xFF, ELEMENT: 0xFF,
+    ENTRY: 0x1FF, SYMBOL: 0xFF, EMPTY: 0, UNION: 0, PRODUCT: 0xFF, CLOSURE: 0xFF, ELEMENT: 0xFF,
     HEAD: 0x1FFFFF, SYMBOL_MOVE: 0x3FFFF, EMPTY_MOVE: 0xFFFFF, PART: 0x3FF, LENGTH: 0xFFF,
 }
 STATE_BITS = 10
+# The bit of an alphabet entry that marks a hole, which is a constant.
+HOLE = 0x100
 
 # How many rules a rule word takes, but for a symbol, which takes as many as its rank; and those over a constant.
 OPERANDS = {EMPTY: 0, UNION: 2, PRODUCT: 2, CLOSURE: 1}
@@ -94,11 +96,25 @@ def is_of(of_kind, w):
 
 
 def is_entry(w):
-    return is_of(ENTRY, w) and low_byte(w) <= MOST_RANK
+    return is_of(ENTRY, w) and low_byte(w) <= (0 if marks_hole(w) else MOST_RANK)
+
+
+def marks_hole(w):
+    return w & HOLE != 0
 
 
 def constants(alphabet):
+    """Holes are among them."""
     return [symbol for symbol, w in enumerate(alphabet) if low_byte(w) == 0]
+
+
+def holes(alphabet):
+    return [symbol for symbol, w in enumerate(alphabet) if marks_hole(w)]
+
+
+def nameable(alphabet):
+    """What a product or a closure may name: the holes, or any constant where there are none."""
+    return holes(alphabet) or constants(alphabet)
 
 
 def is_rule_word(alphabet, w):
@@ -106,11 +122,17 @@ def is_rule_word(alphabet, w):
         return False
     if kind(w) == SYMBOL:
         return low_byte(w) < len(alphabet)
-    return kind(w) not in OVER_CONSTANT or low_byte(w) in constants(alphabet)
+    return kind(w) not in OVER_CONSTANT or low_byte(w) in nameable(alphabet)
 
 
 def is_element(alphabet, w):
     return is_of(ELEMENT, w) and low_byte(w) < len(alphabet)
+
+
+def has_hole(alphabet, tree):
+    """Whether an element is a hole."""
+    marked = holes(alphabet)
+    return any(low_byte(w) in marked for w in tree)
 
 
 def arity(alphabet, w):

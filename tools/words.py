@@ -5,8 +5,10 @@
     words.py show [INPUT] [NAMES]   an input as text; NAMES is a text from whose alphabet the symbols take their names
     words.py hits INPUT OUTPUT [NAMES]   what marklist printed of the input, with each hit's subtree beside it
 
-`-` is standard input, as is TEXT or INPUT where `make` or `show` gets none. docs/BENCH.md describes the text. What `show`
-prints, `make` turns back into the very same bytes, whatever they are. The status is 0, 1 for a wrong file, 2 for wrong usage.
+`-` is standard input, as is TEXT or INPUT where `make` or `show` gets none. docs/BENCH.md describes the text. Its alphabet is
+NAME/RANK for each symbol, and NAME/hole for a hole, which is a constant; where there is one, products and closures are over holes
+alone. What `show` prints, `make` turns back into the very same bytes, whatever they are. The status is 0, 1 for a wrong file, 2
+for wrong usage.
 """
 
 import os
@@ -16,11 +18,13 @@ import sys
 
 sys.dont_write_bytecode = True
 
-from document01 import (CLOSURE, ELEMENT, EMPTY, ENTRY, MOST_ELEMENTS, MOST_RANK, PRODUCT, SYMBOL, UNION, arity,  # noqa: E402
-                        is_element, is_entry, is_rule_word, kind, low_byte, word)
+from document01 import (CLOSURE, ELEMENT, EMPTY, ENTRY, HOLE, MOST_ELEMENTS, MOST_RANK, PRODUCT, SYMBOL, UNION,  # noqa: E402
+                        arity, holes, is_element, is_entry, is_rule_word, kind, low_byte, nameable, word)
 
 SECTIONS = ("alphabet", "rule", "chapter")
 NAME = r"[A-Za-z][A-Za-z0-9_]*"
+# What stands behind a symbol's name in the alphabet: its rank, or for a hole this word.
+ENTRIES = {**{str(rank): word(ENTRY, rank) for rank in range(MOST_RANK + 1)}, "hole": word(ENTRY, HOLE)}
 
 
 class Wrong(Exception):
@@ -28,10 +32,10 @@ class Wrong(Exception):
 
 
 class Alphabet:
-    """Names and ranks of the symbols, by symbol number."""
+    """Names, words and ranks of the symbols, by symbol number."""
 
-    def __init__(self, names, ranks):
-        self.names, self.ranks = names, ranks
+    def __init__(self, names, words):
+        self.names, self.words, self.ranks = names, words, [low_byte(w) for w in words]
         self.numbers = {name: number for number, name in enumerate(names)}
         if len(self.numbers) < len(names):
             raise Wrong("a name stands twice in the alphabet")
@@ -44,10 +48,11 @@ class Alphabet:
         names = names or ["s%d" % i for i in range(len(words))]
         if len(names) != len(words):
             raise Wrong("the names are those of %d symbols, the input has %d" % (len(names), len(words)))
-        return Alphabet(names, [low_byte(w) for w in words])
+        return Alphabet(names, words)
 
-    def words(self):
-        return [word(ENTRY, rank) for rank in self.ranks]
+    def shown(self):
+        written = {w: text for text, w in ENTRIES.items()}
+        return "".join(" %s/%s" % (name, written[w]) for name, w in zip(self.names, self.words))
 
     def number(self, name):
         if name not in self.numbers:
@@ -55,9 +60,10 @@ class Alphabet:
         return self.numbers[name]
 
     def constant(self, name):
+        """One that a product or a closure may name."""
         number = self.number(name)
-        if self.ranks[number] != 0:
-            raise Wrong("no constant: " + name)
+        if number not in nameable(self.words):
+            raise Wrong("no %s: %s" % ("hole" if holes(self.words) else "constant", name))
         return number
 
 
@@ -183,10 +189,10 @@ def read_bytes(text):
 
 
 def read_alphabet(text):
-    items = [re.fullmatch(r"(%s)/([0-%d])" % (NAME, MOST_RANK), item) for item in text.split()]
+    items = [re.fullmatch(r"(%s)/(%s)" % (NAME, "|".join(ENTRIES)), item) for item in text.split()]
     if not items or not all(items):
-        raise Wrong("the alphabet is NAME/RANK, with ranks 0 to %d, or words 0x.." % MOST_RANK)
-    return Alphabet([item[1] for item in items], [int(item[2]) for item in items])
+        raise Wrong("the alphabet is NAME/RANK, with ranks 0 to %d, and NAME/hole, or words 0x.." % MOST_RANK)
+    return Alphabet([item[1] for item in items], [ENTRIES[item[2]] for item in items])
 
 
 def sections_of(text):
@@ -227,7 +233,7 @@ def make(text):
                     alphabet = Alphabet.of_words(words[name])
             elif name == "alphabet":
                 alphabet = read_alphabet(section)
-                words[name] = alphabet.words()
+                words[name] = alphabet.words
             else:
                 words[name] = read(alphabet, section)
         except Wrong as error:
@@ -245,11 +251,11 @@ def make(text):
 
 def fold(alphabet, words, is_word, write):
     """Reads postfix words with a stack; `write` gets each word's index and what stands for its parts."""
-    stack, entries = [], alphabet.words()
+    stack = []
     for i, w in enumerate(words):
-        if not is_word(entries, w) or arity(entries, w) > len(stack):
+        if not is_word(alphabet.words, w) or arity(alphabet.words, w) > len(stack):
             raise Wrong("0x%08x" % w)
-        first = len(stack) - arity(entries, w)
+        first = len(stack) - arity(alphabet.words, w)
         stack[first:] = [write(i, stack[first:])]
     if len(stack) != 1:
         raise Wrong("no single tree")
@@ -315,7 +321,7 @@ def show(data, names=None):
     alphabet = None
     try:
         alphabet = Alphabet.of_words(sections[0], names)
-        shown = "".join(" %s/%d" % pair for pair in zip(alphabet.names, alphabet.ranks))
+        shown = alphabet.shown()
     except Wrong:
         if names:
             raise

@@ -138,6 +138,8 @@ class Words(unittest.TestCase):
             self.same_again(data + bytes(chance.randrange(256) for _ in range(chance.randrange(1, 9))))
             at = chance.randrange(len(data))
             self.same_again(data[:at] + bytes([chance.randrange(256)]) + data[at + 1:])
+            marked = [3 + symbol for symbol in range(len(entries)) if chance.random() < 0.3]
+            self.same_again(struct.pack("<%dI" % len(numbers), *(w | words.HOLE * (i in marked) for i, w in enumerate(numbers))))
         self.assertGreater(whole, 400)
 
     def test_random_bytes(self):
@@ -213,13 +215,42 @@ class Words(unittest.TestCase):
         self.same_again(data)
         self.assertEqual(words.hits(data, "refused 24\n"), "refused 24\n")
 
+    def test_holes(self):
+        """They are named as any constant, in a chapter too, which is refused with 26."""
+        data = words.make("alphabet: a/0 x/hole y/hole f/2\nrule: f(x, y)*y .x: a + x\nchapter: f(a, x)\n")
+        self.assertEqual(struct.unpack("<4I", data[12:28]), (0x10000000, 0x10000100, 0x10000100, 0x10000002))
+        self.assertEqual(words.show(data, ["a", "x", "y", "f"]), "alphabet: a/0 x/hole y/hole f/2\nrule: f(x, y)*y .x: a + x\n"
+                         "chapter:\n  0: a\n  1: x\n  2: f(0,1)\n")
+        self.same_again(data)
+        self.assertEqual(words.hits(data, "refused 26\n"), "refused 26\n")
+
+    def test_what_is_over_no_hole(self):
+        """Where the alphabet has a hole, a product or closure over another constant stands in words alone."""
+        for rule in ("f(a, x)*a", "f(a, x) .a: x", "f(a, x)*f"):
+            with self.assertRaisesRegex(words.Wrong, "rule: no hole: [af]", msg=rule):
+                words.make("alphabet: a/0 x/hole f/2\nrule: %s\nchapter: a\n" % rule)
+        data = words.make("alphabet: a/0 x/hole\nrule: 0x20000001 0x60000000\nchapter: a\n")
+        self.assertIn("alphabet: s0/0 s1/hole\nrule: 0x20000001 0x60000000\n", words.show(data))
+        self.same_again(data)
+
+    def test_marks_of_no_hole(self):
+        """With a rank above 0 the mark makes no entry."""
+        for text in ("a/0 g/hole1", "a/0 g/1hole", "a/0 g/Hole", "a/0 g/256"):
+            with self.assertRaisesRegex(words.Wrong, "NAME/hole", msg=text):
+                words.make("alphabet: %s\nrule: a\nchapter: a\n" % text)
+        data = words.make("alphabet: 0x10000000 0x10000101\nrule: 0x20000000\nchapter: 0x70000000\n")
+        self.assertIn("alphabet: 0x10000000 0x10000101\n", words.show(data))
+        self.same_again(data)
+
     def test_limits(self):
-        """The limits are those of the C header, which also has the largest compiled table."""
+        """The limits are those of the C header, which also has the largest compiled table; so is the mark of a hole."""
         with open(os.path.join(ROOT, "include", "haqbylur.h")) as file:
-            stated = dict(re.findall(r"^#define HAQBYLUR_(MOST_\w+) (\d+)u$", file.read(), re.M))
+            header = file.read()
+        stated = dict(re.findall(r"^#define HAQBYLUR_(MOST_\w+) (\d+)u$", header, re.M))
         del stated["MOST_COMPILED_WORDS"]
         own = {name: str(value) for name, value in vars(document01).items() if name.startswith("MOST_")}
         self.assertEqual(own, stated)
+        self.assertIn("#define HAQBYLUR_HOLE_BIT 0x%xu\n" % document01.HOLE, header)
 
 
 if __name__ == "__main__":

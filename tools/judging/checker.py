@@ -45,32 +45,42 @@ def unfoldable():
     return names
 
 
-def lay_out(scratch, text):
-    """Writes the scratch repository: the published definitions, and the certificate as a crate above them. What serves the code
-    alone (CODE) is left out: there is no code here, and no crate of it."""
-    for crate in PUBLISHED:
+def add_crate(scratch, crate, below):
+    """A crate that has no code, above those that are named."""
+    (scratch / 'crates' / crate / 'src').mkdir()
+    (scratch / 'crates' / crate / 'src' / 'lib.rt').write_text('')
+    with open(scratch / 'crates.txt', 'a', encoding='utf-8') as crates:
+        crates.write(f'{crate}: {below}\n')
+
+
+def publish(scratch):
+    """Writes the published definitions into the scratch repository. What serves the code alone (CODE) is left out: there is no
+    code here, and no crate of it."""
+    for crate, below in PUBLISHED.items():
         specs = scratch / 'crates' / crate / 'specs'
         shutil.copytree(HOME / 'crates' / crate / 'specs', specs)
         for name in CODE.get(crate, ()):
             (specs / f'{name}.antt').unlink()
             listed = (specs / 'Lib.antt').read_text(encoding='utf-8')
             (specs / 'Lib.antt').write_text(listed.replace(f'pub mod {name}\n', ''), encoding='utf-8')
+        add_crate(scratch, crate, below)
+
+
+def lay_out(scratch, text):
+    """Writes the scratch repository: the published definitions, and the certificate as a crate above them."""
+    publish(scratch)
     certificate = scratch / 'crates' / 'certificate' / 'specs'
     certificate.mkdir(parents=True)
     (certificate / 'Lib.antt').write_text('pub mod Certificate\n')
     (certificate / 'Certificate.antt').write_text(text, encoding='utf-8')
-    listed = {**PUBLISHED, 'certificate': ' '.join(PUBLISHED)}
-    for crate in listed:
-        (scratch / 'crates' / crate / 'src').mkdir()
-        (scratch / 'crates' / crate / 'src' / 'lib.rt').write_text('')
-    (scratch / 'crates.txt').write_text(''.join(f'{crate}: {below}\n' for crate, below in listed.items()))
+    add_crate(scratch, 'certificate', ' '.join(PUBLISHED))
 
 
-def run(scratch):
+def run(scratch, crate='certificate'):
     """Runs the checker, with a line of progress every ten seconds; gives its status and what it said."""
     log = scratch / 'log'
     with open(log, 'wb') as out:
-        process = subprocess.Popen(['rt', 'check', 'certificate'], cwd=scratch, stdin=subprocess.DEVNULL, stdout=out,
+        process = subprocess.Popen(['rt', 'check', crate], cwd=scratch, stdin=subprocess.DEVNULL, stdout=out,
                                    stderr=subprocess.STDOUT, env={**os.environ, 'RT_JOBS': '1', 'RT_CUT': '400'},
                                    start_new_session=True)
         began = time.monotonic()

@@ -1,9 +1,10 @@
-"""The refusals of documents 01 and 02 (U1, U6): lists of a number and whether its condition holds, in the order in which they are
-judged. A condition is worked out only where none before it holds. Nothing here is trusted: the checker computes the definition."""
+"""The refusals of documents 01 and 02 (U1, U6, U8): lists of a number and whether its condition holds, in the order in which they
+are judged. A condition is worked out only where none before it holds. Nothing here is trusted: the checker computes the
+definition."""
 
 from document01 import (EMPTY_MOVE, HEAD, LENGTH, MOST_CONSTANTS, MOST_ELEMENTS, MOST_HEIGHT, MOST_RULE_WORDS, MOST_STATES,
-                        MOST_SYMBOLS, MOST_TABLE_WORDS, PART, SYMBOL_MOVE, arity, constants, is_element, is_entry, is_of,
-                        is_rule_word, length_in, low_byte, state_in, upper_in)
+                        MOST_SYMBOLS, MOST_TABLE_WORDS, PART, SYMBOL_MOVE, arity, constants, has_hole, is_element, is_entry,
+                        is_of, is_rule_word, length_in, low_byte, state_in, upper_in)
 from .postfix import one_tree, spans_of, splice
 
 
@@ -49,6 +50,7 @@ def of_chapter(alphabet, chapter, count):
     yield 10, not all(is_element(alphabet, word) for word in chapter[:count])
     yield 11, not one_tree(alphabet, chapter[:count])
     yield 24, is_too_high(alphabet, chapter[:count])
+    yield 26, has_hole(alphabet, chapter[:count])
 
 
 def of_marks(table, count, marks):
@@ -59,6 +61,7 @@ def of_change(call):
     count, element = call.count[0], call.element[0]
     yield 14, element >= count
     yield 15, outside(len(call.replacement), MOST_ELEMENTS) or not is_tree(call.alphabet, call.replacement)
+    yield 26, has_hole(call.alphabet, call.replacement)
     result, _ = splice(call.alphabet, call.chapter[:count], element, call.replacement)
     yield 16, len(result) > min(MOST_ELEMENTS, len(call.chapter)) or len(result) * set_size(call.table) > len(call.marks)
     yield 24, is_too_high(call.alphabet, result)
