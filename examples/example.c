@@ -1,5 +1,5 @@
 /* The source's own example through the C interface: Compile, Run and List, and then Exchange of element 4 for d. Its table stands end
- * to end with another rule's in one image, and each is used from its own first word. */
+ * to end with another rule's in one image, and each is used from its own first word. At the end two constants become holes. */
 #include <stdio.h>
 
 #include "haqbylur.h"
@@ -16,6 +16,11 @@ static const uint32_t alphabet[] = {
 static const uint32_t rule[] = {
     HAQBYLUR_SYMBOL(A), HAQBYLUR_SYMBOL(B), HAQBYLUR_SYMBOL(F), HAQBYLUR_SYMBOL(C), HAQBYLUR_SYMBOL(G),
     HAQBYLUR_SYMBOL(D), HAQBYLUR_PRODUCT(C), HAQBYLUR_UNION, HAQBYLUR_CLOSURE(D)};
+
+/* The alphabet with c and d as holes: once there is one, all that the rule names in its product and its closure have to be holes. */
+static const uint32_t with_holes[] = {
+    HAQBYLUR_ENTRY(0), HAQBYLUR_ENTRY(0), HAQBYLUR_HOLE_ENTRY, HAQBYLUR_HOLE_ENTRY,
+    HAQBYLUR_ENTRY(2), HAQBYLUR_ENTRY(1), HAQBYLUR_ENTRY(1)};
 
 /* The other rule: d h. */
 static const uint32_t other_rule[] = {HAQBYLUR_SYMBOL(D), HAQBYLUR_SYMBOL(H)};
@@ -92,5 +97,16 @@ int main(void)
     if (status != HAQBYLUR_ACCEPTED)
         return 1;
     print_hits("next table", table, elements);
+
+    /* With the holes the rule has the same table, but the chapter may not hold d. */
+    status = haqbylur_compile(with_holes, LENGTH(with_holes), rule, LENGTH(rule), image, LENGTH(image), &words);
+    if (status != HAQBYLUR_ACCEPTED)
+        return 1;
+    printf("with holes words %u\n", (unsigned)words);
+    status = haqbylur_run(with_holes, LENGTH(with_holes), image, LENGTH(image), chapter, elements, marks, LENGTH(marks), &elements,
+                          &cells);
+    if (status != HAQBYLUR_HAS_HOLE)
+        return 1;
+    printf("with holes run refused %u\n", (unsigned)status);
     return 0;
 }

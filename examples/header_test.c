@@ -23,6 +23,10 @@ HOLDS(table_words_size, sizeof HAQBYLUR_TABLE_WORDS(0) == 4);
 /* document 02's limit of height, which a chapter of the most elements can exceed, and its refusal */
 HOLDS(most_height, HAQBYLUR_MOST_HEIGHT == 512 && HAQBYLUR_MOST_HEIGHT < HAQBYLUR_MOST_ELEMENTS);
 HOLDS(too_high, HAQBYLUR_TOO_HIGH == 24 && sizeof HAQBYLUR_TOO_HIGH == sizeof HAQBYLUR_ACCEPTED);
+/* document 02's mark of a hole, which is beside the rank's bits, the entry with it, and the refusal */
+HOLDS(hole_bit, HAQBYLUR_HOLE_BIT == 1 << 8 && (HAQBYLUR_HOLE_BIT & 0xff) == 0);
+HOLDS(hole_entry, HAQBYLUR_HOLE_ENTRY == 0x10000100 && HAQBYLUR_HOLE_ENTRY / 2 == 0x08000080 && sizeof HAQBYLUR_HOLE_ENTRY == 4);
+HOLDS(has_hole, HAQBYLUR_HAS_HOLE == 26 && sizeof HAQBYLUR_HAS_HOLE == sizeof HAQBYLUR_ACCEPTED);
 /* the words of document 01's kinds 1 to 7 */
 HOLDS(entry, HAQBYLUR_ENTRY(4) == 0x10000004 && HAQBYLUR_ENTRY(HAQBYLUR_MOST_RANK) / 2 == 0x08000002);
 HOLDS(symbol, HAQBYLUR_SYMBOL(63) == 0x2000003f && HAQBYLUR_SYMBOL(1 ? 2 : 3) == 0x20000002);

@@ -31,7 +31,7 @@
 #define HAQBYLUR_NO_ALPHABET 1u      /* 0 or over 64 words, or a word that is no alphabet entry */
 #define HAQBYLUR_WRONG_CONSTANTS 2u  /* no constant, or over 16 */
 #define HAQBYLUR_WRONG_LENGTH 3u     /* rule of 0 or over 64 words */
-#define HAQBYLUR_NO_RULE_WORD 4u     /* a word that is no rule word, an unknown symbol, or a c that is no constant */
+#define HAQBYLUR_NO_RULE_WORD 4u     /* a word that is no rule word, an unknown symbol, or a c that may not be named */
 #define HAQBYLUR_NOT_ONE_RULE 5u     /* some word lacks parts, or not exactly one rule remains */
 #define HAQBYLUR_TOO_MANY_STATES 6u  /* over 1,024 states */
 #define HAQBYLUR_TABLE_TOO_LONG 7u   /* the table slice is shorter than the table */
@@ -45,6 +45,7 @@
 #define HAQBYLUR_NO_REPLACEMENT 15u  /* 0 or over 4,096 words, or no tree over the alphabet */
 #define HAQBYLUR_RESULT_TOO_LONG 16u /* the result is over 4,096 elements, the chapter slice or the marks slice */
 #define HAQBYLUR_TOO_HIGH 24u        /* the chapter, or the result of an exchange, is over 512 high */
+#define HAQBYLUR_HAS_HOLE 26u        /* a hole in the chapter or in the replacement */
 
 /* The words of an alphabet and of a chapter: a symbol with so many parts (its rank); an element with this symbol. A symbol's
  * number is its position in the alphabet, from 0. A chapter is one tree, each element behind its parts, which stand from left to
@@ -52,8 +53,14 @@
 #define HAQBYLUR_ENTRY(rank) (0x10000000u + (uint32_t)(rank))
 #define HAQBYLUR_ELEMENT(symbol) (0x70000000u + (uint32_t)(symbol))
 
+/* Bits 7..0 of an alphabet entry are the rank. Bit 8 marks a constant, a symbol of rank 0, as a hole; with a rank above 0 the word is
+ * no entry. A hole stands in rules alone, as a symbol or as the c below: a chapter or a replacement that holds one is refused. Where
+ * the alphabet has no hole, every constant may be a c and stand in a chapter. */
+#define HAQBYLUR_HOLE_BIT 0x100u
+#define HAQBYLUR_HOLE_ENTRY (HAQBYLUR_ENTRY(0) | HAQBYLUR_HOLE_BIT)
+
 /* The words of a rule, in the same order (docs/RULES.md): a symbol, which takes as many rules as its rank; the empty language; the
- * union of two; the product of two and the closure of one over the constant c. */
+ * union of two; the product of two and the closure of one over c, which is a constant, and where the alphabet has a hole, a hole. */
 #define HAQBYLUR_SYMBOL(symbol) (0x20000000u + (uint32_t)(symbol))
 #define HAQBYLUR_EMPTY 0x30000000u
 #define HAQBYLUR_UNION 0x40000000u
@@ -88,7 +95,7 @@ uint32_t haqbylur_compile(
     uint32_t *words);
 
 /* Marks a chapter with the states that each subtree reaches, by the table with which the table slice begins. elements: the element
- * count; cells: the number of ones in all marks of the chapter. Refusals 1, 2, 8 to 11, 24, 12. */
+ * count; cells: the number of ones in all marks of the chapter. Refusals 1, 2, 8 to 11, 24, 26, 12. */
 uint32_t haqbylur_run(
     const uint32_t *alphabet, size_t alphabet_length,
     const uint32_t *table, size_t table_length,
@@ -98,7 +105,8 @@ uint32_t haqbylur_run(
     uint32_t *cells);
 
 /* Names the hits of a marked chapter of `count` elements, in ascending order: the elements whose whole subtree belongs to the rule's
- * language. The table slice begins with the table that marked it. hits: how many there are. Refusals 1, 2, 8, 9, 12, 13. */
+ * language (no marked chapter holds a hole). The table slice begins with the table that marked it. hits: how many there are.
+ * Refusals 1, 2, 8, 9, 12, 13. */
 uint32_t haqbylur_list(
     const uint32_t *alphabet, size_t alphabet_length,
     const uint32_t *table, size_t table_length,
@@ -108,8 +116,8 @@ uint32_t haqbylur_list(
     uint32_t *hits);
 
 /* Replaces the subtree of an element in a marked chapter of `count` used elements. The table slice begins with the table that marked
- * it. elements: the new element count; worked_out: the number of elements worked out. Refusals 1, 2, 8 to 11, 24 (the used elements),
- * 12, 14 to 16, 24 (the result). A replacement has no limit of height but the result's. */
+ * it. elements: the new element count; worked_out: the number of elements worked out. Refusals 1, 2, 8 to 11, 24 and 26 (the used
+ * elements), 12, 14, 15, 26 (the replacement), 16, 24 (the result). A replacement has no limit of height but the result's. */
 uint32_t haqbylur_exchange(
     const uint32_t *alphabet, size_t alphabet_length,
     const uint32_t *table, size_t table_length,
