@@ -1,16 +1,14 @@
--- The table of the source's own example, and of two small expressions, computed from the definitions.
+-- The table of the source's own example, and of five small expressions, computed from the definitions.
 use Prim.Native.Nat.{ℕ}
 use mathlib.Core.Path.{_≡_, refl}
 use mathlib.Core.List.{List, [], _∷_, flatMap}
 use Rattle.words.specs.Word.{kindAt}
 use Rattle.words.specs.Alphabet.{rankOf, constantsFrom, constantsOf}
 use Rattle.words.specs.Postfix.{arity}
+use Rattle.language.proofs.MembershipExamples.{alphabet}
 use Rattle.automaton.specs.Transition.{tableWords}
-use Rattle.automaton.specs.Numbering.{hasEntries, statesOf, portOf, ownTransitions, portsFrom, statesAfter, transitionsFrom, compiled}
-
--- a, b, c, d of rank 0, f of rank 2, g and h of rank 1, numbered 0 to 6
-abbrev pub alphabet : List ℕ
-alphabet = 0x10000000 ∷ 0x10000000 ∷ 0x10000000 ∷ 0x10000000 ∷ 0x10000002 ∷ 0x10000001 ∷ 0x10000001 ∷ []
+use Rattle.automaton.specs.Numbering.{hasEntries, statesOf, portOf, everySymbol, ownTransitions, portsFrom, statesAfter}
+use Rattle.automaton.specs.Numbering.{transitionsFrom, compiled}
 
 -- a b f c g d (product over c) union (closure over d)
 abbrev pub rule : List ℕ
@@ -53,3 +51,31 @@ pub empty-table :
 unfolding kindAt rankOf constantsFrom constantsOf arity hasEntries statesOf portOf ownTransitions portsFrom statesAfter transitionsFrom
     compiled flatMap
 empty-table = refl
+
+-- anything over c and f: f from the exit in both parts to the exit, then the entry for c to the exit
+pub anything-table :
+    tableWords (compiled smallAlphabet (0xe0000000 ∷ []))
+    ≡ 0x80000800 ∷ 0xc0000007 ∷ 0x90000001 ∷ 0x90000400 ∷ 0xb0000000 ∷ 0xb0000000 ∷ 0xa0000400 ∷ []
+unfolding kindAt rankOf constantsFrom constantsOf arity hasEntries statesOf portOf everySymbol ownTransitions portsFrom statesAfter
+    transitionsFrom compiled flatMap
+anything-table = refl
+
+-- the product over c of anything by anything
+pub product-table :
+    tableWords (compiled smallAlphabet (0xe0000000 ∷ 0xe0000000 ∷ 0x50000000 ∷ []))
+    ≡ 0x80001804 ∷ 0xc000000e ∷ 0x90000005
+    ∷ 0x90000400 ∷ 0xb0000000 ∷ 0xb0000000 ∷ 0xa0000400
+    ∷ 0x90000402 ∷ 0xb0000002 ∷ 0xb0000002 ∷ 0xa0000c02
+    ∷ 0xa0000004 ∷ 0xa0000801 ∷ 0xa0001403 ∷ []
+unfolding kindAt rankOf constantsFrom constantsOf arity hasEntries statesOf portOf everySymbol ownTransitions portsFrom statesAfter
+    transitionsFrom compiled flatMap
+product-table = refl
+
+-- anything over c, d, f of rank 2 and g of rank 1: both symbols in order, then both entries
+pub symbols-table :
+    tableWords (compiled (0x10000000 ∷ 0x10000002 ∷ 0x10000000 ∷ 0x10000001 ∷ []) (0xe0000000 ∷ []))
+    ≡ 0x80000c00 ∷ 0xc000000b ∷ 0x90000001 ∷ 0x90000802
+    ∷ 0x90000400 ∷ 0xb0000000 ∷ 0xb0000000 ∷ 0x90000c00 ∷ 0xb0000000 ∷ 0xa0000400 ∷ 0xa0000800 ∷ []
+unfolding kindAt rankOf constantsFrom constantsOf arity hasEntries statesOf portOf everySymbol ownTransitions portsFrom statesAfter
+    transitionsFrom compiled flatMap
+symbols-table = refl

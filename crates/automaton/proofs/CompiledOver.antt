@@ -1,14 +1,14 @@
 -- The compiled automaton of an accepted expression is an automaton over the alphabet: its symbols are known and stand over
 -- as many states as their ranks, and every state is below the state count.
-use Prim.Native.Nat.{ℕ, suc, _+_, _<_, _≤_}
+use Prim.Native.Nat.{ℕ, zero, suc, _+_, _<_, _≤_}
 use mathlib.Core.Path.{_≡_, _∙_, sym}
 use mathlib.Core.Bool.{true}
 use mathlib.Core.List.{List, [], _∷_, _++_, map, List·Memᴰ}
 use native.Mathlib.Omega.{arith}
 use native.Mathlib.Nat.{le-refl, le-trans, lt-of-lt-of-le, le-of-lt}
-use lib.ListN.{drop, length-map}
+use lib.ListN.{drop, replicate, length-map, length-replicate}
 use Rattle.words.specs.Word.{lowByte}
-use Rattle.words.specs.Alphabet.{constantsOf, isConstant}
+use Rattle.words.specs.Alphabet.{rankOf, constantsOf, isConstant}
 use Rattle.words.specs.Postfix.{arity}
 use Rattle.words.specs.ExpressionWords.{expressionFault}
 use Rattle.words.specs.Lists.{All, AllBelow}
@@ -17,13 +17,14 @@ use Rattle.words.proofs.AllLaws.{each-append, each-map, each-both, each-self, b
 use Rattle.words.proofs.AlphabetLaws.{constantsOf-isConstant, isConstant-zero}
 use Rattle.words.proofs.Ascending.{Ascending, end, next, ascending-le, ascending-append, ascending-one}
 use Rattle.automaton.specs.Transition.{Transition, onSymbol, epsilon}
-use Rattle.automaton.specs.Numbering.{Port, statesOf, portOf, entryFor, epsilons, entryEpsilons, statesAfter}
+use Rattle.automaton.specs.Numbering.{Port, statesOf, portOf, entryFor, epsilons, entryEpsilons, everySymbol, statesAfter}
 use Rattle.automaton.specs.Numbering.{ownTransitions, transitionsFrom, constantTransitions, lastPort}
-use Rattle.automaton.specs.Numbering.{compiled, symbolTargets, unionTargets, productTargets, closureTargets}
+use Rattle.automaton.specs.Numbering.{compiled, symbolTargets, unionTargets, productTargets, closureTargets, anythingTargets}
 use Rattle.automaton.specs.Table.{TransitionOver, AutomatonOver}
 use Rattle.automaton.proofs.EveryEntryLaws.{to-epsilons, to-entryEpsilons, to-constants, numbered-all}
+use Rattle.automaton.proofs.EverySymbolLaws.{to-everySymbol}
 use Rattle.automaton.proofs.PortStates.{statesIn, Entries, every, own, missing, PortIn, Children, noChild, child, children-le}
-use Rattle.automaton.proofs.OwnTransitions.{Own, leaf, ofSymbol, ofUnion, ofProduct, ofClosure}
+use Rattle.automaton.proofs.OwnTransitions.{Own, leaf, ofSymbol, ofUnion, ofProduct, ofClosure, ofAnything}
 use Rattle.automaton.proofs.PortReading.{AllRead, ended, word, childrenOn, expression-reading}
 use Rattle.automaton.proofs.LastPort.{statesAfter-le, lastPort-in}
 use Rattle.automaton.proofs.TargetLaws.{entryFor-ascending, symbol-ascending, union-ascending, product-ascending, closure-ascending}
@@ -41,6 +42,10 @@ entries-below (e ∷ es) (next l h) = (ascending-le h, entries-below es h)
 exits-below : {a : List ℕ} {lo hi : ℕ} (n : ℕ) {Ps : List Port} → Children a lo hi Ps → hi ≤ n → AllBelow n (map (λ P. P .exit) Ps)
 exits-below n (noChild h) l = tt
 exits-below n (child p c) l = (omega (arith, p .below, children-le _ c), exits-below n c l)
+
+copies-below : (n x : ℕ) → x < n → (k : ℕ) → AllBelow n (replicate k x)
+copies-below n x l zero = tt
+copies-below n x l (suc k) = (l, copies-below n x l k)
 
 module _ (a : List ℕ) where
   over-more : (m n : ℕ) → m ≤ n → (t : Transition) → TransitionOver a m t → TransitionOver a n t
@@ -89,6 +94,12 @@ module _ (a : List ℕ) where
       (x .below) in
       each-append (TransitionOver a hi) (epsilons (F .exit) (entryFor F c ++ (E .exit ∷ [])))
       (entryEpsilons (E .entries) (closureTargets c (E .exit) F)) us ts
+  own-over {hi} {E} x c (ofAnything i e) =
+      let y = E .exit in
+      each-append (TransitionOver a hi) (everySymbol y 0 a) (entryEpsilons (E .entries) (anythingTargets y))
+      (to-everySymbol (TransitionOver a hi) y a
+      (λ f l z. (l, sym (length-replicate {A = ℕ} (rankOf a f) y), copies-below hi y (x .below) (rankOf a f), x .below)))
+      (entryEpsilons-over (anythingTargets y) (E .entries) (i .states) (λ b. ascending-one (le-refl y) (le-refl (suc y))) (x .below))
 
   -- ---- every word
 
@@ -99,7 +110,7 @@ module _ (a : List ℕ) where
   reading-over (word {n} {w} {ws} {stack} d r) =
       let m = n + statesOf a w in
       let N = statesAfter a m ws in
-      let ts = ownTransitions w (portOf a n w) (childrenOn a w stack) in
+      let ts = ownTransitions a w (portOf a n w) (childrenOn a w stack) in
       each-append (TransitionOver a N) ts (transitionsFrom a m ws (portOf a n w ∷ drop (arity a w) stack))
       (each-map (TransitionOver a m) (TransitionOver a N) (over-more m N (statesAfter-le a ws m)) ts
       (own-over (d .port) (d .children) (d .own)))

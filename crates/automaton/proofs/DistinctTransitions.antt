@@ -1,5 +1,6 @@
 -- No transition stands twice in a compiled automaton: an epsilon transition starts at an entry of its own word or at the
--- exit of a child, a word is the child of one other, and each symbol transition has a target of its own.
+-- exit of a child, a word is the child of one other, and a symbol transition ends in the exit of its word, which has at most one for
+-- each symbol.
 use Prim.Native.Nat.{ℕ, _+_, _≤_}
 use mathlib.Core.Path.{_≡_, refl}
 use mathlib.Core.List.{List, [], _∷_, List·Memᴰ, List·Memᴰ·head, List·Memᴰ·tail}
@@ -33,7 +34,7 @@ reading-apart {a} (word {n} {w} {ws} {stack} d r) =
     let m = n + statesOf a w in
     let Ps = childrenOn a w stack in
     let stack′ = portOf a n w ∷ drop (arity a w) stack in
-    let ts = ownTransitions w (portOf a n w) Ps in
+    let ts = ownTransitions a w (portOf a n w) Ps in
     let us = transitionsFrom a m ws stack′ in
     let i = reading-apart r in
     let o = own-of (d .port) (d .own) in

@@ -45,23 +45,23 @@ module _ (I : Intended) where
   pub into-append : (q : ℕ) (ps rs : List ℕ) → Into q ps → Into q rs → Into q (ps ++ rs)
   into-append q ps rs = each-append (λ p. (t : Tree) → I q t → I p t) ps rs
 
-module _ (cs : List ℕ) (I : Intended) where
-  pub into-entry : (E : Expression) (n : ℕ) (σ : Assignment) → Has I n (languages cs E σ) → (c q : ℕ) → ((t : Tree) → I q t → σ c t)
-      → Into I q (entry cs E n c)
+module _ (a : List ℕ) (I : Intended) where
+  pub into-entry : (E : Expression) (n : ℕ) (σ : Assignment) → Has I n (languages a E σ) → (c q : ℕ) → ((t : Tree) → I q t → σ c t)
+      → Into I q (entry a E n c)
   into-entry E n σ h c q f =
-      each-map (λ p. (t : Tree) → I p t ↔ σ c t) (λ p. (t : Tree) → I q t → I p t) (λ p e t i. e t .1 (f t i)) (entry cs E n c)
-      (every-found (λ b p. (t : Tree) → I p t ↔ σ b t) c (entryStates cs E n) (entries-are cs I E n σ h))
+      each-map (λ p. (t : Tree) → I p t ↔ σ c t) (λ p. (t : Tree) → I q t → I p t) (λ p e t i. e t .1 (f t i)) (entry a E n c)
+      (every-found (λ b p. (t : Tree) → I p t ↔ σ b t) c (entryStates a E n) (entries-are a I E n σ h))
 
-  pub into-children : (es : Expressions) (n : ℕ) (σ : Assignment) → Has I n (languagesAll cs es σ) → (c q : ℕ)
-      → ((t : Tree) → I q t → σ c t) → Into I q (childEntries cs es n c)
+  pub into-children : (es : Expressions) (n : ℕ) (σ : Assignment) → Has I n (languagesAll a es σ) → (c q : ℕ)
+      → ((t : Tree) → I q t → σ c t) → Into I q (childEntries a es n c)
   unfolding flatMap
   into-children noneᵉ n σ h c q f = tt
   into-children (moreᵉ e es) n σ h c q f =
-      into-append I q (entry cs e n c) (childEntries cs es (next cs e n) c)
-      (into-entry e n σ (has-left I n (languages cs e σ) (languagesAll cs es σ) h) c q f)
-      (into-children es (next cs e n) σ (behind-part cs I e n σ (languagesAll cs es σ) h) c q f)
+      into-append I q (entry a e n c) (childEntries a es (next a e n) c)
+      (into-entry e n σ (has-left I n (languages a e σ) (languagesAll a es σ) h) c q f)
+      (into-children es (next a e n) σ (behind-part a I e n σ (languagesAll a es σ) h) c q f)
 
-  pub keeps-entryEpsilons : (σ : Assignment) (es : List (ℕ × ℕ)) (targets : ℕ → List ℕ) → EntriesAre cs I σ es
+  pub keeps-entryEpsilons : (σ : Assignment) (es : List (ℕ × ℕ)) (targets : ℕ → List ℕ) → EntriesAre a I σ es
       → ((c q : ℕ) → ((t : Tree) → I q t → σ c t) → Into I q (targets c)) → All (Keeps I) (entryEpsilons es targets)
   keeps-entryEpsilons σ es targets h f =
       to-entryEpsilons (Keeps I) targets es

@@ -2,6 +2,8 @@ pub mod CompiledExample
 pub mod BitLaws
 pub mod KeepLaws
 pub mod EntryStates
+pub mod EveryEntryLaws
+pub mod EverySymbolLaws
 pub mod PortStates
 pub mod OwnTransitions
 pub mod PortReading
@@ -21,7 +23,6 @@ pub mod SetLength
 pub mod PassLaws
 pub mod ClosureLaws
 pub mod TreeSets
-pub mod EveryEntryLaws
 pub mod TreeNumbering
 pub mod ReachedBy
 pub mod Completeness

@@ -1,22 +1,24 @@
 -- The own transitions of an expression word, by its kind, with what holds of its states: a view to branch on.
 use Prim.Native.Nat.{ℕ, suc, _+_, _<_, _≤_}
-use mathlib.Core.Path.{_≡_, _∙_, sym}
-use mathlib.Core.Bool.{Bool, true, false, cond}
+use mathlib.Core.Path.{_≡_, refl, ap, _∙_, sym}
+use mathlib.Core.Bool.{Bool, true, false, not, cond}
 use mathlib.Core.List.{List, [], _∷_}
 use native.Mathlib.Omega.{arith}
 use native.Mathlib.Nat.{suc-add, add-suc}
 use native.Mathlib.Numerals.{add-one}
 use lib.ListN.{length}
-use Rattle.words.specs.Word.{symbolKind, unionKind, productKind, closureKind, hasKind, lowByte}
+use lib.Dec.{eqb·suc-zero}
+use Rattle.words.specs.Word.{Kind, symbolKind, emptyKind, unionKind, productKind, closureKind, anythingKind, kindOf, hasKind, lowByte}
 use Rattle.words.specs.Alphabet.{constantsOf, rankOf}
 use Rattle.words.specs.Postfix.{arity}
 use Rattle.words.specs.ExpressionWords.{isExpressionWord}
 use Rattle.words.proofs.Ascending.{Ascending}
-use Rattle.words.proofs.ExpressionWordLaws.{ExpressionWord, symbolWord, emptyWord, unionWord, productWord, closureWord, expressionWord}
+use Rattle.words.proofs.ExpressionWordLaws.{ExpressionWord, symbolWord, emptyWord, unionWord, productWord, closureWord, anythingWord}
+use Rattle.words.proofs.ExpressionWordLaws.{expressionWord}
 use Rattle.automaton.specs.Transition.{Transition}
-use Rattle.automaton.specs.Numbering.{Port, hasEntries, statesOf, exitEntry, portOf, symbolTransitions, unionTransitions}
-use Rattle.automaton.specs.Numbering.{productTransitions, closureTransitions, ownTransitions}
-use Rattle.automaton.proofs.EntryStates.{entries-some, entries-none, port-full, port-leaf, states-full, states-leaf, own-kind}
+use Rattle.automaton.specs.Numbering.{Port, entriesAt, hasEntries, statesOf, exitEntry, portOf, symbolTransitions, unionTransitions}
+use Rattle.automaton.specs.Numbering.{productTransitions, closureTransitions, anythingTransitions, ownTransitions}
+use Rattle.automaton.proofs.EntryStates.{entries-kind, port-full, port-leaf, states-full, states-leaf, own-kind}
 use Rattle.automaton.proofs.PortStates.{constantsIn, statesIn, numbered-constants, numbered-states, length-numbered}
 
 -- a constant or the empty language, with all its states below hi
@@ -24,7 +26,7 @@ pub record Leaf (hi : ℕ) (E : Port) : Type 0 where
   pub states : hi ≡ suc (E .exit)
   pub entries : length (E .entries) ≤ 1
 
--- a word with children: behind its exit an entry for each constant, in order, up to hi
+-- a word with children, or anything: behind its exit an entry for each constant, in order, up to hi
 pub record Inner (a : List ℕ) (hi : ℕ) (E : Port) : Type 0 where
   pub constants : constantsIn (E .entries) ≡ constantsOf a
   pub states : Ascending (suc (E .exit)) hi (statesIn (E .entries))
@@ -38,6 +40,7 @@ pub data Own (a : List ℕ) (hi w : ℕ) (E : Port) : List Port → List Transit
   ofUnion : {F G : Port} → Inner a hi E → Own a hi w E (F ∷ G ∷ []) (unionTransitions E F G)
   ofProduct : {F G : Port} → Inner a hi E → Own a hi w E (F ∷ G ∷ []) (productTransitions (lowByte w) E F G)
   ofClosure : {F : Port} → Inner a hi E → Own a hi w E (F ∷ []) (closureTransitions (lowByte w) E F)
+  ofAnything : Inner a hi E → kindOf w ≡ anythingKind → Own a hi w E [] (anythingTransitions a E)
 
 module _ (a : List ℕ) (n w : ℕ) where
   abbrev hi : ℕ
@@ -62,22 +65,30 @@ module _ (a : List ℕ) (n w : ℕ) where
         last = rw (length-numbered (constantsOf a) (suc n)) (add-suc n (length (constantsOf a)));
       })
 
-  pub own-transitions : (Ps : List Port) → isExpressionWord a w ≡ true → length Ps ≡ arity a w → Own a hi w E Ps (ownTransitions w E Ps)
-  unfolding ownTransitions
-  own-transitions [] h r = leaf (leaf-of (entries-none a w (sym r)))
-  own-transitions (P ∷ Ps) h r = go Ps r (expressionWord a w h)
+  pub own-transitions : (Ps : List Port) → isExpressionWord a w ≡ true → length Ps ≡ arity a w → Own a hi w E Ps (ownTransitions a w E Ps)
+  own-transitions Ps h r = go Ps r (expressionWord a w h)
     where
-      i : Inner a hi E
-      i = inner (entries-some a w (length Ps) (sym r))
+      full : (k : Kind) → kindOf w ≡ k → entriesAt (rankOf a (lowByte w)) k ≡ true → Inner a hi E
+      full k e f = inner (entries-kind a w k e ∙ f)
 
-      go : (Ps : List Port) → length (P ∷ Ps) ≡ arity a w → ExpressionWord a w → Own a hi w E (P ∷ Ps) (ownTransitions w E (P ∷ Ps))
-      go Ps r (symbolWord e l q) = rw (own-kind w symbolKind E P Ps e) (ofSymbol i l (sym q ∙ sym r))
-      go Ps r (emptyWord e q) = absurd (omega arith)
+      go : (Ps : List Port) → length Ps ≡ arity a w → ExpressionWord a w → Own a hi w E Ps (ownTransitions a w E Ps)
+      go [] r (symbolWord e l q) =
+          rw (own-kind a w symbolKind E [] e) (leaf (leaf-of (entries-kind a w symbolKind e ∙ rw (sym q ∙ sym r))))
+      go (P ∷ Ps) r (symbolWord e l q) =
+          let n = sym q ∙ sym r in
+          rw (own-kind a w symbolKind E (P ∷ Ps) e) (ofSymbol (full symbolKind e (rw n (ap not (eqb·suc-zero (length Ps))))) l n)
+      go [] r (emptyWord e q) = rw (own-kind a w emptyKind E [] e) (leaf (leaf-of (entries-kind a w emptyKind e)))
+      go (P ∷ Ps) r (emptyWord e q) = absurd (omega arith)
       go [] r (unionWord e q) = absurd (omega arith)
-      go (G ∷ []) r (unionWord e q) = rw (own-kind w unionKind E P (G ∷ []) e) (ofUnion i)
-      go (G ∷ Q ∷ Ps) r (unionWord e q) = absurd (omega arith)
+      go (F ∷ []) r (unionWord e q) = absurd (omega arith)
+      go (F ∷ G ∷ []) r (unionWord e q) = rw (own-kind a w unionKind E (F ∷ G ∷ []) e) (ofUnion (full unionKind e refl))
+      go (F ∷ G ∷ Q ∷ Ps) r (unionWord e q) = absurd (omega arith)
       go [] r (productWord e c q) = absurd (omega arith)
-      go (G ∷ []) r (productWord e c q) = rw (own-kind w productKind E P (G ∷ []) e) (ofProduct i)
-      go (G ∷ Q ∷ Ps) r (productWord e c q) = absurd (omega arith)
-      go [] r (closureWord e c q) = rw (own-kind w closureKind E P [] e) (ofClosure i)
-      go (Q ∷ Ps) r (closureWord e c q) = absurd (omega arith)
+      go (F ∷ []) r (productWord e c q) = absurd (omega arith)
+      go (F ∷ G ∷ []) r (productWord e c q) = rw (own-kind a w productKind E (F ∷ G ∷ []) e) (ofProduct (full productKind e refl))
+      go (F ∷ G ∷ Q ∷ Ps) r (productWord e c q) = absurd (omega arith)
+      go [] r (closureWord e c q) = absurd (omega arith)
+      go (F ∷ []) r (closureWord e c q) = rw (own-kind a w closureKind E (F ∷ []) e) (ofClosure (full closureKind e refl))
+      go (F ∷ Q ∷ Ps) r (closureWord e c q) = absurd (omega arith)
+      go [] r (anythingWord e q) = rw (own-kind a w anythingKind E [] e) (ofAnything (full anythingKind e refl) e)
+      go (P ∷ Ps) r (anythingWord e q) = absurd (omega arith)

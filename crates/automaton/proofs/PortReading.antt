@@ -26,11 +26,12 @@ childrenOn a w stack = reverse (take (arity a w) stack)
 -- at word w with the states from n on: its children's states lie before n and behind those of the other ports on the stack
 pub record WordRead (a : List ℕ) (n w : ℕ) (stack : List Port) : Type 0 where
   pub low : ℕ
+  pub ruleWord : isExpressionWord a w ≡ true
   pub children : Children a low n (childrenOn a w stack)
   pub number : length (childrenOn a w stack) ≡ arity a w
   pub rest : PortStack a low (drop (arity a w) stack)
   pub port : PortIn a n (n + statesOf a w) (portOf a n w)
-  pub own : Own a (n + statesOf a w) w (portOf a n w) (childrenOn a w stack) (ownTransitions w (portOf a n w) (childrenOn a w stack))
+  pub own : Own a (n + statesOf a w) w (portOf a n w) (childrenOn a w stack) (ownTransitions a w (portOf a n w) (childrenOn a w stack))
 
 -- the same at each of the words, from state n on
 pub data AllRead (a : List ℕ) : ℕ → List ℕ → List Port → Type 0 where
@@ -46,6 +47,7 @@ module _ (a : List ℕ) where
       let l : length (childrenOn a w stack) ≡ arity a w = length-reverse (take (arity a w) stack) ∙ length-take-le (arity a w) stack r in
       record {
         low = t .low;
+        ruleWord = h;
         children = t .children;
         number = l;
         rest = t .rest;

@@ -1,7 +1,7 @@
 -- Ports: which states a word has, with which constants as entries, and how the ports on the stack and a word's children
 -- lie one behind the other.
 use Prim.Native.Nat.{ℕ, zero, suc, _+_, _<_, _≤_}
-use mathlib.Core.Path.{_≡_, refl, ap, _∙_, sym}
+use mathlib.Core.Path.{_≡_, refl, ap}
 use mathlib.Core.Bool.{Bool, true, false, cond}
 use mathlib.Core.List.{List, [], _∷_, map, reverseAux}
 use native.Mathlib.Omega.{arith}
@@ -10,16 +10,15 @@ use lib.ListN.{length, take, drop}
 use borrow.Author.Tests.{ltb-true}
 use Rattle.words.specs.Word.{symbolKind, hasKind, lowByte}
 use Rattle.words.specs.Alphabet.{constantsOf, isConstant}
-use Rattle.words.specs.Postfix.{arity}
 use Rattle.words.specs.ExpressionWords.{isExpressionWord}
 use Rattle.words.proofs.Ascending.{Ascending, end, next, ascending-one, ascending-from}
 use Rattle.words.proofs.AlphabetLaws.{isConstant-zero, zero-isConstant}
 use Rattle.words.proofs.ConstantLaws.{constants-ascending}
-use Rattle.words.proofs.WordLaws.{arity-kind, isExpressionWord-facts}
+use Rattle.words.proofs.WordLaws.{isExpressionWord-facts}
 use Rattle.words.proofs.KindLaws.{hasKind-kindOf}
 use Rattle.words.proofs.TestLaws.{Tested, holds, fails, tested}
 use Rattle.automaton.specs.Numbering.{Port, numbered, hasEntries, statesOf, fullEntries, exitEntry, fullPort, portOf}
-use Rattle.automaton.proofs.EntryStates.{none-taken, port-full, port-leaf, states-full, states-leaf}
+use Rattle.automaton.proofs.EntryStates.{rank-none, port-full, port-leaf, states-full, states-leaf}
 
 -- the constants and the states of a word's entries
 abbrev pub constantsIn : List (ℕ × ℕ) → List ℕ
@@ -83,19 +82,19 @@ module _ (a : List ℕ) (n w : ℕ) where
       let z : 0 ≤ length a = omega arith in
       record { from = le-refl n; below = omega arith; shape = missing; states = end l; constants = end z }
 
-  -- a symbol word without children is a constant
-  own-constant : isExpressionWord a w ≡ true → arity a w ≡ 0 → hasKind symbolKind w ≡ true → isConstant a (lowByte w) ≡ true
+  -- a symbol word without entries is a constant
+  own-constant : isExpressionWord a w ≡ true → hasEntries a w ≡ false → hasKind symbolKind w ≡ true → isConstant a (lowByte w) ≡ true
   own-constant h z k =
       let e = hasKind-kindOf symbolKind w k in
       let known = ltb-true (lowByte w) (length a) (isExpressionWord-facts a w symbolKind e h .names) in
-      zero-isConstant a (lowByte w) known (sym (arity-kind a w symbolKind e) ∙ z)
+      zero-isConstant a (lowByte w) known (rank-none a w e z)
 
   pub portOf-in : isExpressionWord a w ≡ true → PortIn a n (n + statesOf a w) (portOf a n w)
   portOf-in h = go (tested (hasEntries a w))
     where
       go : Tested (hasEntries a w) → PortIn a n (n + statesOf a w) (portOf a n w)
       go (holds e) = rw (port-full a w n e, states-full a w e) every-in
-      go (fails e) = rw (port-leaf a w n e, states-leaf a w e) (own-in (hasKind symbolKind w) (own-constant h (none-taken a w e)))
+      go (fails e) = rw (port-leaf a w n e, states-leaf a w e) (own-in (hasKind symbolKind w) (own-constant h e))
 
 pub portIn-from : {a : List ℕ} {lo lo′ hi : ℕ} {P : Port} → lo′ ≤ lo → PortIn a lo hi P → PortIn a lo′ hi P
 portIn-from l p =

@@ -7,10 +7,11 @@ use mathlib.Core.Bool.{Bool, true, false, cond}
 use mathlib.Core.List.{List, [], List·Memᴰ}
 use lib.Dec.{eqb}
 use borrow.Author.Tests.{eqb-true, eqb-false}
+use Rattle.words.specs.Alphabet.{constantsOf}
 use Rattle.words.specs.Tree.{Tree}
 use Rattle.words.specs.Lists.{All}
 use Rattle.words.proofs.AllLaws.{each-map, each-both, each-self}
-use Rattle.language.specs.Expression.{Expression, symbol, empty, union, product, closure, noneᵉ, moreᵉ}
+use Rattle.language.specs.Expression.{Expression, symbol, empty, union, product, closure, anything, noneᵉ, moreᵉ}
 use Rattle.language.specs.Membership.{Language, Assignment}
 use Rattle.language.proofs.SubstitutionLaws.{assigned}
 use Rattle.automaton.specs.Transition.{Transition, epsilon}
@@ -42,17 +43,21 @@ module _ (ts : List Transition) where
   along L q r qs h =
       each-map (λ p. Present (epsilon q p)) (ReachedBy L) (λ p m t l. onEpsilon m (r t l)) qs (of-epsilons Present q qs h)
 
-module _ (cs : List ℕ) where
+module _ (a : List ℕ) where
+  abbrev cs : List ℕ
+  cs = constantsOf a
+
   full-listed : (x : ℕ) → All (λ e. List·Memᴰ (e .0) cs) (fullEntries cs x)
   full-listed x = numbered-all (λ c. List·Memᴰ c cs) (suc x) cs (each-self cs)
 
-  entries-listed : (E : Expression) (n : ℕ) → ConstantsListed cs E → All (λ e. List·Memᴰ (e .0) cs) (entryStates cs E n)
+  entries-listed : (E : Expression) (n : ℕ) → ConstantsListed a E → All (λ e. List·Memᴰ (e .0) cs) (entryStates a E n)
   entries-listed (symbol c noneᵉ) n k = (k .0, tt)
-  entries-listed (symbol f (moreᵉ e es)) n k = full-listed (nextAll cs (moreᵉ e es) n)
+  entries-listed (symbol f (moreᵉ e es)) n k = full-listed (nextAll a (moreᵉ e es) n)
   entries-listed empty n k = tt
-  entries-listed (union F G) n k = full-listed (exitState cs (union F G) n)
-  entries-listed (product c F G) n k = full-listed (exitState cs (product c F G) n)
-  entries-listed (closure c F) n k = full-listed (exitState cs (closure c F) n)
+  entries-listed (union F G) n k = full-listed (exitState a (union F G) n)
+  entries-listed (product c F G) n k = full-listed (exitState a (product c F G) n)
+  entries-listed (closure c F) n k = full-listed (exitState a (closure c F) n)
+  entries-listed anything n k = full-listed n
 
   module _ (ts : List Transition) where
     -- along those from the entries of a word
@@ -72,28 +77,28 @@ module _ (cs : List ℕ) where
               (numbered n cs) f (of-entryEpsilons (Present ts) targets (numbered n cs) h))
 
     -- the entries of a part, from the listed constants
-    module _ (E : Expression) (n : ℕ) (k : ConstantsListed cs E) where
-      pub entered : (σ : Assignment) → ((c : ℕ) → List·Memᴰ c cs → AllReachedBy ts (σ c) (entry cs E n c))
-          → Entered ts σ (entryStates cs E n)
-      entered σ h = found-every (λ c q. ReachedBy ts (σ c) q) (λ c. List·Memᴰ c cs) (entryStates cs E n) (entries-listed E n k) h
+    module _ (E : Expression) (n : ℕ) (k : ConstantsListed a E) where
+      pub entered : (σ : Assignment) → ((c : ℕ) → List·Memᴰ c cs → AllReachedBy ts (σ c) (entry a E n c))
+          → Entered ts σ (entryStates a E n)
+      entered σ h = found-every (λ c q. ReachedBy ts (σ c) q) (λ c. List·Memᴰ c cs) (entryStates a E n) (entries-listed E n k) h
 
       -- where c has L
-      pub entered-assigned : (σ : Assignment) (c : ℕ) (L : Language) → AllReachedBy ts L (entry cs E n c)
-          → ((a : ℕ) → List·Memᴰ a cs → AllReachedBy ts (σ a) (cond (eqb a c) [] (entry cs E n a)))
-          → Entered ts (assigned σ c L) (entryStates cs E n)
-      entered-assigned σ c L l h = entered (assigned σ c L) (λ a m. go a (eqb a c) refl (h a m))
+      pub entered-assigned : (σ : Assignment) (c : ℕ) (L : Language) → AllReachedBy ts L (entry a E n c)
+          → ((c′ : ℕ) → List·Memᴰ c′ cs → AllReachedBy ts (σ c′) (cond (eqb c′ c) [] (entry a E n c′)))
+          → Entered ts (assigned σ c L) (entryStates a E n)
+      entered-assigned σ c L l h = entered (assigned σ c L) (λ c′ m. go c′ (eqb c′ c) refl (h c′ m))
         where
-          at-c : (a : ℕ) → a ≡ c → (t : Tree) → assigned σ c L a t → L t
-          at-c a e t (inl (p, x)) = x
-          at-c a e t (inr (m, x)) = absurd (m e)
+          at-c : (c′ : ℕ) → c′ ≡ c → (t : Tree) → assigned σ c L c′ t → L t
+          at-c c′ e t (inl (p, x)) = x
+          at-c c′ e t (inr (m, x)) = absurd (m e)
 
-          elsewhere : (a : ℕ) → (a ≡ c → ⊥) → (t : Tree) → assigned σ c L a t → σ a t
-          elsewhere a m t (inl (p, x)) = absurd (m p)
-          elsewhere a m t (inr (p, x)) = x
+          elsewhere : (c′ : ℕ) → (c′ ≡ c → ⊥) → (t : Tree) → assigned σ c L c′ t → σ c′ t
+          elsewhere c′ m t (inl (p, x)) = absurd (m p)
+          elsewhere c′ m t (inr (p, x)) = x
 
-          go : (a : ℕ) (b : Bool) → eqb a c ≡ b → AllReachedBy ts (σ a) (cond b [] (entry cs E n a))
-              → AllReachedBy ts (assigned σ c L a) (entry cs E n a)
-          go a true e g =
-              let p = eqb-true a c e in
-              smaller ts (assigned σ c L a) L (at-c a p) (entry cs E n a) (subst (λ x. AllReachedBy ts L (entry cs E n x)) (sym p) l)
-          go a false e g = smaller ts (assigned σ c L a) (σ a) (elsewhere a (eqb-false a c e)) (entry cs E n a) g
+          go : (c′ : ℕ) (b : Bool) → eqb c′ c ≡ b → AllReachedBy ts (σ c′) (cond b [] (entry a E n c′))
+              → AllReachedBy ts (assigned σ c L c′) (entry a E n c′)
+          go c′ true e g =
+              let p = eqb-true c′ c e in
+              smaller ts (assigned σ c L c′) L (at-c c′ p) (entry a E n c′) (subst (λ x. AllReachedBy ts L (entry a E n x)) (sym p) l)
+          go c′ false e g = smaller ts (assigned σ c L c′) (σ c′) (elsewhere c′ (eqb-false c′ c e)) (entry a E n c′) g

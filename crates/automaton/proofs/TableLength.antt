@@ -1,24 +1,29 @@
 -- How long a compiled table is. A word's own transitions take at most two table words more than its children have entries
--- and exits, and a word is the child of one other; so the table has few words more than states.
+-- and exits, and a word is the child of one other; so the table has few words more than states, but for those of anything, which are
+-- counted apart.
 use Prim.Native.Nat.{ℕ, zero, suc, _+_, _<_, _≤_}
-use mathlib.Core.Path.{_≡_, refl, ap, sym}
-use mathlib.Core.Bool.{cond}
+use mathlib.Core.Path.{_≡_, refl, ap, sym, _∙_}
+use mathlib.Core.Bool.{Bool, true, false, cond}
 use mathlib.Core.List.{List, [], _∷_, _++_, map, reverseAux}
 use native.Mathlib.Omega.{arith}
-use lib.ListN.{length, take, drop, length-append, length-map}
-use lib.Dec.{leb}
+use lib.ListN.{length, take, drop, replicate, length-append, length-map, length-replicate}
+use lib.Dec.{leb, eqb}
 use borrow.Author.Tests.{ne-eqb, le-leb}
-use Rattle.words.specs.Word.{sourceKind, wordOf, lowByte}
+use Rattle.words.specs.Word.{sourceKind, anythingKind, kindNumber, hasKind, wordOf, lowByte}
+use Rattle.words.specs.Alphabet.{entryRank, constantsOf}
 use Rattle.words.specs.Lists.{count}
 use Rattle.words.specs.Postfix.{arity}
-use Rattle.words.specs.ExpressionWords.{expressionFault}
+use Rattle.words.specs.ExpressionWords.{isExpressionWord, hasAnything, expressionFault}
+use Rattle.words.proofs.TestLaws.{or-false}
+use Rattle.words.proofs.KindLaws.{kindOf-hasKind}
 use Rattle.words.proofs.AcceptedExpression.{expression-accepted}
 use Rattle.automaton.specs.Transition.{Transition, onSymbol, transitionWords, transitionsWords, tableWords}
-use Rattle.automaton.specs.Numbering.{Port, hasEntries, statesOf, portOf, entryFor, epsilons, entryEpsilons}
+use Rattle.automaton.specs.Numbering.{Port, hasEntries, statesOf, portOf, entryFor, epsilons, entryEpsilons, everySymbol}
 use Rattle.automaton.specs.Numbering.{statesAfter, ownTransitions, transitionsFrom, constantTransitions, lastPort}
-use Rattle.automaton.specs.Numbering.{compiled, symbolTargets, unionTargets, productTargets, closureTargets}
+use Rattle.automaton.specs.Numbering.{compiled, symbolTargets, unionTargets, productTargets, closureTargets, anythingTargets}
+use Rattle.automaton.proofs.EntryStates.{entries-arity}
 use Rattle.automaton.proofs.PortStates.{constantsIn, PortIn, Children, child}
-use Rattle.automaton.proofs.OwnTransitions.{Own, leaf, ofSymbol, ofUnion, ofProduct, ofClosure}
+use Rattle.automaton.proofs.OwnTransitions.{Own, leaf, ofSymbol, ofUnion, ofProduct, ofClosure, ofAnything}
 use Rattle.automaton.proofs.PortReading.{WordRead, AllRead, word, childrenOn, expression-reading}
 use Rattle.automaton.proofs.TargetCount.{total, weight, lookup-once, total-symbol, total-union, total-product, total-closure}
 use Rattle.automaton.proofs.StateCount.{innerWords}
@@ -61,6 +66,39 @@ count-constants : (es : List (ℕ × ℕ)) → wordCount (constantTransitions es
 count-constants [] = refl
 count-constants (e ∷ es) = ap suc (count-constants es)
 
+-- those of anything's symbol transitions
+abbrev pub everySymbolWords : List ℕ → ℕ
+everySymbolWords [] = 0
+everySymbolWords (w ∷ ws) = cond (eqb (entryRank w) 0) 0 (suc (entryRank w)) + everySymbolWords ws
+
+count-everySymbol : (x : ℕ) (ws : List ℕ) (s : ℕ) → wordCount (everySymbol x s ws) ≡ everySymbolWords ws
+unfolding everySymbol
+count-everySymbol x [] s = refl
+count-everySymbol x (w ∷ ws) s = go (eqb (entryRank w) 0) (count-everySymbol x ws (suc s))
+  where
+    rest : List Transition
+    rest = everySymbol x (suc s) ws
+
+    ps : List ℕ
+    ps = replicate (entryRank w) x
+
+    go : (b : Bool) → wordCount rest ≡ everySymbolWords ws
+        → wordCount (cond b rest (onSymbol s ps x ∷ rest)) ≡ cond b 0 (suc (entryRank w)) + everySymbolWords ws
+    go true e = omega arith
+    go false e = omega (arith, count-symbol s x ps rest, length-replicate {A = ℕ} (entryRank w) x)
+
+total-exit : (x : ℕ) (cs : List ℕ) → total (anythingTargets x) cs ≡ length cs
+total-exit x [] = refl
+total-exit x (c ∷ cs) = omega (arith, total-exit x cs)
+
+-- what a word adds if it is anything: its symbol transitions, and one from each entry
+abbrev anythingWords : List ℕ → ℕ → ℕ
+anythingWords a w = cond (hasKind anythingKind w) (everySymbolWords a + length (constantsOf a)) 0
+
+abbrev allAnythingWords : List ℕ → List ℕ → ℕ
+allAnythingWords a [] = 0
+allAnythingWords a (w ∷ ws) = anythingWords a w + allAnythingWords a ws
+
 -- ---- the own transitions of a word
 
 -- 1 for a word with children, and 1 for a word with two children or more
@@ -74,7 +112,7 @@ branch (P ∷ []) = 0
 branch (P ∷ Q ∷ Ps) = 1
 
 own-length : {a : List ℕ} {hi w lo n : ℕ} {E : Port} {Ps : List Port} {ts : List Transition} → PortIn a n hi E → Children a lo n Ps
-    → Own a hi w E Ps ts → wordCount ts + branch Ps + suc (length (E .entries)) + n ≤ weight Ps + hi + suc (inner Ps)
+    → Own a hi w E Ps ts → wordCount ts + branch Ps + suc (length (E .entries)) + n ≤ weight Ps + hi + suc (inner Ps) + anythingWords a w
 own-length x c (leaf l) = omega (arith, x .from, l .states, l .entries)
 own-length {w} {E} x c (ofSymbol {P} {Ps} i f r) =
     let e = count-symbol (lowByte w) (E .exit) (map (λ Q. Q .exit) (P ∷ Ps)) (entryEpsilons (E .entries) (symbolTargets (P ∷ Ps))) in
@@ -122,6 +160,23 @@ own-length {w} {E} x (child p q) (ofClosure {F} i) =
       count-entryEpsilons (closureTargets c (E .exit) F) (E .entries),
       total-closure (x .constants) c (E .exit) F,
     )
+own-length {a} {w} {E} x c (ofAnything i e) =
+    let y = E .exit in
+    let k = kindOf-hasKind anythingKind w (λ z. absurd (let q = ap kindNumber z in omega arith)) e in
+    let l : length (E .entries) ≡ length (constantsOf a) =
+    sym (length-map (E .entries) (λ (p : ℕ × ℕ). p .0)) ∙ ap (λ (l : List ℕ). length l) (i .constants) in
+    rw k
+    (omega (
+      arith,
+      wordCount-append (everySymbol y 0 a) (entryEpsilons (E .entries) (anythingTargets y)),
+      count-everySymbol y a 0,
+      count-entryEpsilons (anythingTargets y) (E .entries),
+      total-exit y (constantsIn (E .entries)),
+      length-map (E .entries) (λ (p : ℕ × ℕ). p .0),
+      l,
+      x .from,
+      i .last,
+    ))
 
 -- ---- every word
 
@@ -136,10 +191,11 @@ abbrev pub branchingWords : List ℕ → List ℕ → ℕ
 branchingWords a ws = count (λ w. leb 2 (arity a w)) ws
 
 module _ (a : List ℕ) where
-  inner-number : (w : ℕ) (Ps : List Port) → length Ps ≡ arity a w → cond (hasEntries a w) 1 0 ≡ inner Ps
-  unfolding hasEntries
-  inner-number w [] e = rw (sym e)
-  inner-number w (P ∷ Ps) e = rw (ne-eqb (arity a w) 0 (omega arith))
+  inner-number : (w : ℕ) (Ps : List Port) → isExpressionWord a w ≡ true → length Ps ≡ arity a w → inner Ps ≤ cond (hasEntries a w) 1 0
+  inner-number w [] h e = omega arith
+  inner-number w (P ∷ Ps) h e =
+      let some : hasEntries a w ≡ true = entries-arity a w h ∙ rw (ne-eqb (arity a w) 0 (omega arith)) in
+      rw some (omega arith)
 
   branch-number : (w : ℕ) (Ps : List Port) → length Ps ≡ arity a w → cond (leb 2 (arity a w)) 1 0 ≡ branch Ps
   branch-number w [] e = rw (sym e)
@@ -148,34 +204,40 @@ module _ (a : List ℕ) where
 
   -- a word takes its children from the stack and puts its own port on it
   word-length : {n w : ℕ} {stack : List Port} → WordRead a n w stack
-      → wordCount (ownTransitions w (portOf a n w) (childrenOn a w stack)) + cond (leb 2 (arity a w)) 1 0 + weight
+      → wordCount (ownTransitions a w (portOf a n w) (childrenOn a w stack)) + cond (leb 2 (arity a w)) 1 0 + weight
       (portOf a n w ∷ drop (arity a w) stack) + n
-      ≤ weight stack + (n + statesOf a w) + suc (cond (hasEntries a w) 1 0)
+      ≤ weight stack + (n + statesOf a w) + suc (cond (hasEntries a w) 1 0) + anythingWords a w
   word-length {w} {stack} d =
-      let i = inner-number w (childrenOn a w stack) (d .number) in
+      let i = inner-number w (childrenOn a w stack) (d .ruleWord) (d .number) in
       let b = branch-number w (childrenOn a w stack) (d .number) in
       omega (arith, weight-taken (arity a w) stack [], own-length (d .port) (d .children) (d .own))
 
   reading-length : (ws : List ℕ) {n w : ℕ} {stack : List Port} → AllRead a n (w ∷ ws) stack
       → wordCount (transitionsFrom a n (w ∷ ws) stack) + branchingWords a (w ∷ ws) + suc (length (lastFrom a n w ws .entries)) + n
-      ≤ weight stack + statesAfter a n (w ∷ ws) + (length (w ∷ ws) + innerWords a (w ∷ ws))
+      ≤ weight stack + statesAfter a n (w ∷ ws) + (length (w ∷ ws) + innerWords a (w ∷ ws)) + allAnythingWords a (w ∷ ws)
   unfolding transitionsFrom statesAfter
   reading-length [] (word {n} {w} {stack} d r) =
-      omega (arith, wordCount-append (ownTransitions w (portOf a n w) (childrenOn a w stack)) [], word-length d)
+      omega (arith, wordCount-append (ownTransitions a w (portOf a n w) (childrenOn a w stack)) [], word-length d)
   reading-length (v ∷ ws) (word {n} {w} {stack} d r) =
       let ts = transitionsFrom a (n + statesOf a w) (v ∷ ws) (portOf a n w ∷ drop (arity a w) stack) in
-      omega (arith, wordCount-append (ownTransitions w (portOf a n w) (childrenOn a w stack)) ts, word-length d, reading-length ws r)
+      omega (arith, wordCount-append (ownTransitions a w (portOf a n w) (childrenOn a w stack)) ts, word-length d, reading-length ws r)
 
-  -- the words of the whole table: its states, less than two for each word, and the length word
-  pub table-length : (e : List ℕ) → expressionFault a e ≡ 0
+  none-anything : (e : List ℕ) → hasAnything e ≡ false → allAnythingWords a e ≡ 0
+  none-anything [] h = refl
+  none-anything (w ∷ ws) h =
+      let p = or-false (hasKind anythingKind w) (hasAnything ws) h in
+      rw (p .0) (omega (arith, none-anything ws (p .1)))
+
+  -- the words of the whole table, where the rule has no anything: its states, less than two for each word, and the length word
+  pub table-length : (e : List ℕ) → expressionFault a e ≡ 0 → hasAnything e ≡ false
       → length (tableWords (compiled a e)) + branchingWords a e ≤ compiled a e .states + (length e + innerWords a e) + 1
   unfolding compiled
-  table-length e f = go e (expression-accepted a e f .counted .some) (expression-reading a e f)
+  table-length e f h = go e (expression-accepted a e f .counted .some) (none-anything e h) (expression-reading a e f)
     where
-      go : (e : List ℕ) → 0 < length e → AllRead a 0 e []
+      go : (e : List ℕ) → 0 < length e → allAnythingWords a e ≡ 0 → AllRead a 0 e []
           → length (tableWords (compiled a e)) + branchingWords a e ≤ statesAfter a 0 e + (length e + innerWords a e) + 1
-      go [] l r = absurd (omega arith)
-      go (w ∷ ws) l r =
+      go [] l z r = absurd (omega arith)
+      go (w ∷ ws) l z r =
           let P = lastPort a (w ∷ ws) in
           let p = ap (λ Q. length (Q .entries)) (lastPort-from a w ws) in
           omega (

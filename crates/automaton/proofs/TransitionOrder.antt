@@ -1,21 +1,24 @@
--- Order in the table: behind its symbol transition, if it has one, the epsilon transitions of every word stand "ordered by
--- from and then by to".
+-- Order in the table: behind its symbol transitions, if it has any, in symbol order, the epsilon transitions of every word stand
+-- "ordered by from and then by to".
 use Prim.Native.Nat.{ℕ, suc, _+_, _<_, _≤_, zero-le}
 use mathlib.Core.Path.{_≡_, subst}
+use mathlib.Core.Bool.{Bool, true, false, cond}
 use mathlib.Core.List.{List, [], _∷_, _++_}
 use native.Mathlib.Omega.{arith}
 use native.Mathlib.Nat.{le-refl, le-trans, lt-trans, lt-of-le-of-lt}
 use native.Mathlib.Decide.{decLe}
-use lib.ListN.{drop}
+use lib.ListN.{drop, replicate}
+use lib.Dec.{eqb}
 use Rattle.words.specs.Word.{lowByte}
+use Rattle.words.specs.Alphabet.{entryRank}
 use Rattle.words.specs.Postfix.{arity}
 use Rattle.words.specs.ExpressionWords.{expressionFault}
 use Rattle.words.proofs.Ascending.{Ascending, end, next, ascending-append, ascending-one}
 use Rattle.automaton.specs.Transition.{Transition, onSymbol, epsilon}
-use Rattle.automaton.specs.Numbering.{Port, statesOf, portOf, epsilons, entryEpsilons, ownTransitions}
-use Rattle.automaton.specs.Numbering.{symbolTargets, unionTargets, productTargets, closureTargets}
+use Rattle.automaton.specs.Numbering.{Port, statesOf, portOf, epsilons, entryEpsilons, everySymbol, ownTransitions}
+use Rattle.automaton.specs.Numbering.{symbolTargets, unionTargets, productTargets, closureTargets, anythingTargets}
 use Rattle.automaton.proofs.PortStates.{statesIn, Children, noChild, child}
-use Rattle.automaton.proofs.OwnTransitions.{Own, leaf, ofSymbol, ofUnion, ofProduct, ofClosure}
+use Rattle.automaton.proofs.OwnTransitions.{Own, leaf, ofSymbol, ofUnion, ofProduct, ofClosure, ofAnything}
 use Rattle.automaton.proofs.PortReading.{AllRead, ended, word, childrenOn, expression-reading}
 use Rattle.automaton.proofs.TargetLaws.{entryFor-ascending, symbol-ascending, union-ascending, product-ascending, closure-ascending}
 
@@ -28,10 +31,15 @@ pub data OrderedFrom : ℕ → ℕ → List Transition → Type 0 where
 abbrev Ordered : List Transition → Type 0
 Ordered ts = OrderedFrom 0 0 ts
 
--- the own transitions of a word: "its symbol move, if its rank is above 0 .. and its empty moves, ordered by from and then by to"
-pub data InOrder : List Transition → Type 0 where
-  withSymbol : {f q : ℕ} {ps : List ℕ} {ts : List Transition} → Ordered ts → InOrder (onSymbol f ps q ∷ ts)
-  withoutSymbol : {ts : List Transition} → Ordered ts → InOrder ts
+-- the own transitions of a word: "its symbol move, if its rank is above 0 .. and its empty moves, ordered by from and then by to"; of
+-- anything those "for each symbol of rank above 0 in order": symbols that ascend strictly, none below s. That a word of another kind
+-- has at most one is in its definition.
+pub data InOrderFrom : ℕ → List Transition → Type 0 where
+  withSymbol : {s f q : ℕ} {ps : List ℕ} {ts : List Transition} → s ≤ f → InOrderFrom (suc f) ts → InOrderFrom s (onSymbol f ps q ∷ ts)
+  withoutSymbol : {s : ℕ} {ts : List Transition} → Ordered ts → InOrderFrom s ts
+
+abbrev pub InOrder : List Transition → Type 0
+InOrder ts = InOrderFrom 0 ts
 
 -- ---- laws of the order
 
@@ -60,13 +68,31 @@ entryEpsilons-ordered targets [] s t = none
 entryEpsilons-ordered {lo} targets (e ∷ es) (next k s) t =
     from-first lo k (epsilons-ordered (t (e .0)) (entryEpsilons-ordered targets es s t))
 
+in-order-from : {s r : ℕ} {ts : List Transition} → s ≤ r → InOrderFrom r ts → InOrderFrom s ts
+in-order-from l (withSymbol h o) = withSymbol (le-trans l h) o
+in-order-from l (withoutSymbol o) = withoutSymbol o
+
+everySymbol-ordered : (x : ℕ) (ws : List ℕ) (s : ℕ) {ts : List Transition} → Ordered ts → InOrderFrom s (everySymbol x s ws ++ ts)
+unfolding everySymbol
+everySymbol-ordered x [] s o = withoutSymbol o
+everySymbol-ordered x (w ∷ ws) s {ts} o = go (eqb (entryRank w) 0) (everySymbol-ordered x ws (suc s) o)
+  where
+    rest : List Transition
+    rest = everySymbol x (suc s) ws
+
+    go : (b : Bool) → InOrderFrom (suc s) (rest ++ ts)
+        → InOrderFrom s (cond b rest (onSymbol s (replicate (entryRank w) x) x ∷ rest) ++ ts)
+    go true r = in-order-from (omega arith) r
+    go false r = withSymbol (le-refl s) r
+
 -- ---- the own transitions of a word
 
 pub own-ordered : {a : List ℕ} {hi w lo n : ℕ} {E : Port} {Ps : List Port} {ts : List Transition} → n ≤ E .exit
     → Children a lo n Ps → Own a hi w E Ps ts → InOrder ts
 own-ordered x c (leaf l) = withoutSymbol none
 own-ordered {E} x c (ofSymbol {P} {Ps} i f r) =
-    withSymbol (from-first 0 zero-le (entryEpsilons-ordered (symbolTargets (P ∷ Ps)) (E .entries) (i .states) (symbol-ascending c)))
+    withSymbol zero-le
+    (withoutSymbol (from-first 0 zero-le (entryEpsilons-ordered (symbolTargets (P ∷ Ps)) (E .entries) (i .states) (symbol-ascending c))))
 own-ordered {E} x (child p (child q (noChild l))) (ofUnion {F} {G} i) =
     let f : F .exit < G .exit = omega arith in
     let g : G .exit < suc (E .exit) = omega arith in
@@ -85,6 +111,11 @@ own-ordered {w} {E} x (child p (noChild l)) (ofClosure {F} i) =
     let ts = entryEpsilons-ordered (closureTargets c (E .exit) F) (E .entries) (i .states) (closure-ascending c p (le-trans l x)) in
     let qs = ascending-append (entryFor-ascending c F p) (ascending-one (le-trans l x) (le-refl (suc (E .exit)))) in
     withoutSymbol (from-first 0 zero-le (epsilons-ordered qs (from-first (suc (F .exit)) g ts)))
+own-ordered {a} {E} x c (ofAnything i e) =
+    let y = E .exit in
+    everySymbol-ordered y a 0
+    (from-first 0 zero-le
+    (entryEpsilons-ordered (anythingTargets y) (E .entries) (i .states) (λ b. ascending-one (le-refl y) (le-refl (suc y)))))
 
 -- ---- every word
 
@@ -92,7 +123,7 @@ own-ordered {w} {E} x (child p (noChild l)) (ofClosure {F} i) =
 abbrev AllInOrder : List ℕ → ℕ → List ℕ → List Port → Type 0
 AllInOrder a n [] stack = Unit {0}
 AllInOrder a n (w ∷ ws) stack =
-    InOrder (ownTransitions w (portOf a n w) (childrenOn a w stack))
+    InOrder (ownTransitions a w (portOf a n w) (childrenOn a w stack))
     × AllInOrder a (n + statesOf a w) ws (portOf a n w ∷ drop (arity a w) stack)
 
 reading-ordered : {a : List ℕ} {n : ℕ} {ws : List ℕ} {stack : List Port} → AllRead a n ws stack → AllInOrder a n ws stack

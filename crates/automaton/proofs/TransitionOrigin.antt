@@ -5,18 +5,21 @@ use mathlib.Core.Path.{refl}
 use mathlib.Core.Logic.{_⊎_, inl, inr}
 use mathlib.Core.List.{List, [], _∷_, _++_, map, reverseAux, List·Memᴰ, List·Memᴰ·head, List·Memᴰ·tail}
 use native.Mathlib.Omega.{arith}
-use lib.ListN.{length, take, drop}
+use native.Mathlib.Nat.{le-refl}
+use lib.ListN.{length, take, drop, length-replicate}
 use Rattle.words.specs.Word.{lowByte}
+use Rattle.words.specs.Alphabet.{rankOf}
 use Rattle.words.specs.Postfix.{arity}
 use Rattle.words.specs.Lists.{All}
 use Rattle.words.proofs.AllLaws.{each-append}
 use Rattle.words.proofs.Ascending.{Ascending, next, ascending-le}
 use Rattle.automaton.specs.Transition.{Transition, onSymbol, epsilon}
-use Rattle.automaton.specs.Numbering.{Port, statesOf, portOf, entryFor, epsilons, entryEpsilons}
-use Rattle.automaton.specs.Numbering.{symbolTargets, unionTargets, productTargets, closureTargets}
+use Rattle.automaton.specs.Numbering.{Port, statesOf, portOf, entryFor, epsilons, entryEpsilons, everySymbol}
+use Rattle.automaton.specs.Numbering.{symbolTargets, unionTargets, productTargets, closureTargets, anythingTargets}
 use Rattle.automaton.proofs.EveryEntryLaws.{to-epsilons, to-entryEpsilons}
+use Rattle.automaton.proofs.EverySymbolLaws.{to-everySymbol}
 use Rattle.automaton.proofs.PortStates.{statesIn, PortIn, PortStack, push, Children, child, children-le}
-use Rattle.automaton.proofs.OwnTransitions.{Own, leaf, ofSymbol, ofUnion, ofProduct, ofClosure}
+use Rattle.automaton.proofs.OwnTransitions.{Own, leaf, ofSymbol, ofUnion, ofProduct, ofClosure, ofAnything}
 use Rattle.automaton.proofs.PortReading.{WordRead, childrenOn}
 
 abbrev pub exitsOf : List Port → List ℕ
@@ -100,6 +103,12 @@ own-of {hi} {w} {E} x (ofClosure {F} i) =
     let us = from-child (E .exit) hi Ps (F .exit) qs (List·Memᴰ·head refl) in
     let ts = from-own (E .exit) hi Ps (closureTargets c (E .exit) F) (E .entries) (omega arith) (i .states) in
     each-append (OfWord (E .exit) hi Ps) (epsilons (F .exit) qs) (entryEpsilons (E .entries) (closureTargets c (E .exit) F)) us ts
+own-of {a} {hi} {E} x (ofAnything i e) =
+    let y = E .exit in
+    each-append (OfWord y hi []) (everySymbol y 0 a) (entryEpsilons (E .entries) (anythingTargets y))
+    (to-everySymbol (OfWord y hi []) y a
+    (λ f l z. let r = length-replicate {A = ℕ} (rankOf a f) y in (omega (arith, r, z), le-refl y, x .below)))
+    (from-own y hi [] (anythingTargets y) (E .entries) (omega arith) (i .states))
 
 -- ---- every word
 

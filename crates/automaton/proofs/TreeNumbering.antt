@@ -1,14 +1,18 @@
 -- The numbered automaton of an expression as a tree: the states and transitions of each part from its first free state n
--- on, over the constants cs.
+-- on, over the alphabet a.
 use Prim.Native.Nat.{ℕ, suc, _+_}
 use mathlib.Core.List.{List, [], _∷_, _++_, map, List·Memᴰ}
 use lib.ListN.{length}
-use Rattle.language.specs.Expression.{Expression, Expressions, symbol, empty, union, product, closure, noneᵉ, moreᵉ}
+use Rattle.words.specs.Alphabet.{constantsOf}
+use Rattle.language.specs.Expression.{Expression, Expressions, symbol, empty, union, product, closure, anything, noneᵉ, moreᵉ}
 use Rattle.automaton.specs.Transition.{Transition}
 use Rattle.automaton.specs.Numbering.{Port, fullEntries, exitEntry, lookup, symbolTargets, symbolTransitions, unionTransitions}
-use Rattle.automaton.specs.Numbering.{productTransitions, closureTransitions, constantTransitions}
+use Rattle.automaton.specs.Numbering.{productTransitions, closureTransitions, anythingTransitions, constantTransitions}
 
-module _ (cs : List ℕ) where
+module _ (a : List ℕ) where
+  abbrev cs : List ℕ
+  cs = constantsOf a
+
   -- ---- states
 
   -- behind the own states of a symbol whose exit is x: over no children it is a constant, which has its exit alone
@@ -24,6 +28,7 @@ module _ (cs : List ℕ) where
     next (union F G) n = suc (next G (next F n)) + length cs
     next (product c F G) n = suc (next G (next F n)) + length cs
     next (closure c F) n = suc (next F n) + length cs
+    next anything n = suc n + length cs
 
     pub nextAll : Expressions → ℕ → ℕ
     nextAll noneᵉ n = n
@@ -35,6 +40,7 @@ module _ (cs : List ℕ) where
   exitState (union F G) n = next G (next F n)
   exitState (product c F G) n = next G (next F n)
   exitState (closure c F) n = next F n
+  exitState anything n = n
 
   abbrev pub entryStates : Expression → ℕ → List (ℕ × ℕ)
   entryStates (symbol c noneᵉ) n = exitEntry c n
@@ -43,6 +49,7 @@ module _ (cs : List ℕ) where
   entryStates (union F G) n = fullEntries cs (exitState (union F G) n)
   entryStates (product c F G) n = fullEntries cs (exitState (product c F G) n)
   entryStates (closure c F) n = fullEntries cs (exitState (closure c F) n)
+  entryStates anything n = fullEntries cs n
 
   abbrev pub port : Expression → ℕ → Port
   port E n = record { exit = exitState E n; entries = entryStates E n }
@@ -66,12 +73,12 @@ module _ (cs : List ℕ) where
 
   -- those of the last word of an expression
   abbrev pub own : Expression → ℕ → List Transition
-  own (symbol c noneᵉ) n = []
-  own (symbol f (moreᵉ e es)) n = symbolTransitions f (port (symbol f (moreᵉ e es)) n) (ports (moreᵉ e es) n)
+  own (symbol f es) n = symbolTransitions f (port (symbol f es) n) (ports es n)
   own empty n = []
   own (union F G) n = unionTransitions (port (union F G) n) (port F n) (port G (next F n))
   own (product c F G) n = productTransitions c (port (product c F G) n) (port F n) (port G (next F n))
   own (closure c F) n = closureTransitions c (port (closure c F) n) (port F n)
+  own anything n = anythingTransitions a (port anything n)
 
   -- those of all its words
   abbrev mutual
@@ -81,6 +88,7 @@ module _ (cs : List ℕ) where
     transitionsOf (union F G) n = transitionsOf F n ++ (transitionsOf G (next F n) ++ own (union F G) n)
     transitionsOf (product c F G) n = transitionsOf F n ++ (transitionsOf G (next F n) ++ own (product c F G) n)
     transitionsOf (closure c F) n = transitionsOf F n ++ own (closure c F) n
+    transitionsOf anything n = own anything n
 
     pub transitionsOfAll : Expressions → ℕ → List Transition
     transitionsOfAll noneᵉ n = []
@@ -103,6 +111,7 @@ module _ (cs : List ℕ) where
     ConstantsListed (union F G) = ConstantsListed F × ConstantsListed G
     ConstantsListed (product c F G) = List·Memᴰ c cs × ConstantsListed F × ConstantsListed G
     ConstantsListed (closure c F) = List·Memᴰ c cs × ConstantsListed F
+    ConstantsListed anything = Unit {0}
 
     pub ConstantsListedAll : Expressions → Type 0
     ConstantsListedAll noneᵉ = Unit {0}

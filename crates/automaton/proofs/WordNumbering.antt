@@ -5,12 +5,11 @@ use mathlib.Core.List.{List, [], _∷_, _++_, reverseAux, append-assoc, append-n
 use native.Mathlib.Omega.{arith}
 use lib.ListN.{length, length-append}
 use lib.Seq.{getD-append-add}
-use Rattle.words.specs.Alphabet.{constantsOf}
 use Rattle.words.specs.Tree.{postfixAll}
 use Rattle.words.specs.Postfix.{arity}
 use Rattle.words.specs.Limits.{alphabetMost}
 use Rattle.words.proofs.ReadingLaws.{take-pushed, drop-pushed}
-use Rattle.language.specs.Expression.{Expression, Expressions, symbol, empty, union, product, closure, noneᵉ, moreᵉ}
+use Rattle.language.specs.Expression.{Expression, Expressions, symbol, empty, union, product, closure, anything, noneᵉ, moreᵉ}
 use Rattle.language.specs.Expression.{syntaxTrees, expressionWords, numberᵉ, ExpressionOver, ExpressionsOver}
 use Rattle.automaton.specs.Transition.{Transition, Automaton}
 use Rattle.automaton.specs.Numbering.{Port, statesOf, portOf, childPort, ownTransitions, portsFrom}
@@ -20,12 +19,9 @@ use Rattle.automaton.proofs.TreeNumbering.{transitionsOf, transitionsOf
 use Rattle.automaton.proofs.LastWord.{lastWord, parts, LastWord, last-word}
 
 module _ (a : List ℕ) where
-  abbrev cs : List ℕ
-  cs = constantsOf a
-
-  length-ports : (es : Expressions) (n : ℕ) → length (ports cs es n) ≡ numberᵉ es
+  length-ports : (es : Expressions) (n : ℕ) → length (ports a es n) ≡ numberᵉ es
   length-ports noneᵉ n = refl
-  length-ports (moreᵉ e es) n = ap suc (length-ports es (next cs e n))
+  length-ports (moreᵉ e es) n = ap suc (length-ports es (next a e n))
 
   -- ---- the last word takes its parts' states from the stack
 
@@ -34,19 +30,19 @@ module _ (a : List ℕ) where
     w = lastWord E
 
     transitions-last : (rest : List ℕ) (stack : List Port)
-        → transitionsFrom a (exitState cs E n) (w ∷ rest) (reverseAux (ports cs (parts E) n) stack)
-        ≡ own cs E n ++ transitionsFrom a (next cs E n) rest (port cs E n ∷ stack)
+        → transitionsFrom a (exitState a E n) (w ∷ rest) (reverseAux (ports a (parts E) n) stack)
+        ≡ own a E n ++ transitionsFrom a (next a E n) rest (port a E n ∷ stack)
     unfolding transitionsFrom
     transitions-last rest stack =
         let m = L .arity-is ∙ sym (length-ports (parts E) n) in
-        let taken = take-pushed (ports cs (parts E) n) stack (arity a w) m in
-        let left = drop-pushed (ports cs (parts E) n) stack (arity a w) m in
+        let taken = take-pushed (ports a (parts E) n) stack (arity a w) m in
+        let left = drop-pushed (ports a (parts E) n) stack (arity a w) m in
         ap₂ (λ (ts us : List Transition). ts ++ us)
-        (ap₂ (λ (P : Port) (Ps : List Port). ownTransitions w P Ps) (L .port-is) taken ∙ L .own-are)
+        (ap₂ (λ (P : Port) (Ps : List Port). ownTransitions a w P Ps) (L .port-is) taken ∙ L .own-are)
         (ap₂ (λ (k : ℕ) (s : List Port). transitionsFrom a k rest s) (L .states-are)
         (ap₂ (λ (P : Port) (s : List Port). P ∷ s) (L .port-is) left))
 
-    states-last : (rest : List ℕ) → statesAfter a (exitState cs E n) (w ∷ rest) ≡ statesAfter a (next cs E n) rest
+    states-last : (rest : List ℕ) → statesAfter a (exitState a E n) (w ∷ rest) ≡ statesAfter a (next a E n) rest
     unfolding statesAfter
     states-last rest = ap (λ k. statesAfter a k rest) (L .states-are)
 
@@ -55,26 +51,26 @@ module _ (a : List ℕ) where
   record Reads (E : Expression) (n : ℕ) : Type 0 where
     transitions : (rest : List ℕ) (stack : List Port)
         → transitionsFrom a n (expressionWords E ++ rest) stack
-        ≡ transitionsOf cs E n ++ transitionsFrom a (next cs E n) rest (port cs E n ∷ stack)
-    states : (rest : List ℕ) → statesAfter a n (expressionWords E ++ rest) ≡ statesAfter a (next cs E n) rest
+        ≡ transitionsOf a E n ++ transitionsFrom a (next a E n) rest (port a E n ∷ stack)
+    states : (rest : List ℕ) → statesAfter a n (expressionWords E ++ rest) ≡ statesAfter a (next a E n) rest
 
   record ReadsAll (es : Expressions) (n : ℕ) : Type 0 where
     transitions : (rest : List ℕ) (stack : List Port)
         → transitionsFrom a n (postfixAll (syntaxTrees es) ++ rest) stack
-        ≡ transitionsOfAll cs es n ++ transitionsFrom a (nextAll cs es n) rest (reverseAux (ports cs es n) stack)
-    states : (rest : List ℕ) → statesAfter a n (postfixAll (syntaxTrees es) ++ rest) ≡ statesAfter a (nextAll cs es n) rest
+        ≡ transitionsOfAll a es n ++ transitionsFrom a (nextAll a es n) rest (reverseAux (ports a es n) stack)
+    states : (rest : List ℕ) → statesAfter a n (postfixAll (syntaxTrees es) ++ rest) ≡ statesAfter a (nextAll a es n) rest
 
   reads-none : (n : ℕ) → ReadsAll noneᵉ n
   reads-none n = record { transitions = λ rest stack. refl; states = λ rest. refl }
 
-  reads-more : (e : Expression) (es : Expressions) (n : ℕ) → Reads e n → ReadsAll es (next cs e n) → ReadsAll (moreᵉ e es) n
+  reads-more : (e : Expression) (es : Expressions) (n : ℕ) → Reads e n → ReadsAll es (next a e n) → ReadsAll (moreᵉ e es) n
   reads-more e es n r rs = record {
     transitions = λ rest stack.
         ap (λ (l : List ℕ). transitionsFrom a n l stack) (append-assoc (expressionWords e) (postfixAll (syntaxTrees es)) rest)
         ∙ r .transitions (postfixAll (syntaxTrees es) ++ rest) stack
-        ∙ ap (λ (ts : List Transition). transitionsOf cs e n ++ ts) (rs .transitions rest (port cs e n ∷ stack))
-        ∙ sym (append-assoc (transitionsOf cs e n) (transitionsOfAll cs es (next cs e n))
-        (transitionsFrom a (nextAll cs (moreᵉ e es) n) rest (reverseAux (ports cs (moreᵉ e es) n) stack)));
+        ∙ ap (λ (ts : List Transition). transitionsOf a e n ++ ts) (rs .transitions rest (port a e n ∷ stack))
+        ∙ sym (append-assoc (transitionsOf a e n) (transitionsOfAll a es (next a e n))
+        (transitionsFrom a (nextAll a (moreᵉ e es) n) rest (reverseAux (ports a (moreᵉ e es) n) stack)));
     states = λ rest.
         ap (statesAfter a n) (append-assoc (expressionWords e) (postfixAll (syntaxTrees es)) rest)
         ∙ r .states (postfixAll (syntaxTrees es) ++ rest)
@@ -88,31 +84,34 @@ module _ (a : List ℕ) where
   words-split (union F G) = refl
   words-split (product c F G) = refl
   words-split (closure c F) = refl
+  words-split anything = refl
 
-  exit-split : (E : Expression) (n : ℕ) → nextAll cs (parts E) n ≡ exitState cs E n
+  exit-split : (E : Expression) (n : ℕ) → nextAll a (parts E) n ≡ exitState a E n
   exit-split (symbol f es) n = refl
   exit-split empty n = refl
   exit-split (union F G) n = refl
   exit-split (product c F G) n = refl
   exit-split (closure c F) n = refl
+  exit-split anything n = refl
 
-  transitions-split : (E : Expression) (n : ℕ) → transitionsOfAll cs (parts E) n ++ own cs E n ≡ transitionsOf cs E n
+  transitions-split : (E : Expression) (n : ℕ) → transitionsOfAll a (parts E) n ++ own a E n ≡ transitionsOf a E n
   transitions-split (symbol f es) n = refl
   transitions-split empty n = refl
   transitions-split (union F G) n = simp append-assoc
   transitions-split (product c F G) n = simp append-assoc
   transitions-split (closure c F) n = simp append-assoc
+  transitions-split anything n = refl
 
   reads-word : (E : Expression) (n : ℕ) → LastWord a E n → ReadsAll (parts E) n → Reads E n
   reads-word E n L rs = record {
     transitions = λ rest stack.
         ap (λ (l : List ℕ). transitionsFrom a n l stack) (split rest)
         ∙ rs .transitions (lastWord E ∷ rest) stack
-        ∙ ap (λ (ts : List Transition). transitionsOfAll cs (parts E) n ++ ts)
-        (ap (λ k. transitionsFrom a k (lastWord E ∷ rest) (reverseAux (ports cs (parts E) n) stack)) (exit-split E n)
+        ∙ ap (λ (ts : List Transition). transitionsOfAll a (parts E) n ++ ts)
+        (ap (λ k. transitionsFrom a k (lastWord E ∷ rest) (reverseAux (ports a (parts E) n) stack)) (exit-split E n)
         ∙ transitions-last E n L rest stack)
-        ∙ sym (append-assoc (transitionsOfAll cs (parts E) n) (own cs E n) (transitionsFrom a (next cs E n) rest (port cs E n ∷ stack)))
-        ∙ ap (λ (ts : List Transition). ts ++ transitionsFrom a (next cs E n) rest (port cs E n ∷ stack)) (transitions-split E n);
+        ∙ sym (append-assoc (transitionsOfAll a (parts E) n) (own a E n) (transitionsFrom a (next a E n) rest (port a E n ∷ stack)))
+        ∙ ap (λ (ts : List Transition). ts ++ transitionsFrom a (next a E n) rest (port a E n ∷ stack)) (transitions-split E n);
     states = λ rest.
         ap (statesAfter a n) (split rest)
         ∙ rs .states (lastWord E ∷ rest)
@@ -125,25 +124,26 @@ module _ (a : List ℕ) where
 
   module _ (l : length a ≤ alphabetMost) where
     reads-two : (F G : Expression) (n : ℕ) → ExpressionOver a F → ExpressionOver a G → ReadsAll (parts F) n
-        → ReadsAll (parts G) (next cs F n) → ReadsAll (moreᵉ F (moreᵉ G noneᵉ)) n
+        → ReadsAll (parts G) (next a F n) → ReadsAll (moreᵉ F (moreᵉ G noneᵉ)) n
     reads-two F G n oF oG rF rG =
-        let g = next cs F n in
+        let g = next a F n in
         reads-more F (moreᵉ G noneᵉ) n (reads-word F n (last-word a l F n oF) rF)
-        (reads-more G noneᵉ g (reads-word G g (last-word a l G g oG) rG) (reads-none (next cs G g)))
+        (reads-more G noneᵉ g (reads-word G g (last-word a l G g oG) rG) (reads-none (next a G g)))
 
     mutual
       reads-parts : (E : Expression) (n : ℕ) → ExpressionOver a E → ReadsAll (parts E) n
       reads-parts (symbol f es) n o = reads-all es n (o .2)
       reads-parts empty n o = reads-none n
-      reads-parts (union F G) n o = reads-two F G n (o .0) (o .1) (reads-parts F n (o .0)) (reads-parts G (next cs F n) (o .1))
-      reads-parts (product c F G) n o = reads-two F G n (o .1) (o .2) (reads-parts F n (o .1)) (reads-parts G (next cs F n) (o .2))
+      reads-parts (union F G) n o = reads-two F G n (o .0) (o .1) (reads-parts F n (o .0)) (reads-parts G (next a F n) (o .1))
+      reads-parts (product c F G) n o = reads-two F G n (o .1) (o .2) (reads-parts F n (o .1)) (reads-parts G (next a F n) (o .2))
       reads-parts (closure c F) n o =
-          reads-more F noneᵉ n (reads-word F n (last-word a l F n (o .1)) (reads-parts F n (o .1))) (reads-none (next cs F n))
+          reads-more F noneᵉ n (reads-word F n (last-word a l F n (o .1)) (reads-parts F n (o .1))) (reads-none (next a F n))
+      reads-parts anything n o = reads-none n
 
       reads-all : (es : Expressions) (n : ℕ) → ExpressionsOver a es → ReadsAll es n
       reads-all noneᵉ n o = reads-none n
       reads-all (moreᵉ e es) n o =
-          reads-more e es n (reads-word e n (last-word a l e n (o .0)) (reads-parts e n (o .0))) (reads-all es (next cs e n) (o .1))
+          reads-more e es n (reads-word e n (last-word a l e n (o .0)) (reads-parts e n (o .0))) (reads-all es (next a e n) (o .1))
 
     reads : (E : Expression) (n : ℕ) → ExpressionOver a E → Reads E n
     reads E n o = reads-word E n (last-word a l E n o) (reads-parts E n o)
@@ -175,14 +175,14 @@ module _ (a : List ℕ) where
   assemble n P ts = record { states = n; final = P .exit; transitions = constantTransitions (P .entries) ++ ts }
 
   abbrev treeAutomaton : Expression → Automaton
-  treeAutomaton E = record { states = next cs E 0; final = exitState cs E 0; transitions = treeTransitions cs E }
+  treeAutomaton E = record { states = next a E 0; final = exitState a E 0; transitions = treeTransitions a E }
 
   module _ (l : length a ≤ alphabetMost) (E : Expression) (o : ExpressionOver a E) where
-    compiled-states : statesAfter a 0 (expressionWords E) ≡ next cs E 0
+    compiled-states : statesAfter a 0 (expressionWords E) ≡ next a E 0
     unfolding statesAfter
     compiled-states = ap (statesAfter a 0) (sym (append-nil (expressionWords E))) ∙ reads l E 0 o .states []
 
-    compiled-port : lastPort a (expressionWords E) ≡ port cs E 0
+    compiled-port : lastPort a (expressionWords E) ≡ port a E 0
     unfolding statesAfter
     compiled-port =
         let before = postfixAll (syntaxTrees (parts E)) in
@@ -192,12 +192,12 @@ module _ (a : List ℕ) where
         (ap (statesAfter a 0) (sym (append-nil before)) ∙ reads-parts l E 0 o .states [] ∙ exit-split E 0)
         ∙ last-word a l E 0 o .port-is
 
-    compiled-transitions : transitionsFrom a 0 (expressionWords E) [] ≡ transitionsOf cs E 0
+    compiled-transitions : transitionsFrom a 0 (expressionWords E) [] ≡ transitionsOf a E 0
     unfolding transitionsFrom
     compiled-transitions =
         ap (λ (k : List ℕ). transitionsFrom a 0 k []) (sym (append-nil (expressionWords E)))
         ∙ reads l E 0 o .transitions [] []
-        ∙ append-nil (transitionsOf cs E 0)
+        ∙ append-nil (transitionsOf a E 0)
 
     pub compiled-tree : compiled a (expressionWords E) ≡ treeAutomaton E
     unfolding compiled

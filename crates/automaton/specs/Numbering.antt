@@ -1,13 +1,13 @@
 -- The numbered Thompson tree automaton of a rule, word by word (document 01, "Numbered automaton"; document 000, section
--- 3).
+-- 3; document 02, U7).
 use Prim.Native.Nat.{ℕ, suc, _+_, _-_}
 use mathlib.Core.List.{List, [], _∷_, _++_, map, flatMap, reverse}
-use mathlib.Core.Bool.{Bool, not, cond}
-use lib.ListN.{length, getD, take, drop}
+use mathlib.Core.Bool.{Bool, true, false, not, cond}
+use lib.ListN.{length, getD, take, drop, replicate}
 use lib.Dec.{eqb}
 use Rattle.words.specs.Word.{Kind, entryKind, symbolKind, emptyKind, unionKind, productKind, closureKind, nodeKind}
-use Rattle.words.specs.Word.{headKind, transitionKind, epsilonKind, sourceKind, lengthKind, noKind, kindOf, hasKind, lowByte}
-use Rattle.words.specs.Alphabet.{constantsOf}
+use Rattle.words.specs.Word.{headKind, transitionKind, epsilonKind, sourceKind, lengthKind, anythingKind, noKind, kindOf, hasKind, lowByte}
+use Rattle.words.specs.Alphabet.{entryRank, rankOf, constantsOf}
 use Rattle.words.specs.Postfix.{arity}
 use Rattle.automaton.specs.Transition.{Transition, Automaton, onSymbol, epsilon}
 
@@ -21,9 +21,26 @@ abbrev pub numbered : ℕ → List ℕ → List (ℕ × ℕ)
 numbered n [] = []
 numbered n (c ∷ cs) = (c, n) ∷ numbered (suc n) cs
 
--- a word with entries: any but a constant and the empty language
+-- whether a word of a kind has entries, where `rank` is the rank of its symbol: any rule word but a constant and the empty language;
+-- anything "gets an exit and an entry for each constant" (document 02, U7)
+abbrev pub entriesAt : ℕ → Kind → Bool
+entriesAt rank symbolKind = not (eqb rank 0)
+entriesAt rank emptyKind = false
+entriesAt rank unionKind = true
+entriesAt rank productKind = true
+entriesAt rank closureKind = true
+entriesAt rank anythingKind = true
+entriesAt rank nodeKind = false
+entriesAt rank entryKind = false
+entriesAt rank headKind = false
+entriesAt rank transitionKind = false
+entriesAt rank epsilonKind = false
+entriesAt rank sourceKind = false
+entriesAt rank lengthKind = false
+entriesAt rank noKind = false
+
 unfoldable pub hasEntries : List ℕ → ℕ → Bool
-hasEntries a w = not (eqb (arity a w) 0)
+hasEntries a w = entriesAt (rankOf a (lowByte w)) (kindOf w)
 
 -- "A constant or empty word gets one, its exit. Any other word gets its exit, then one entry for each constant"
 unfoldable pub statesOf : List ℕ → ℕ → ℕ
@@ -77,8 +94,11 @@ entryEpsilons (entry ∷ entries) targets = epsilons (entry .1) (targets (entry 
 abbrev pub symbolTargets : List Port → ℕ → List ℕ
 symbolTargets Ps b = flatMap (λ P. entryFor P b) Ps
 
+-- "its symbol move, if its rank is above 0": a constant has no transitions
 abbrev pub symbolTransitions : ℕ → Port → List Port → List Transition
-symbolTransitions f E Ps = onSymbol f (map (λ P. P .exit) Ps) (E .exit) ∷ entryEpsilons (E .entries) (symbolTargets Ps)
+symbolTransitions f E [] = []
+symbolTransitions f E (P ∷ Ps) =
+    onSymbol f (map (λ Q. Q .exit) (P ∷ Ps)) (E .exit) ∷ entryEpsilons (E .entries) (symbolTargets (P ∷ Ps))
 
 -- "Union: the same to both parts; both exits to E's exit."
 abbrev pub unionTargets : Port → Port → ℕ → List ℕ
@@ -103,30 +123,46 @@ abbrev pub closureTransitions : ℕ → Port → Port → List Transition
 closureTransitions c E F =
     epsilons (F .exit) (entryFor F c ++ (E .exit ∷ [])) ++ entryEpsilons (E .entries) (closureTargets c (E .exit) F)
 
+-- "for each symbol of rank above 0 in order, a symbol move from its exit in every part to its exit": those of a word with exit x, on
+-- the symbols of entries of which the first has number s
+unfoldable pub everySymbol : ℕ → ℕ → List ℕ → List Transition
+everySymbol x s [] = []
+everySymbol x s (w ∷ ws) =
+    let rest = everySymbol x (suc s) ws in
+    cond (eqb (entryRank w) 0) rest (onSymbol s (replicate (entryRank w) x) x ∷ rest)
+
+-- "then each entry to its exit"
+abbrev pub anythingTargets : ℕ → ℕ → List ℕ
+anythingTargets x b = x ∷ []
+
+-- anything over the alphabet a, with states E
+abbrev pub anythingTransitions : List ℕ → Port → List Transition
+anythingTransitions a E = everySymbol (E .exit) 0 a ++ entryEpsilons (E .entries) (anythingTargets (E .exit))
+
 -- child i, where there is one
 abbrev pub childPort : List Port → ℕ → Port
 childPort Ps i = getD Ps i (record { exit = 0; entries = [] })
 
--- the own transitions of a word of a kind, with its symbol, over its children P, ..
-abbrev pub ownAt : Kind → ℕ → Port → Port → List Port → List Transition
-ownAt symbolKind s E P Ps = symbolTransitions s E (P ∷ Ps)
-ownAt unionKind s E P Ps = unionTransitions E P (childPort Ps 0)
-ownAt productKind s E P Ps = productTransitions s E P (childPort Ps 0)
-ownAt closureKind s E P Ps = closureTransitions s E P
-ownAt emptyKind s E P Ps = []
-ownAt nodeKind s E P Ps = []
-ownAt entryKind s E P Ps = []
-ownAt headKind s E P Ps = []
-ownAt transitionKind s E P Ps = []
-ownAt epsilonKind s E P Ps = []
-ownAt sourceKind s E P Ps = []
-ownAt lengthKind s E P Ps = []
-ownAt noKind s E P Ps = []
+-- the own transitions of a word of a kind, with its symbol, over its children
+abbrev pub ownAt : List ℕ → Kind → ℕ → Port → List Port → List Transition
+ownAt a symbolKind s E Ps = symbolTransitions s E Ps
+ownAt a unionKind s E Ps = unionTransitions E (childPort Ps 0) (childPort Ps 1)
+ownAt a productKind s E Ps = productTransitions s E (childPort Ps 0) (childPort Ps 1)
+ownAt a closureKind s E Ps = closureTransitions s E (childPort Ps 0)
+ownAt a anythingKind s E Ps = anythingTransitions a E
+ownAt a emptyKind s E Ps = []
+ownAt a nodeKind s E Ps = []
+ownAt a entryKind s E Ps = []
+ownAt a headKind s E Ps = []
+ownAt a transitionKind s E Ps = []
+ownAt a epsilonKind s E Ps = []
+ownAt a sourceKind s E Ps = []
+ownAt a lengthKind s E Ps = []
+ownAt a noKind s E Ps = []
 
--- the own transitions of word w; a constant and the empty language have none
-unfoldable pub ownTransitions : ℕ → Port → List Port → List Transition
-ownTransitions w E [] = []
-ownTransitions w E (P ∷ Ps) = ownAt (kindOf w) (lowByte w) E P Ps
+-- the own transitions of word w
+unfoldable pub ownTransitions : List ℕ → ℕ → Port → List Port → List Transition
+ownTransitions a w E Ps = ownAt a (kindOf w) (lowByte w) E Ps
 
 -- "Rule words in order get consecutive states from 0": the states of the words, from state n on
 unfoldable pub portsFrom : List ℕ → ℕ → List ℕ → List Port
@@ -142,7 +178,7 @@ statesAfter a n (w ∷ ws) = statesAfter a (n + statesOf a w) ws
 unfoldable pub transitionsFrom : List ℕ → ℕ → List ℕ → List Port → List Transition
 transitionsFrom a n [] stack = []
 transitionsFrom a n (w ∷ ws) stack =
-    ownTransitions w (portOf a n w) (reverse (take (arity a w) stack))
+    ownTransitions a w (portOf a n w) (reverse (take (arity a w) stack))
     ++ transitionsFrom a (n + statesOf a w) ws (portOf a n w ∷ drop (arity a w) stack)
 
 -- the symbol moves of constants into entries, in the order of the entries

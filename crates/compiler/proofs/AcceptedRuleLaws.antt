@@ -14,6 +14,7 @@ use Rattle.words.proofs.AcceptedAlphabet.{AcceptedAlphabet, alphabet-accepted}
 use Rattle.words.proofs.AcceptedExpression.{AcceptedExpression, expression-accepted}
 use Rattle.operations.specs.Compile.{ruleRefusals}
 use Rattle.operations.proofs.AcceptedLaws.{rule-accepted}
+use Rattle.emitter.specs.Emission.{SymbolsEmittable}
 use Rattle.compiler.specs.Compiling.{wordStatesMost, StatesCountable}
 
 pub rule-alphabet : (a e : List ℕ) → refusal (ruleRefusals a e) ≡ 0 → AcceptedAlphabet a
@@ -25,6 +26,10 @@ rule-expression a e h = expression-accepted a e (rule-accepted a e h .expression
 -- the states of a word can be counted by the number of the constants
 pub states-countable : (a : List ℕ) (count : ℕ) → AcceptedAlphabet a → count ≡ length (constantsOf a) → StatesCountable a count
 states-countable a count h e = let few = h .constants .few in record { constants = e; few = omega arith }
+
+-- what the emitter asks of the symbols
+pub symbols-emittable : (a : List ℕ) → AcceptedAlphabet a → SymbolsEmittable a
+symbols-emittable a h = record { few = h .counted .few; ranks = h .ranks }
 
 -- the states of a rule's first words are few
 pub states-few : (e : List ℕ) (n x : ℕ) → length e ≤ expressionMost → x ≤ wordStatesMost * length (take n e)

@@ -1,18 +1,19 @@
 -- Laws of the loop that writes the own transitions of a rule's words: a stack of ports in an array, one word more, and the
 -- whole rule.
 use mathlib.Core.Path.{_≡_, refl, ap, ap₂, _∙_, sym, subst}
-use mathlib.Core.Bool.{true}
+use mathlib.Core.Bool.{true, not}
 use mathlib.Core.List.{List, [], _∷_, _++_, reverse, reverseAux, reverseAux-append, append-assoc, append-nil}
 use Prim.Native.Nat.{ℕ, _+_, _*_, _-_, _<_, _≤_}
 use native.Mathlib.Omega.{arith}
 use native.Mathlib.Numerals.{add-one}
 use lib.ListN.{length, getD, take, drop, set, length-drop, length-set, length-map}
 use lib.Seq.{take-add, take-suc-set, length-take-le}
-use lib.Dec.{leb}
+use lib.Dec.{leb, eqb·suc-zero}
 use borrow.Author.Tests.{leb-true}
 use Rattle.words.specs.Limits.{expressionMost}
 use Rattle.words.specs.Lists.{all}
-use Rattle.words.specs.Alphabet.{constantsOf}
+use Rattle.words.specs.Word.{Kind, symbolKind, emptyKind, unionKind, productKind, closureKind, anythingKind, kindOf, lowByte}
+use Rattle.words.specs.Alphabet.{rankOf, constantsOf}
 use Rattle.words.specs.Shape.{treesBy}
 use Rattle.words.specs.Postfix.{arity, trees}
 use Rattle.words.specs.ExpressionWords.{isExpressionWord}
@@ -21,10 +22,12 @@ use Rattle.words.proofs.ListLaws.{map-append}
 use Rattle.words.proofs.ReadingLaws.{take-pushed, drop-pushed}
 use Rattle.words.proofs.ScanLaws.{drop-step, drop-end}
 use Rattle.words.proofs.AcceptedAlphabet.{AcceptedAlphabet, arity-most}
+use Rattle.words.proofs.ExpressionWordLaws.{ExpressionWord, symbolWord, emptyWord, unionWord, productWord, closureWord, anythingWord}
+use Rattle.words.proofs.ExpressionWordLaws.{expressionWord}
 use Rattle.automaton.specs.Transition.{Transition, transitionsWords}
-use Rattle.automaton.specs.Numbering.{Port, statesOf, portOf, ownTransitions, transitionsFrom, fullPort}
+use Rattle.automaton.specs.Numbering.{Port, entriesAt, statesOf, portOf, ownTransitions, transitionsFrom, fullPort}
 use Rattle.automaton.proofs.TransitionLaws.{transitionsWords-append}
-use Rattle.automaton.proofs.EntryStates.{entries-some, port-full}
+use Rattle.automaton.proofs.EntryStates.{entries-kind, port-full, own-kind}
 use Rattle.ports.specs.Ports.{portIn, portsIn}
 use Rattle.emitter.specs.Writing.{WordsWritten, lastIndex}
 use Rattle.emitter.specs.Emission.{ownWordsMost, Emittable, OwnEmittable}
@@ -55,19 +58,33 @@ length-part l b h le few = length-take-le (h - b) (drop b l) (rw (length-drop b 
 
 module _ (a cs : List ℕ) (known : cs ≡ constantsOf a) where
   -- the own transitions of a word are those of one with an entry for each constant, or there are none
-  own-full : (n w : ℕ) (ps : List ℕ) → length ps ≡ arity a w
-      → ownTransitions w (portOf a n w) (portsIn cs ps) ≡ ownTransitions w (fullPort cs n) (portsIn cs ps)
-  unfolding ownTransitions
-  own-full n w [] r = refl
-  own-full n w (p ∷ ps) r =
-      ap (λ (E : Port). ownTransitions w E (portsIn cs (p ∷ ps)))
-      (port-full a w n (entries-some a w (length ps) (sym r)) ∙ ap (λ (ds : List ℕ). fullPort ds n) (sym known))
+  own-full : (n w : ℕ) (ps : List ℕ) → isExpressionWord a w ≡ true → length ps ≡ arity a w
+      → ownTransitions a w (portOf a n w) (portsIn cs ps) ≡ ownTransitions a w (fullPort cs n) (portsIn cs ps)
+  own-full n w ps h r = go ps r (expressionWord a w h)
+    where
+      full : (k : Kind) → kindOf w ≡ k → entriesAt (rankOf a (lowByte w)) k ≡ true → portOf a n w ≡ fullPort cs n
+      full k e f = port-full a w n (entries-kind a w k e ∙ f) ∙ ap (λ (ds : List ℕ). fullPort ds n) (sym known)
 
-  transitions-more : (n w : ℕ) (ws f k : List ℕ) (p : ℕ) → length k ≡ arity a w → portIn cs p ≡ portOf a n w
+      alike : (ps : List ℕ) → portOf a n w ≡ fullPort cs n
+          → ownTransitions a w (portOf a n w) (portsIn cs ps) ≡ ownTransitions a w (fullPort cs n) (portsIn cs ps)
+      alike ps e = ap (λ (E : Port). ownTransitions a w E (portsIn cs ps)) e
+
+      go : (ps : List ℕ) → length ps ≡ arity a w → ExpressionWord a w
+          → ownTransitions a w (portOf a n w) (portsIn cs ps) ≡ ownTransitions a w (fullPort cs n) (portsIn cs ps)
+      go [] r (symbolWord e l q) = own-kind a w symbolKind (portOf a n w) [] e ∙ sym (own-kind a w symbolKind (fullPort cs n) [] e)
+      go (p ∷ ps) r (symbolWord e l q) = alike (p ∷ ps) (full symbolKind e (rw (sym q ∙ sym r) (ap not (eqb·suc-zero (length ps)))))
+      go ps r (emptyWord e q) =
+          own-kind a w emptyKind (portOf a n w) (portsIn cs ps) e ∙ sym (own-kind a w emptyKind (fullPort cs n) (portsIn cs ps) e)
+      go ps r (unionWord e q) = alike ps (full unionKind e refl)
+      go ps r (productWord e c q) = alike ps (full productKind e refl)
+      go ps r (closureWord e c q) = alike ps (full closureKind e refl)
+      go ps r (anythingWord e q) = alike ps (full anythingKind e refl)
+
+  transitions-more : (n w : ℕ) (ws f k : List ℕ) (p : ℕ) → isExpressionWord a w ≡ true → length k ≡ arity a w → portIn cs p ≡ portOf a n w
       → transitionsFrom a n (w ∷ ws) (stackIn cs (f ++ k))
-      ≡ ownTransitions w (fullPort cs n) (portsIn cs k) ++ transitionsFrom a (n + statesOf a w) ws (stackIn cs (f ++ p ∷ []))
+      ≡ ownTransitions a w (fullPort cs n) (portsIn cs k) ++ transitionsFrom a (n + statesOf a w) ws (stackIn cs (f ++ p ∷ []))
   unfolding transitionsFrom
-  transitions-more n w ws f k p r e =
+  transitions-more n w ws f k p h r e =
       let m : arity a w ≡ length (portsIn cs k) = sym (length-map k (portIn cs) ∙ r) in
       let s = stack-pushed cs f k in
       let c : reverse (take (arity a w) (stackIn cs (f ++ k))) ≡ portsIn cs k =
@@ -76,7 +93,7 @@ module _ (a cs : List ℕ) (known : cs ≡ constantsOf a) where
       ap₂ (λ (P : Port) (l : List Port). P ∷ l) (sym e)
       (ap (drop (arity a w)) s ∙ drop-pushed (portsIn cs k) (stackIn cs f) (arity a w) m)
       ∙ sym (stack-pushed cs f (p ∷ [])) in
-      ap₂ (λ (x y : List Transition). x ++ y) (ap (ownTransitions w (portOf a n w)) c ∙ own-full n w k r)
+      ap₂ (λ (x y : List Transition). x ++ y) (ap (ownTransitions a w (portOf a n w)) c ∙ own-full n w k h r)
       (ap (transitionsFrom a (n + statesOf a w) ws) d)
 
 -- ---- the loop after i words
@@ -163,8 +180,9 @@ module _ {a cs e : List ℕ} {at : ℕ} {out out′ stack : List ℕ} {height st
 
   pub emitted-more : (r base p s n : ℕ) (out″ : List ℕ) → cs ≡ constantsOf a → i < length e → length e ≤ expressionMost
       → r ≡ arity a (getD e i 0) → base ≡ height - r
-      → WordsWritten ownWordsMost next (transitionsWords (ownTransitions (getD e i 0) (fullPort cs state) (portsIn cs (take (height - base)
-      (drop base stack))))) out′ out″ n
+      → WordsWritten ownWordsMost next
+      (transitionsWords (ownTransitions a (getD e i 0) (fullPort cs state) (portsIn cs (take (height - base) (drop base stack)))))
+      out′ out″ n
       → length out″ ≡ length out′ → portIn cs p ≡ portOf a state (getD e i 0) → s ≡ statesOf a (getD e i 0) → s ≤ wordStatesMost
       → Emitted a cs e at out out″ (set stack base p) (base + 1) (state + s) n (i + 1)
   emitted-more r base p s n out″ known h le q b w l ep es s≤ =
@@ -175,7 +193,7 @@ module _ {a cs e : List ℕ} {at : ℕ} {out out′ stack : List ℕ} {height st
       let c = emitted-children r h q in
       let b≤ : base ≤ height = omega arith in
       let part = take (height - base) (drop base stack) in
-      let own = ownTransitions word (fullPort cs state) (portsIn cs part) in
+      let own = ownTransitions a word (fullPort cs state) (portsIn cs part) in
       let len : length part ≡ arity a word = length-part stack base height b≤ (omega arith) ∙ (let t : height - base ≡ r = omega arith in
       t ∙ q) in
       let new : take (base + 1) (set stack base p) ≡ take base stack ++ p ∷ [] = ap (λ (k : ℕ). take k (set stack base p))
@@ -200,7 +218,7 @@ module _ {a cs e : List ℕ} {at : ℕ} {out out′ stack : List ℕ} {height st
             ∙ ap₂ (λ (x y : List ℕ). m .done ++ transitionsFrom a state x (stackIn cs y)) (drop-step e i h)
             (first-parts stack base height b≤)
             ∙ ap (λ (x : List Transition). m .done ++ x) (transitions-more a cs known state word (drop (i + 1) e)
-            (take base stack) part p len ep)
+            (take base stack) part p (emitted-word h) len ep)
             ∙ sym (append-assoc (m .done) own (transitionsFrom a (state + statesOf a word) (drop (i + 1) e) (stackIn cs
             (take base stack ++ p ∷ []))))
             ∙ ap₂ (λ (k : ℕ) (x : List ℕ). (m .done ++ own) ++ transitionsFrom a (state + k) (drop (i + 1) e) (stackIn cs x)) (sym es)

@@ -9,11 +9,12 @@ use states::states_after;
 use syntax::expression::expression_fault;
 use table::write_table;
 use words::limits::STATES_MOST;
+use words::limits::TABLE_MOST;
 
 mod states;
 mod table;
 
-// The answer: the table's word count, or document 01's number of a refusal.
+// The answer: the table's word count, or the documents' number of a refusal.
 pub enum Compiled {
     Table(usize),
     Refused(u32),
@@ -39,7 +40,7 @@ fn rule_fault(alphabet: &[u32], expression: &[u32]) -> u32
     0
 }
 
-// Document 01's number of the first refusal that applies, or 0, for a table slice of this length. The table's words are counted by
+// The documents' number of the first refusal that applies, or 0, for a table slice of this length. The table's words are counted by
 // writing them into a slice of one word; those past its end are left out.
 fn compile_fault(alphabet: &[u32], expression: &[u32], table_length: usize) -> u32
     ensures { λ r. ⌜ r ≡ compileFault (now (alphabet .entry)) (now (expression .entry)) «table_length» ⌝ }
@@ -50,6 +51,9 @@ fn compile_fault(alphabet: &[u32], expression: &[u32], table_length: usize) -> u
     }
     let mut small = [0u32; 1];
     let size = write_table(alphabet, expression, &mut small);
+    if size > TABLE_MOST {
+        return 25;
+    }
     if table_length < size {
         return 7;
     }

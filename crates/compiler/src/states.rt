@@ -7,7 +7,7 @@ ghost use Rattle.words.specs.Alphabet.{constantsOf};
 ghost use Rattle.automaton.specs.Numbering.{hasEntries, statesOf, statesAfter, portOf};
 ghost use Rattle.ports.specs.Ports.{portIn};
 ghost use Rattle.compiler.specs.Compiling.{wordStatesMost, StatesCountable, PortMakeable};
-use alphabet::arity;
+use alphabet::rank;
 use ports::port::EVERY_ENTRY;
 use ports::port::NO_ENTRY;
 use ports::port::port_of;
@@ -19,7 +19,15 @@ use words::word::kind_of;
 fn has_entries(alphabet: &[u32], w: u32) -> bool
     ensures { λ r. ⌜ r ≡ hasEntries (now (alphabet .entry)) w ⌝ }
 {
-    arity(alphabet, w) != 0
+    let kind = kind_of(w);
+    match kind {
+        Kind::Symbol => rank(alphabet, (w % SYMBOL_RANGE) as usize) != 0,
+        Kind::Union => true,
+        Kind::Product => true,
+        Kind::Closure => true,
+        Kind::Anything => true,
+        _ => false,
+    }
 }
 
 // How many states a word has, where `count` is the number of constants.

@@ -48,7 +48,15 @@ fn write_words(
     while i < expression.len() {
         let w = expression[i];
         let base = height - arity(alphabet, w);
-        next = push_own(constants, &stack[base..height], out, next, state, w);
+        next = push_own(
+            alphabet,
+            constants,
+            &stack[base..height],
+            out,
+            next,
+            state,
+            w,
+        );
         stack[base] = word_port(alphabet, state, w);
         height = base + 1;
         state += states_of(alphabet, constants.len(), w);

@@ -2,6 +2,7 @@ pub mod WritingLaws
 pub mod EntryLaws
 pub mod ChildTargetLaws
 pub mod EntryEpsilonLaws
+pub mod AnythingLaws
 pub mod OwnLaws
 pub mod SourceLaws
 pub mod ConstantTransitionLaws

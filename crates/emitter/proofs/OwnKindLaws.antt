@@ -6,56 +6,55 @@ use native.Mathlib.Omega.{arith}
 use lib.ListN.{length}
 use lib.Dec.{eqb}
 use borrow.Author.Tests.{eqb-true}
-use Rattle.words.specs.Word.{Kind, kindOf, lowByte, closureKind, productKind, symbolKind, unionKind}
+use Rattle.words.specs.Word.{Kind, kindOf, lowByte, closureKind, productKind, symbolKind, unionKind, anythingKind}
 use Rattle.words.specs.Decoded.{kindIn}
 use Rattle.words.specs.declared.word.Kind.{Kind as Case}
-use Rattle.words.specs.declared.word.Kind.the-variants.{Symbol, Union, Product, Closure}
+use Rattle.words.specs.declared.word.Kind.the-variants.{Symbol, Union, Product, Closure, Anything}
 use Rattle.words.proofs.ListLaws.{length-none}
 use Rattle.words.proofs.DecodedLaws.{Left, left-all}
 use Rattle.automaton.specs.Transition.{Transition, transitionsWords}
 use Rattle.automaton.specs.Numbering.{Port, symbolTransitions, unionTransitions, productTransitions, closureTransitions}
-use Rattle.automaton.specs.Numbering.{ownAt, ownTransitions}
+use Rattle.automaton.specs.Numbering.{anythingTransitions, ownAt, ownTransitions}
 use Rattle.automaton.proofs.EntryStates.{own-kind}
-use Rattle.ports.specs.Ports.{portIn, portsIn, childIn}
+use Rattle.ports.specs.Ports.{portsIn, childIn}
 use Rattle.emitter.specs.Writing.{WordsWritten}
 use Rattle.emitter.proofs.WritingLaws.{words-written-none, words-written-same}
 use Rattle.emitter.proofs.ChildTargetLaws.{both, single}
 
-module _ (w : ℕ) (E : Port) (cs : List ℕ) where
+-- a symbol over no children has none
+pub symbol-none : (f : ℕ) (E : Port) (cs ps : List ℕ) → length ps ≡ 0 → symbolTransitions f E (portsIn cs ps) ≡ []
+symbol-none f E cs [] h = refl
+symbol-none f E cs (p ∷ ps) h = absurd (omega arith)
+
+module _ (a : List ℕ) (w : ℕ) (E : Port) (cs : List ℕ) where
   abbrev own : List ℕ → List Transition
-  own ps = ownTransitions w E (portsIn cs ps)
+  own ps = ownTransitions a w E (portsIn cs ps)
 
-  -- a word with no children has none
-  pub own-none : (ps : List ℕ) → length ps ≡ 0 → own ps ≡ []
-  unfolding ownTransitions
-  own-none [] h = refl
-  own-none (p ∷ ps) h = absurd (omega arith)
-
-  pub own-symbol : (ps : List ℕ) → (length ps ≡ 0 → ⊥) → kindOf w ≡ symbolKind → own ps ≡ symbolTransitions (lowByte w) E (portsIn cs ps)
-  own-symbol [] n e = absurd (n refl)
-  own-symbol (p ∷ ps) n e = own-kind w symbolKind E (portIn cs p) (portsIn cs ps) e
+  pub own-symbol : (ps : List ℕ) → kindOf w ≡ symbolKind → own ps ≡ symbolTransitions (lowByte w) E (portsIn cs ps)
+  own-symbol ps e = own-kind a w symbolKind E (portsIn cs ps) e
 
   pub own-union : (ps : List ℕ) → length ps ≡ 2 → kindOf w ≡ unionKind → own ps ≡ unionTransitions E (childIn cs ps 0) (childIn cs ps 1)
-  own-union ps h e = ap own (both ps h) ∙ own-kind w unionKind E (childIn cs ps 0) (childIn cs ps 1 ∷ []) e
+  own-union ps h e = ap own (both ps h) ∙ own-kind a w unionKind E (childIn cs ps 0 ∷ childIn cs ps 1 ∷ []) e
 
   pub own-product : (ps : List ℕ) → length ps ≡ 2 → kindOf w ≡ productKind
       → own ps ≡ productTransitions (lowByte w) E (childIn cs ps 0) (childIn cs ps 1)
-  own-product ps h e = ap own (both ps h) ∙ own-kind w productKind E (childIn cs ps 0) (childIn cs ps 1 ∷ []) e
+  own-product ps h e = ap own (both ps h) ∙ own-kind a w productKind E (childIn cs ps 0 ∷ childIn cs ps 1 ∷ []) e
 
   pub own-closure : (ps : List ℕ) → length ps ≡ 1 → kindOf w ≡ closureKind → own ps ≡ closureTransitions (lowByte w) E (childIn cs ps 0)
-  own-closure ps h e = ap own (single ps h) ∙ own-kind w closureKind E (childIn cs ps 0) [] e
+  own-closure ps h e = ap own (single ps h) ∙ own-kind a w closureKind E (childIn cs ps 0 ∷ []) e
+
+  pub own-anything : (ps : List ℕ) → kindOf w ≡ anythingKind → own ps ≡ anythingTransitions a E
+  own-anything ps e = own-kind a w anythingKind E (portsIn cs ps) e
 
   -- a word of any other kind has none
-  pub own-other : (ps : List ℕ) (k : Case) → kindIn k ≡ kindOf w → Left (Symbol ∷ Union ∷ Product ∷ Closure ∷ []) k → own ps ≡ []
-  unfolding ownTransitions
-  own-other [] k decoded left = refl
-  own-other (p ∷ ps) k decoded left =
-      let P = portIn cs p in
+  pub own-other : (ps : List ℕ) (k : Case) → kindIn k ≡ kindOf w → Left (Symbol ∷ Union ∷ Product ∷ Closure ∷ Anything ∷ []) k → own ps ≡ []
+  own-other ps k decoded left =
       let Ps = portsIn cs ps in
-      own-kind w (kindIn k) E P Ps (sym decoded)
-      ∙ length-none (ownAt (kindIn k) (lowByte w) E P Ps)
-      (eqb-true (length (ownAt (kindIn k) (lowByte w) E P Ps)) 0
-      (left-all (Symbol ∷ Union ∷ Product ∷ Closure ∷ []) k left (λ (j : Kind). eqb (length (ownAt j (lowByte w) E P Ps)) 0) refl))
+      own-kind a w (kindIn k) E Ps (sym decoded)
+      ∙ length-none (ownAt a (kindIn k) (lowByte w) E Ps)
+      (eqb-true (length (ownAt a (kindIn k) (lowByte w) E Ps)) 0
+      (left-all (Symbol ∷ Union ∷ Product ∷ Closure ∷ Anything ∷ []) k left
+      (λ (j : Kind). eqb (length (ownAt a j (lowByte w) E Ps)) 0) refl))
 
 -- the words of transitions that are written, said otherwise
 pub transitions-written : (m at r : ℕ) (ts us : List Transition) (out out′ : List ℕ) → us ≡ ts

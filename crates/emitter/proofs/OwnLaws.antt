@@ -1,6 +1,6 @@
 -- Laws of the own transitions of a word by its kind: they are what the writers leave one after the other.
-use mathlib.Core.Path.{_≡_, ap, _∙_, sym}
-use mathlib.Core.List.{List, [], _∷_, _++_, append-assoc}
+use mathlib.Core.Path.{_≡_, refl, ap, _∙_, sym}
+use mathlib.Core.List.{List, [], _∷_, _++_, map, append-assoc}
 use Prim.Native.Nat.{ℕ, _+_, _≤_}
 use native.Mathlib.Omega.{arith}
 use lib.ListN.{length, getD}
@@ -11,7 +11,7 @@ use Rattle.automaton.specs.Numbering.{symbolTransitions, unionTransitions, prod
 use Rattle.automaton.proofs.TransitionLaws.{transitionsWords-append, entryEpsilons-same}
 use Rattle.ports.specs.Ports.{exitIn, exitsIn, portsIn, childIn}
 use Rattle.emitter.specs.Writing.{WordsWritten}
-use Rattle.emitter.specs.Emission.{entriesWordsMost, ownWordsMost, Emittable}
+use Rattle.emitter.specs.Emission.{everySymbolMost, entriesWordsMost, ownWordsMost, Emittable}
 use Rattle.emitter.proofs.WritingLaws.{words-written-more, words-written-same}
 use Rattle.emitter.proofs.EntryLaws.{epsilonWords, epsilonWords-append}
 use Rattle.emitter.proofs.ChildTargetLaws.{targets-both}
@@ -19,7 +19,7 @@ use Rattle.emitter.proofs.EntryEpsilonLaws.{entryEpsilonWords}
 use Rattle.emitter.proofs.SourceLaws.{sources-exits}
 
 -- what is left of the room behind a word's first transitions
-pub emittable-later : (cs ps : List ℕ) (x at next : ℕ) → Emittable cs ps x at ownWordsMost → next ≤ at + (1 + rankMost)
+pub emittable-later : (cs ps : List ℕ) (x at next : ℕ) → Emittable cs ps x at ownWordsMost → next ≤ at + everySymbolMost
     → Emittable cs ps x next entriesWordsMost
 emittable-later cs ps x at next p h =
     let fits = p .fits in
@@ -64,14 +64,22 @@ module _ (cs ps : List ℕ) (x at : ℕ) where
         (words-written-more (i + j) k at n₂ r (us ++ vs) ws out o₂ o₃ (words-written-more i j at n₁ n₂ us vs out o₁ o₂ p q) s) le
         (append-assoc us vs ws ∙ e)
 
-    pub symbol-own : (f : ℕ) → WordsWritten 1 at (transitionWords (onSymbol f [] x)) out o₁ n₁
+    pub symbol-own : (f : ℕ) → (length ps ≡ 0 → ⊥) → WordsWritten 1 at (transitionWords (onSymbol f [] x)) out o₁ n₁
         → WordsWritten rankMost n₁ (sourceWords (exitsIn ps)) o₁ o₂ n₂
         → WordsWritten entriesWordsMost n₂ (entryEpsilonWords x cs (symbolTargets (portsIn cs ps))) o₂ o₃ r
         → WordsWritten ownWordsMost at (transitionsWords (symbolTransitions f E (portsIn cs ps))) out o₃ r
-    symbol-own f p q s =
+    symbol-own f h p q s =
         three 1 rankMost entriesWordsMost _ _ _ _ p q s (omega arith)
         (ap (λ (l : List ℕ). transitionWords (onSymbol f [] x) ++ (l ++ entryEpsilonWords x cs (symbolTargets (portsIn cs ps))))
-        (sources-exits cs ps))
+        (sources-exits cs ps)
+        ∙ some ps h)
+      where
+        some : (ps : List ℕ) → (length ps ≡ 0 → ⊥)
+            → transitionWords (onSymbol f [] x)
+            ++ (sourceWords (map (λ P. P .exit) (portsIn cs ps)) ++ entryEpsilonWords x cs (symbolTargets (portsIn cs ps)))
+            ≡ transitionsWords (symbolTransitions f E (portsIn cs ps))
+        some [] h = absurd (h refl)
+        some (p ∷ ps) h = refl
 
     pub product-own : (y z c : ℕ) → y ≡ exitIn (getD ps 0 0) → z ≡ exitIn (getD ps 1 0)
         → WordsWritten 1 at (transitionWords (epsilon y x)) out o₁ n₁ → WordsWritten 1 n₁ (epsilonWords z (entryFor F c)) o₁ o₂ n₂

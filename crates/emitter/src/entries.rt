@@ -14,11 +14,12 @@ use ports::port::entry_at;
 use ports::port::entry_state;
 
 // Where a word's entry for a constant leads: to the children's entries for it, in a product over c at c not to the first
-// child's, in a closure over c at c also to the word's own exit.
+// child's, in a closure over c at c also to the word's own exit; for anything to its own exit.
 pub(crate) enum Targets {
     Children,
     Product(u32),
     Closure(u32),
+    Exit,
 }
 
 // "A move that names a missing entry is omitted."
@@ -136,6 +137,7 @@ fn push_entry(
         Targets::Children => push_to_children(constants, ports, out, at, exit, k),
         Targets::Product(c) => push_product_entry(constants, ports, out, at, exit, c, k),
         Targets::Closure(c) => push_closure_entry(constants, ports, out, at, exit, c, k),
+        Targets::Exit => push_epsilon(out, at, entry_state(exit, k), exit),
     }
 }
 

@@ -1,4 +1,4 @@
-// The own transitions of a word by its kind: its symbol move, if its rank is above 0, and its empty moves.
+// The own transitions of a word by its kind: its symbol moves, if it has any, and its empty moves.
 ghost use mathlib.Core.Path.{_≡_};
 ghost use mathlib.Core.List.{[], _∷_};
 ghost use Prim.Native.Nat.{_+_, _≤_, _<_};
@@ -10,7 +10,8 @@ ghost use Rattle.automaton.specs.Numbering.{symbolTransitions, unionTransitions
 ghost use Rattle.automaton.specs.Numbering.{closureTransitions, ownTransitions, fullPort};
 ghost use Rattle.ports.specs.Ports.{entryRange, exitsIn, portsIn, childIn};
 ghost use Rattle.emitter.specs.Writing.{WordsWritten, lastIndex};
-ghost use Rattle.emitter.specs.Emission.{ownWordsMost, Emittable, ListedConstant, OwnEmittable};
+ghost use Rattle.emitter.specs.Emission.{ownWordsMost, Emittable, ListedConstant, SymbolsEmittable, OwnEmittable};
+use super::anything::push_anything;
 use super::entries::Targets;
 use super::entries::push_entries;
 use super::entries::push_to;
@@ -54,7 +55,7 @@ fn push_sources(ports: &[u32], out: &mut [u32], at: usize) -> usize
     next
 }
 
-// A symbol over its children.
+// A symbol over its children; a constant has no transitions.
 fn push_symbol(
     constants: &[u32],
     ports: &[u32],
@@ -72,6 +73,9 @@ fn push_symbol(
         (now (out .entry)) (now (out .exit)) r
         ⌝ }
 {
+    if ports.len() == 0 {
+        return at;
+    }
     let sources = push_transition(out, at, symbol, exit);
     let next = push_sources(ports, out, sources);
     push_entries(constants, ports, out, next, exit, Targets::Children)
@@ -159,6 +163,7 @@ fn push_closure(
 
 // The own transitions of word w with this exit over its children's ports.
 pub fn push_own(
+    alphabet: &[u32],
     constants: &[u32],
     ports: &[u32],
     out: &mut [u32],
@@ -167,23 +172,21 @@ pub fn push_own(
     w: u32,
 ) -> usize
     requires { ⌜ Emittable (now constants) (now ports) exit at ownWordsMost ⌝ }
-    requires { ⌜ OwnEmittable (now constants) (now ports) w ⌝ }
+    requires { ⌜ SymbolsEmittable (now alphabet) × OwnEmittable (now constants) (now ports) w ⌝ }
     ensures { λ r. ⌜
         WordsWritten ownWordsMost at
-        (transitionsWords (ownTransitions w (fullPort (now (constants .entry)) exit)
+        (transitionsWords (ownTransitions (now (alphabet .entry)) w (fullPort (now (constants .entry)) exit)
         (portsIn (now (constants .entry)) (now (ports .entry)))))
         (now (out .entry)) (now (out .exit)) r
         ⌝ }
 {
-    if ports.len() == 0 {
-        return at;
-    }
     let kind = kind_of(w);
     match kind {
         Kind::Symbol => push_symbol(constants, ports, out, at, exit, w % SYMBOL_RANGE),
         Kind::Union => push_union(constants, ports, out, at, exit),
         Kind::Product => push_product(constants, ports, out, at, exit, w % SYMBOL_RANGE),
         Kind::Closure => push_closure(constants, ports, out, at, exit, w % SYMBOL_RANGE),
+        Kind::Anything => push_anything(alphabet, constants, ports, out, at, exit),
         _ => at,
     }
 }

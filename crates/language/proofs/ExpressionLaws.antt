@@ -8,7 +8,7 @@ use native.Mathlib.Omega.{arith}
 use lib.ListN.{length, getD}
 use borrow.Author.Tests.{lt-ltb}
 use Rattle.words.specs.Lists.{all}
-use Rattle.words.specs.Word.{Kind, symbolKind, emptyKind, unionKind, productKind, closureKind, fieldRange, wordOf, lowByte}
+use Rattle.words.specs.Word.{Kind, symbolKind, emptyKind, unionKind, productKind, closureKind, anythingKind, fieldRange, wordOf, lowByte}
 use Rattle.words.specs.Alphabet.{mayName}
 use Rattle.words.specs.Tree.{Tree, none, more, postfix, postfixAll}
 use Rattle.words.specs.Postfix.{arity, oneTree, stackAfter}
@@ -21,7 +21,7 @@ use Rattle.words.proofs.ExactlyOneLaws.{one-along}
 use Rattle.words.proofs.WordLaws.{arity-wordOf, isExpressionWord-wordOf}
 use Rattle.words.proofs.ReadingLaws.{stack-tree, oneTree-tree}
 use Rattle.words.proofs.TreeLaws.{TreeOf, exactly-one-tree}
-use Rattle.language.specs.Expression.{Expression, Expressions, symbol, empty, union, product, closure, noneᵉ, moreᵉ}
+use Rattle.language.specs.Expression.{Expression, Expressions, symbol, empty, union, product, closure, anything, noneᵉ, moreᵉ}
 use Rattle.language.specs.Expression.{syntaxTree, syntaxTrees, expressionWords, ExpressionOver, ExpressionsOver, ExpressionOf}
 use Rattle.language.specs.Reading.{expressionOn, expressionOf}
 use Rattle.language.proofs.ParseLaws.{treeExpression, number-syntaxTrees, tree-expression, named-small, expression-back}
@@ -44,6 +44,7 @@ module _ (a : List ℕ) where
       ranked-syntax (product c F G) h =
           (arity-wordOf a productKind c (named-small a m c (h .0)), (ranked-syntax F (h .1), (ranked-syntax G (h .2), tt)))
       ranked-syntax (closure c F) h = (arity-wordOf a closureKind c (named-small a m c (h .0)), (ranked-syntax F (h .1), tt))
+      ranked-syntax anything h = (arity-wordOf a anythingKind 0 (omega arith), tt)
 
       ranked-syntaxes : (es : Expressions) → ExpressionsOver a es → RankedAll (arity a) (syntaxTrees es)
       ranked-syntaxes noneᵉ h = tt
@@ -90,6 +91,7 @@ module _ (a : List ℕ) where
           snoc-words (postfixAll (more (syntaxTree F) none)) closureKind c
           (all-append (isExpressionWord a) (expressionWords F) [] (expression-words F (h .1)) refl)
           (named-small a m c (h .0)) (names-small c (h .0))
+      expression-words anything h = snoc-words [] anythingKind 0 refl (omega arith) refl
 
       expressions-words : (es : Expressions) → ExpressionsOver a es → all (isExpressionWord a) (postfixAll (syntaxTrees es)) ≡ true
       expressions-words noneᵉ h = refl

@@ -1,4 +1,5 @@
 pub mod MembershipExamples
+pub mod AnythingMembers
 pub mod SubstitutionLaws
 pub mod SubjectLaws
 pub mod SubjectSubtreeLaws

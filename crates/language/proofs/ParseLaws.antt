@@ -7,7 +7,8 @@ use Prim.Native.Nat.{ℕ, suc, _<_, _≤_}
 use native.Mathlib.Omega.{arith}
 use lib.ListN.{length}
 use Rattle.words.specs.Lists.{all}
-use Rattle.words.specs.Word.{Kind, symbolKind, emptyKind, unionKind, productKind, closureKind, kindOf, bodyOf, wordOf, lowByte, symbolRange}
+use Rattle.words.specs.Word.{Kind, symbolKind, emptyKind, unionKind, productKind, closureKind, anythingKind}
+use Rattle.words.specs.Word.{kindOf, bodyOf, wordOf, lowByte, symbolRange}
 use Rattle.words.specs.Alphabet.{rankOf, mayName}
 use Rattle.words.specs.Tree.{Tree, Trees, node, none, more, number, postfix, postfixAll}
 use Rattle.words.specs.Postfix.{arity}
@@ -20,8 +21,9 @@ use Rattle.words.proofs.KindLaws.{kindOf-wordOf, lowByte-symbol}
 use Rattle.words.proofs.AlphabetLaws.{isConstant-zero}
 use Rattle.words.proofs.HoleLaws.{mayName-constant}
 use Rattle.words.proofs.WordLaws.{IsExpressionWord, isExpressionWord-facts}
-use Rattle.words.proofs.ExpressionWordLaws.{ExpressionWord, symbolWord, emptyWord, unionWord, productWord, closureWord, expressionWord}
-use Rattle.language.specs.Expression.{Expression, Expressions, symbol, empty, union, product, closure, noneᵉ}
+use Rattle.words.proofs.ExpressionWordLaws.{ExpressionWord, symbolWord, emptyWord, unionWord, productWord, closureWord, anythingWord}
+use Rattle.words.proofs.ExpressionWordLaws.{expressionWord}
+use Rattle.language.specs.Expression.{Expression, Expressions, symbol, empty, union, product, closure, anything, noneᵉ}
 use Rattle.language.specs.Expression.{moreᵉ, numberᵉ, syntaxTree, syntaxTrees, ExpressionOver, ExpressionsOver}
 use Rattle.language.specs.Reading.{childrenᵉ, ofKind, expressionOn}
 
@@ -59,6 +61,10 @@ module _ (a : List ℕ) where
     root-empty : (es : List Expression) → IsExpressionWord a w emptyKind → 0 ≡ numberᵉ (childrenᵉ es) → Root w es emptyKind
     root-empty [] f r = record { over = tt; tree = ap (λ (x : ℕ). node x none) (bare w emptyKind (f .word) (f .body)) }
     root-empty (E ∷ es) f r = absurd (omega arith)
+
+    root-anything : (es : List Expression) → IsExpressionWord a w anythingKind → 0 ≡ numberᵉ (childrenᵉ es) → Root w es anythingKind
+    root-anything [] f r = record { over = tt; tree = ap (λ (x : ℕ). node x none) (bare w anythingKind (f .word) (f .body)) }
+    root-anything (E ∷ es) f r = absurd (omega arith)
 
     root-union : (es : List Expression) → IsExpressionWord a w unionKind → 2 ≡ numberᵉ (childrenᵉ es) → ExpressionsOver a (childrenᵉ es)
         → Root w es unionKind
@@ -102,6 +108,7 @@ module _ (a : List ℕ) where
         go (unionWord e r) = subst (Root w es) (sym e) (root-union es (facts unionKind e) (sym r ∙ n) o)
         go (productWord e c r) = subst (Root w es) (sym e) (root-product es (facts productKind e) c (sym r ∙ n) o)
         go (closureWord e c r) = subst (Root w es) (sym e) (root-closure es (facts closureKind e) c (sym r ∙ n) o)
+        go (anythingWord e r) = subst (Root w es) (sym e) (root-anything es (facts anythingKind e) (sym r ∙ n))
 
   mutual
     pub tree-expression : (t : Tree) → Ranked (arity a) t → all (isExpressionWord a) (postfix t) ≡ true
@@ -148,6 +155,7 @@ module _ (a : List ℕ) where
       expression-back (closure c F) h =
           kind-back closureKind c (treeExpression (syntaxTree F) ∷ []) (named-small c (h .0))
           ∙ ap (closure c) (expression-back F (h .1))
+      expression-back anything h = kind-back anythingKind 0 [] (omega arith)
 
       expressions-back : (es : Expressions) → ExpressionsOver a es → childrenᵉ (treeExpressions (syntaxTrees es)) ≡ es
       expressions-back noneᵉ h = refl

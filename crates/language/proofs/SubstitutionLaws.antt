@@ -3,6 +3,7 @@
 use Prim.Native.Nat.{ℕ, suc, _≤_, max}
 use mathlib.Core.Path.{_≡_, refl, sym, ap₂, subst}
 use mathlib.Core.Logic.{_⊎_, inl, inr}
+use mathlib.Core.List.{List}
 use native.Mathlib.Decide.{le-ind}
 use native.Mathlib.Nat.{le-max-left, le-max-right}
 use Rattle.words.specs.Tree.{Tree, Trees, node, none, more}
@@ -97,10 +98,10 @@ mutual
 pub at-constant : {σ : Assignment} {a : ℕ} {t : Tree} → Substitution σ (node a none) t → σ a t
 at-constant (atConstant s) = s
 
-pub constant-under : (a : ℕ) (σ : Assignment) (t : Tree) → Under (Member (symbol a noneᵉ)) σ t → σ a t
-constant-under a σ t (u, m, p) = go u m p
+pub constant-under : (alphabet : List ℕ) (a : ℕ) (σ : Assignment) (t : Tree) → Under (Member alphabet (symbol a noneᵉ)) σ t → σ a t
+constant-under alphabet a σ t (u, m, p) = go u m p
   where
-    go : (u : Tree) → Member (symbol a noneᵉ) u → Substitution σ u t → σ a t
+    go : (u : Tree) → Member alphabet (symbol a noneᵉ) u → Substitution σ u t → σ a t
     go (node b none) m p = subst (λ x. σ x t) (sym (m .0)) (at-constant p)
     go (node b (more v vs)) m p = absurd (m .1)
 

@@ -5,10 +5,11 @@ use mathlib.Core.Bool.{true, false}
 use mathlib.Core.List.{List, map}
 use lib.ListN.{length}
 use Rattle.words.specs.Alphabet.{rankOf, isHole, mayName}
-use Rattle.words.specs.Word.{symbolKind, emptyKind, unionKind, productKind, closureKind, nodeKind, wordOf}
+use Rattle.words.specs.Word.{symbolKind, emptyKind, unionKind, productKind, closureKind, nodeKind, anythingKind, wordOf}
 use Rattle.words.specs.Tree.{Tree, Trees, node, none, more, number, postfix}
 
--- a symbol over expressions; the empty language; a union; the product F by G over c; the closure of F over c
+-- a symbol over expressions; the empty language; a union; the product F by G over c; the closure of F over c; "every tree over the
+-- alphabet" (document 02, U7)
 mutual
   pub data Expression : Type 0 where
     symbol : ℕ → Expressions → Expression
@@ -16,6 +17,7 @@ mutual
     union : Expression → Expression → Expression
     product : ℕ → Expression → Expression → Expression
     closure : ℕ → Expression → Expression
+    anything : Expression
 
   pub data Expressions : Type 0 where
     noneᵉ : Expressions
@@ -29,6 +31,7 @@ abbrev mutual
   syntaxTree (union F G) = node (wordOf unionKind 0) (more (syntaxTree F) (more (syntaxTree G) none))
   syntaxTree (product c F G) = node (wordOf productKind c) (more (syntaxTree F) (more (syntaxTree G) none))
   syntaxTree (closure c F) = node (wordOf closureKind c) (more (syntaxTree F) none)
+  syntaxTree anything = node (wordOf anythingKind 0) none
 
   pub syntaxTrees : Expressions → Trees
   syntaxTrees noneᵉ = none
@@ -73,6 +76,7 @@ abbrev mutual
   ExpressionOver a (union F G) = ExpressionOver a F × ExpressionOver a G
   ExpressionOver a (product c F G) = (mayName a c ≡ true) × ExpressionOver a F × ExpressionOver a G
   ExpressionOver a (closure c F) = (mayName a c ≡ true) × ExpressionOver a F
+  ExpressionOver a anything = Unit {0}
 
   pub ExpressionsOver : List ℕ → Expressions → Type 0
   ExpressionsOver a noneᵉ = Unit {0}

@@ -5,7 +5,8 @@ use mathlib.Core.Path.{_≡_}
 use mathlib.Core.Logic.{_⊎_}
 use mathlib.Core.List.{List}
 use Rattle.words.specs.Tree.{Tree, Trees, node, none, more, label, children}
-use Rattle.language.specs.Expression.{Expression, Expressions, symbol, empty, union, product, closure, noneᵉ, moreᵉ, HoleFree}
+use Rattle.language.specs.Expression.{Expression, Expressions, symbol, empty, union, product, closure, anything, noneᵉ, moreᵉ}
+use Rattle.language.specs.Expression.{TreeOver, HoleFree}
 
 -- a language is a property of trees
 abbrev pub Language : Type 1
@@ -48,24 +49,27 @@ Step c F (suc n) t = Step c F n t ⊎ Product c F (λ s. Step c F n s) t
 abbrev pub Closure : ℕ → Language → Language
 Closure c F t = (n : ℕ) × Step c F n t
 
--- the tree belongs to the language of the expression
-abbrev mutual
-  pub Member : Expression → Language
-  -- "A symbol over rules: that symbol over one member of each." "Constant: itself."
-  Member (symbol f es) t = (f ≡ label t) × Members es (children t)
-  -- "Empty: no tree."
-  Member empty t = ⊥
-  -- "Union: either."
-  Member (union F G) t = Member F t ⊎ Member G t
-  Member (product c F G) t = Product c (λ s. Member F s) (λ s. Member G s) t
-  Member (closure c F) t = Closure c (λ s. Member F s) t
+-- the tree belongs to the language of the expression, over an alphabet
+module _ (a : List ℕ) where
+  abbrev mutual
+    pub Member : Expression → Language
+    -- "A symbol over rules: that symbol over one member of each." "Constant: itself."
+    Member (symbol f es) t = (f ≡ label t) × Members es (children t)
+    -- "Empty: no tree."
+    Member empty t = ⊥
+    -- "Union: either."
+    Member (union F G) t = Member F t ⊎ Member G t
+    Member (product c F G) t = Product c (λ s. Member F s) (λ s. Member G s) t
+    Member (closure c F) t = Closure c (λ s. Member F s) t
+    -- "a rule word that holds for every tree over the alphabet" (document 02, U7), with holes or without
+    Member anything t = TreeOver a t
 
-  pub Members : Expressions → Trees → Type 0
-  Members noneᵉ none = Unit {0}
-  Members noneᵉ (more t ts) = ⊥
-  Members (moreᵉ E Es) none = ⊥
-  Members (moreᵉ E Es) (more t ts) = Member E t × Members Es ts
+    pub Members : Expressions → Trees → Type 0
+    Members noneᵉ none = Unit {0}
+    Members noneᵉ (more t ts) = ⊥
+    Members (moreᵉ E Es) none = ⊥
+    Members (moreᵉ E Es) (more t ts) = Member E t × Members Es ts
 
 -- "Wherever chapters are compared with a rule's language, this now means its hole-free members" (document 02, U8)
 abbrev pub HoleFreeMember : List ℕ → Expression → Language
-HoleFreeMember a E t = HoleFree a t × Member E t
+HoleFreeMember a E t = HoleFree a t × Member a E t

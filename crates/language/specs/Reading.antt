@@ -4,9 +4,9 @@ use Prim.Native.Nat.{ℕ}
 use mathlib.Core.List.{List, [], _∷_}
 use lib.ListN.{getD}
 use Rattle.words.specs.Word.{Kind, entryKind, symbolKind, emptyKind, unionKind, productKind, closureKind}
-use Rattle.words.specs.Word.{nodeKind, headKind, transitionKind, epsilonKind, sourceKind, lengthKind, noKind, kindOf, lowByte}
+use Rattle.words.specs.Word.{nodeKind, headKind, transitionKind, epsilonKind, sourceKind, lengthKind, anythingKind, noKind, kindOf, lowByte}
 use Rattle.words.specs.Postfix.{stackAfter}
-use Rattle.language.specs.Expression.{Expression, Expressions, symbol, empty, union, product, closure, noneᵉ, moreᵉ}
+use Rattle.language.specs.Expression.{Expression, Expressions, symbol, empty, union, product, closure, anything, noneᵉ, moreᵉ}
 
 -- a list of expressions as the children of a symbol
 abbrev pub childrenᵉ : List Expression → Expressions
@@ -20,6 +20,7 @@ ofKind unionKind s Es = union (getD Es 0 empty) (getD Es 1 empty)
 ofKind productKind s Es = product s (getD Es 0 empty) (getD Es 1 empty)
 ofKind closureKind s Es = closure s (getD Es 0 empty)
 ofKind emptyKind s Es = empty
+ofKind anythingKind s Es = anything
 ofKind nodeKind s Es = empty
 ofKind entryKind s Es = empty
 ofKind headKind s Es = empty

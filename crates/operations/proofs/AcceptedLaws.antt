@@ -8,7 +8,7 @@ use Prim.Native.Nat.{ℕ, _*_, _≤_, _<_}
 use lib.ListN.{length}
 use lib.Dec.{ltb}
 use borrow.Author.Tests.{ltb-true, ltb-false, le-ltb, not-false}
-use Rattle.words.specs.Limits.{statesMost, nodesMost}
+use Rattle.words.specs.Limits.{statesMost, tableMost, nodesMost}
 use Rattle.words.specs.Refusal.{refusal, someHolds}
 use Rattle.words.specs.Alphabet.{alphabetRefusals, alphabetFault}
 use Rattle.words.specs.ExpressionWords.{expressionRefusals, expressionFault}
@@ -21,7 +21,8 @@ use Rattle.words.proofs.RefusalLaws.{passes, part-passes, part-behind}
 use Rattle.words.proofs.AcceptedTree.{AcceptedTree, tree-accepted}
 use Rattle.automaton.specs.Table.{isTable, noTable}
 use Rattle.automaton.specs.Numbering.{compiled}
-use Rattle.operations.specs.Compile.{compiledTable, tooManyStates, tableTooLong, ruleRefusals, compileRefusals, compileFault}
+use Rattle.operations.specs.Compile.{compiledTable, tooManyStates, tooManyWords, tableTooLong, ruleRefusals, ruleTableRefusals}
+use Rattle.operations.specs.Compile.{compileRefusals, compileFault}
 use Rattle.operations.specs.Marks.{sizeOf}
 use Rattle.operations.specs.Run.{wrongCount, marksTooShort, tableRefusals, markedRefusals, runRefusals, runFault}
 use Rattle.operations.specs.Listing.{listTooShort, listRefusals, listFault}
@@ -49,10 +50,26 @@ rule-accepted a e h =
       states = ltb-false statesMost (compiled a e .states) (none-applies rs refl h 6);
     }
 
--- `tableLength` is the length of the table slice
-pub record CompileAccepted (a e : List ℕ) (tableLength : ℕ) : Type 0 where
+-- and its table
+pub record RuleTableAccepted (a e : List ℕ) : Type 0 where
   -- 1 to 6, of which RuleAccepted tells
   pub rule : refusal (ruleRefusals a e) ≡ 0
+  -- 25
+  pub words : length (compiledTable a e) ≤ tableMost
+
+pub rule-table-accepted : (a e : List ℕ) → refusal (ruleTableRefusals a e) ≡ 0 → RuleTableAccepted a e
+unfolding tooManyWords
+rule-table-accepted a e h =
+    let rs = ruleTableRefusals a e in
+    record {
+      rule = part-passes rs refl h (ruleRefusals a e) refl;
+      words = ltb-false tableMost (length (compiledTable a e)) (none-applies rs refl h 25);
+    }
+
+-- `tableLength` is the length of the table slice
+pub record CompileAccepted (a e : List ℕ) (tableLength : ℕ) : Type 0 where
+  -- 1 to 6 and 25
+  pub ruleTable : RuleTableAccepted a e
   -- 7
   pub fits : length (compiledTable a e) ≤ tableLength
 
@@ -61,7 +78,7 @@ unfolding tableTooLong
 compile-accepted a e tableLength h =
     let rs = compileRefusals a e tableLength in
     record {
-      rule = part-passes rs refl h (ruleRefusals a e) refl;
+      ruleTable = rule-table-accepted a e (part-passes rs refl h (ruleTableRefusals a e) refl);
       fits = ltb-false tableLength (length (compiledTable a e)) (none-applies rs refl h 7);
     }
 

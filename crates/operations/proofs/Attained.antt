@@ -14,11 +14,12 @@ use Rattle.words.specs.ExpressionWords.{isExpressionWord, wrongLength, notExpre
 use Rattle.words.specs.Chapter.{isNode, notNodes, tooHigh, holesIn}
 use Rattle.words.specs.Answer.{Answer, refused}
 use Rattle.automaton.specs.Transition.{automatonOf}
-use Rattle.automaton.specs.Numbering.{hasEntries, statesOf, portOf, ownTransitions, portsFrom, statesAfter, transitionsFrom, compiled}
+use Rattle.automaton.specs.Numbering.{hasEntries, statesOf, portOf, everySymbol, ownTransitions, portsFrom, statesAfter}
+use Rattle.automaton.specs.Numbering.{transitionsFrom, compiled}
 use Rattle.automaton.specs.Table.{tableWordCount, tableIn, isHead, isTableWord, sourcesLeft, areTransitions, isTable, noTable}
 use Rattle.automaton.specs.StateSet.{sizeFor}
-use Rattle.automaton.proofs.LargestRules.{overLimit}
-use Rattle.operations.specs.Compile.{tooManyStates, tableTooLong, compileAnswer}
+use Rattle.automaton.proofs.LargestRules.{overLimit, wide, fullTable, overTable}
+use Rattle.operations.specs.Compile.{tooManyStates, tooManyWords, tableTooLong, compileAnswer}
 use Rattle.operations.specs.Marks.{sizeOf}
 use Rattle.operations.specs.Run.{wrongCount, marksTooShort, runAnswer}
 use Rattle.operations.specs.Listing.{listTooShort, listAnswer}
@@ -95,6 +96,15 @@ calls =
     ∷ (7, compile holed (0x2000_0000 ∷ 0x6000_0002 ∷ []) [])
     ∷ (7, compile two (0x2000_0000 ∷ 0x6000_0000 ∷ []) [])
     ∷ (7, compile holed (0x2000_0002 ∷ []) [])
+    -- anything: with a spare bit; with another rule behind it; alone; 2,049 table words, where 7 holds too, and where nothing else
+    -- does; 2,048; 1,037 states and more than 2,048 words
+    ∷ (4, compile two (0xE000_0001 ∷ []) [])
+    ∷ (5, compile two (0xE000_0000 ∷ 0xE000_0000 ∷ []) [])
+    ∷ (7, compile two (0xE000_0000 ∷ []) (replicate 6 0))
+    ∷ (25, compile wide overTable [])
+    ∷ (25, compile wide overTable (replicate 2049 0))
+    ∷ (7, compile wide fullTable (replicate 2047 0))
+    ∷ (6, compile (sixteen ++ replicate 10 0x1000_0004) (replicate 31 0xE000_0000 ++ replicate 30 0x4000_0000) [])
     ∷ (1, run (0 ∷ []) [] [] [])
     ∷ (2, run (0x1000_0001 ∷ []) [] [] [])
     ∷ (8, run two [] [] [])
@@ -168,9 +178,9 @@ pub attained : map (λ r. answerTo (r .1)) calls ≡ map (λ r. refused (r .0)) 
 unfolding kindAt spareBitsClear isOf marksHole isEntry rankOf isConstant isHole hasHoles mayName constantsFrom constantsOf noAlphabet
     wrongConstants arity treesBy notOneTree
     valueOnBy stackAfterBy heightOver highest heightOfBy tooHigh holesIn startFromBy spliceBy
-    isExpressionWord wrongLength notExpressionWords isNode notNodes automatonOf hasEntries statesOf portOf ownTransitions portsFrom
-    statesAfter transitionsFrom
-    compiled tableWordCount tableIn isHead isTableWord sourcesLeft areTransitions isTable noTable sizeFor tooManyStates tableTooLong
-    compileAnswer sizeOf wrongCount marksTooShort
+    isExpressionWord wrongLength notExpressionWords isNode notNodes automatonOf hasEntries statesOf portOf everySymbol ownTransitions
+    portsFrom statesAfter transitionsFrom
+    compiled tableWordCount tableIn isHead isTableWord sourcesLeft areTransitions isTable noTable sizeFor tooManyStates tooManyWords
+    tableTooLong compileAnswer sizeOf wrongCount marksTooShort
     runAnswer listTooShort listAnswer wrongUsedCount noElement noReplacement resultTooLong fault exchangeAnswer
 attained = refl

@@ -6,7 +6,7 @@ use mathlib.Core.Bool.{true}
 use mathlib.Core.List.{List, [], _∷_}
 use native.Mathlib.Omega.{arith}
 use lib.ListN.{length, drop}
-use Rattle.words.specs.Limits.{alphabetMost, compiledMost}
+use Rattle.words.specs.Limits.{alphabetMost, tableMost}
 use Rattle.words.specs.ExactlyOne.{ExactlyOne}
 use Rattle.words.specs.Answer.{accepted}
 use Rattle.words.proofs.AcceptedAlphabet.{alphabet-accepted}
@@ -19,7 +19,7 @@ use Rattle.automaton.specs.Numbering.{compiled}
 use Rattle.automaton.specs.Table.{tableIn, isTable, AutomatonOver}
 use Rattle.automaton.proofs.DecodeLaws.{automatonOf-words}
 use Rattle.automaton.proofs.CompiledOver.{compiled-over}
-use Rattle.automaton.proofs.CompiledTable.{compiled-isTable, table-most}
+use Rattle.automaton.proofs.CompiledTable.{compiled-isTable}
 use Rattle.automaton.proofs.TableLaws.{isTable-in}
 use Rattle.operations.specs.Compile.{compiledTable, compileFault, compileAnswer, compileExit}
 use Rattle.operations.proofs.AcceptedLaws.{rule-accepted, compile-accepted}
@@ -35,19 +35,20 @@ pub record CompileResult (a e slice : List ℕ) (k : ℕ) : Type 0 where
   pub automaton : automatonOf (compiledTable a e) ≡ compiled a e
   -- 8 lets it pass
   pub checked : isTable a (compiledTable a e) ≡ true
-  -- "the largest compiled table grows to 1,148 words"
-  pub most : length (compiledTable a e) ≤ compiledMost
+  -- 25 does not apply
+  pub most : length (compiledTable a e) ≤ tableMost
 
 pub compile-result : (a e slice : List ℕ) (k : ℕ) → compileAnswer a e slice ≡ accepted (k ∷ []) → CompileResult a e slice k
 unfolding compileAnswer compileExit
 compile-result a e slice k h =
     let v = accepted-values (compileFault a e (length slice)) (length (compiledTable a e) ∷ []) (k ∷ []) h in
-    let f = rule-accepted a e (compile-accepted a e (length slice) (v .0) .rule) in
+    let t = compile-accepted a e (length slice) (v .0) .ruleTable in
+    let f = rule-accepted a e (t .rule) in
     let few = alphabet-accepted a (f .alphabet) .counted .few in
     let words = expression-accepted a e (f .expression) in
     let over = compiled-over a e (f .expression) (f .states) in
     let n : k ≡ length (compiledTable a e) = cc in
-    let checked = compiled-isTable a e (f .alphabet) (f .expression) (f .states) in
+    let checked = compiled-isTable a e (f .alphabet) (f .expression) (f .states) (t .words) in
     record {
       few = few;
       expression = exactly-one-expression a few e (words .words) (words .shape);
@@ -56,5 +57,5 @@ compile-result a e slice k h =
       table = rw (v .0) (isTable-in a (compiledTable a e) checked (drop (length (compiledTable a e)) slice));
       automaton = automatonOf-words a (omega arith) over;
       checked = checked;
-      most = table-most a e (f .alphabet) (f .expression) (f .states);
+      most = t .words;
     }

@@ -51,15 +51,15 @@ module _ (a e ch : List ℕ) (few : length a ≤ alphabetMost) (auto : automaton
 
   -- a node's state set holds the final state exactly if its subtree's tree belongs to the language
   holds-member : (E : Expression) (i : ℕ) (t : Tree) → ExpressionOf a e E → i < length ch → SubjectOf a (subtreeOf a ch i) t
-      → (contains (getD (nodeSets a table ch) i []) (finalOf table) ≡ true) ↔ Member E t
+      → (contains (getD (nodeSets a table ch) i []) (finalOf table) ≡ true) ↔ Member a E t
   unfolding finalOf
   holds-member E i t x l k =
       let q : contains (getD (nodeSets a table ch) i []) (automatonOf table .final)
       ≡ contains (treeSet (compiled a e) t) (compiled a e .final) =
       ap₂ contains (node-tree a table ch few i t l k ∙ ap (λ A. treeSet A t) auto) (ap (λ A. A .final) auto) in
       let r = treeSet-reaches (compiled a e) below t (compiled a e .final) in
-      let m : Reaches (compiled a e .transitions) (compiled a e .final) t ↔ Member E t =
-      subst (λ w. Reaches (compiled a w .transitions) (compiled a w .final) t ↔ Member E t) (x .words) (thompson a E few (x .over) t) in
+      let m : Reaches (compiled a e .transitions) (compiled a e .final) t ↔ Member a E t =
+      subst (λ w. Reaches (compiled a w .transitions) (compiled a w .final) t ↔ Member a E t) (x .words) (thompson a E few (x .over) t) in
       (λ h. m .0 (r .0 (sym q ∙ h)), λ h. q ∙ r .1 (m .1 h))
 
 -- ---- what Run and List leave, with any table
@@ -144,7 +144,7 @@ module _ (c : ThreeCalls) (h : AllAccepted c) where
       (subtree-holes a (c .chapter) i (run .marked .free))
 
   holding-member : (i : ℕ) (l : i < length (c .chapter))
-      → (contains (getD (nodeSets a T (c .chapter)) i []) (finalOf T) ≡ true) ↔ Member (compiles .expression .the) (subtree i l .the)
+      → (contains (getD (nodeSets a T (c .chapter)) i []) (finalOf T) ≡ true) ↔ Member a (compiles .expression .the) (subtree i l .the)
   holding-member i l =
       holds-member a (c .rule) (c .chapter) (compiles .few) (compiles .automaton) (targets-below (compiles .over))
       (compiles .expression .the) i (subtree i l .the) (compiles .expression .has) l (subtree i l .has)
@@ -162,6 +162,14 @@ module _ (c : ThreeCalls) (h : AllAccepted c) where
     );
   }
 
+  -- an element is named if its subtree's tree is a member; that it is hole-free is known
+  pub member-named : (E : Expression) → ExpressionOf a (c .rule) E → (i : ℕ) → i < length (c .chapter)
+      → ((t : Tree) → SubjectOf a (subtreeOf a (c .chapter) i) t → Member a E t) → List·Memᴰ i (namesOf c)
+  member-named E x i l m =
+      let t = subtree i l .the in
+      let member = subst (λ (F : Expression). Member a F t) (compiles .expression .only E x) (m t (subtree i l .has)) in
+      names-holding i .1 (omega (arith, length-nodeSets a T (c .chapter)), holding-member i l .1 member)
+
 pub demand2 : Demand2
 demand2 c h = named-members c h
 
@@ -178,7 +186,7 @@ demand2-of c h E x i l =
 pub demand2-without : (c : ThreeCalls) (h : AllAccepted c) (E : Expression) → ExpressionOf (c .alphabet) (c .rule) E
     → hasHoles (c .alphabet) ≡ false
     → (i : ℕ) (l : i < length (c .chapter))
-    → List·Memᴰ i (namesOf c) ↔ Member E (demand2 c h .subtrees i l .the)
+    → List·Memᴰ i (namesOf c) ↔ Member (c .alphabet) E (demand2 c h .subtrees i l .the)
 demand2-without c h E x e i l =
     let m = demand2-of c h E x i l in
     ((λ n. m .0 n .1), (λ n. m .1 (holeFree-without (c .alphabet) e (demand2 c h .subtrees i l .the), n)))

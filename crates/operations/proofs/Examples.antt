@@ -20,14 +20,14 @@ use Rattle.words.specs.Tree.{Tree}
 use Rattle.words.specs.Answer.{Answer, refused, accepted, valueOr}
 use Rattle.language.specs.Expression.{Expression, empty, union, product, closure}
 use Rattle.language.specs.Membership.{constant, Member}
-use Rattle.language.proofs.MembershipExamples.{con, fᵉ, f as fᵗ, closure-empty, by-empty, by-empty-none}
+use Rattle.language.proofs.MembershipExamples.{alphabet, con, fᵉ, f as fᵗ, closure-empty, by-empty, by-empty-none}
 use Rattle.language.proofs.MembershipExamples.{separately, put-once, not-twice, closure-joined}
 use Rattle.automaton.specs.Transition.{transitionsAt, automatonOf, headWord}
 use Rattle.automaton.specs.Numbering.{hasEntries, statesOf, portOf, ownTransitions, portsFrom, statesAfter, transitionsFrom, compiled}
 use Rattle.automaton.specs.Table.{tableWordCount, isHead, isTableWord, sourcesLeft, areTransitions, isTable, noTable}
 use Rattle.automaton.specs.StateSet.{sizeFor, contains, insert, allContained, symbolPass, epsilonPass, epsilonClosure, stateSet}
-use Rattle.automaton.proofs.CompiledExample.{alphabet, rule}
-use Rattle.operations.specs.Compile.{compiledTable, compileFault, tooManyStates, tableTooLong}
+use Rattle.automaton.proofs.CompiledExample.{rule}
+use Rattle.operations.specs.Compile.{compiledTable, compileFault, tooManyStates, tooManyWords, tableTooLong}
 use Rattle.operations.specs.Marks.{sizeOf, finalOf, nodeSet, nodeSets, storedSet, sameWords, refit}
 use Rattle.operations.specs.Run.{wrongCount, marksTooShort, runFault, runMarks, cellsIn, runAnswer, runExit}
 use Rattle.operations.specs.Listing.{matchesIn, matchesOf}
@@ -109,9 +109,9 @@ pub data Row : Type 0 where
   exchanging : (rl slice stored : List ℕ) (n i : ℕ) (xs : List ℕ) (answer : Answer) (left leftMarks hits : List ℕ) → Row
 
 abbrev pub Holds : Row → Type 0
-Holds (member E t) = Member E t
-Holds (noMember E t) = Member E t → ⊥
-Holds (noMembers E) = (t : Tree) → Member E t → ⊥
+Holds (member E t) = Member alphabet E t
+Holds (noMember E t) = Member alphabet E t → ⊥
+Holds (noMembers E) = (t : Tree) → Member alphabet E t → ⊥
 Holds (noHits e) = Names e (λ t. ⊥)
 Holds (hitsAt e c) = Names e (λ t. t ≡ constant c)
 Holds (listing al e ch states words head lines) = ListingRow al e ch states words head lines
@@ -230,8 +230,8 @@ unfolding kindAt spareBitsClear isOf marksHole isEntry rankOf isConstant isHole 
     wrongConstants arity treesBy notOneTree isExpressionWord wrongLength notExpressionWords hasEntries statesOf portOf ownTransitions
     portsFrom statesAfter
     transitionsFrom compiled
-    tooManyStates tableTooLong flatMap flatten isNode notNodes tableWordCount isHead isTableWord sourcesLeft areTransitions isTable noTable
-    wrongCount marksTooShort transitionsAt
+    tooManyStates tooManyWords tableTooLong flatMap flatten isNode notNodes tableWordCount isHead isTableWord sourcesLeft areTransitions
+    isTable noTable wrongCount marksTooShort transitionsAt
     automatonOf sizeFor contains insert allContained symbolPass epsilonPass epsilonClosure stateSet sizeOf finalOf nodeSet nodeSets valuesBy
     valueOnBy runMarks cellsIn runAnswer runExit storedSet startFromBy
     matchesIn matchesOf spliceBy isAncestorBy stackAfterBy stackGivenBy sameWords refit wrongUsedCount noElement noReplacement resultTooLong

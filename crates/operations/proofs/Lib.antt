@@ -1,4 +1,5 @@
 pub mod Examples
+pub mod AnythingExamples
 pub mod Attained
 pub mod Demand1
 pub mod MatchLaws
@@ -17,6 +18,7 @@ pub mod Demand2
 pub mod TableSlices
 pub mod Heights
 pub mod Holes
+pub mod Anything
 pub mod BehindLaws
 pub mod FromChildren
 pub mod OutcomeParts

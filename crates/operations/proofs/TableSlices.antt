@@ -65,7 +65,7 @@ table-slices = record {
       let ms = transitionsWords (A .transitions) in
       let e : 2 + length ms ≡ suc (length ms) + 1 = omega arith in
       ap (λ (n : ℕ). headWord A ∷ lengthWord n ∷ ms) e;
-  most = λ a rule h. let f = rule-accepted a rule h in table-most a rule (f .alphabet) (f .expression) (f .states);
+  most = λ a rule h n. let f = rule-accepted a rule h in table-most a rule (f .alphabet) (f .expression) (f .states) n;
   compiles = λ a rule slice n h.
       let c = compile-result a rule slice n h in
       (c .table, rw (c .table, c .checked));

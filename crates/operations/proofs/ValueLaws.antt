@@ -23,7 +23,7 @@ use Rattle.operations.proofs.CellLaws.{cells-nodeSets}
 use Rattle.operations.proofs.MatchLaws.{matchesOf-few}
 use Rattle.operations.proofs.Recomputed.{recomputation}
 
--- Compile: at most 1,148 words
+-- Compile: at most 2,048 words
 pub compile-value : (a e slice : List ℕ) {k : ℕ} → accepted (k ∷ []) ≡ compileAnswer a e slice → k < wordRange
 compile-value a e slice {k} h =
     let g = compile-result a e slice k (sym h) in

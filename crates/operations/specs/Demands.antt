@@ -1,4 +1,4 @@
--- The claims: what the three demands, and document 02's U1, U6 and U8, say of the four operations, over the definitions that their
+-- The claims: what the three demands, and document 02's U1, U6, U7 and U8, say of the four operations, over the definitions that their
 -- contracts cite. Each is proved in the file of proofs/ that is named with it.
 use Prim.Native.Nat.{ℕ, _+_, _-_, _*_, _<_, _≤_}
 use mathlib.Core.Path.{_≡_}
@@ -8,10 +8,11 @@ use mathlib.Core.List.{List, [], _∷_, _++_, map, flatten, List·Memᴰ}
 use lib.ListN.{length, getD, take, drop}
 use lib.Dec.{ltb, leb}
 use Rattle.words.specs.Lists.{all, count, listFrom}
-use Rattle.words.specs.Limits.{outside, alphabetMost, rankMost, compiledMost, heightMost}
-use Rattle.words.specs.Word.{entryKind, productKind, closureKind, lengthKind, hasKind, bodyOf, symbolRange, spareBitsClear, lowByte}
-use Rattle.words.specs.Alphabet.{entryRank, isConstant, isHole, hasHoles, mayName, noAlphabet, alphabetRefusals}
-use Rattle.words.specs.ExpressionWords.{isExpressionWord, wrongLength}
+use Rattle.words.specs.Limits.{outside, alphabetMost, rankMost, tableMost, compiledMost, heightMost}
+use Rattle.words.specs.Word.{entryKind, productKind, closureKind, lengthKind, anythingKind, hasKind, bodyOf, symbolRange}
+use Rattle.words.specs.Word.{spareBitsClear, wordOf, lowByte}
+use Rattle.words.specs.Alphabet.{entryRank, isConstant, isHole, hasHoles, mayName, constantsOf, noAlphabet, alphabetRefusals}
+use Rattle.words.specs.ExpressionWords.{isExpressionWord, hasAnything, wrongLength}
 use Rattle.words.specs.Refusal.{Refusals, refusal, without, First, NoneHolds}
 use Rattle.words.specs.ExactlyOne.{ExactlyOne}
 use Rattle.words.specs.Tree.{Tree, height}
@@ -23,11 +24,11 @@ use Rattle.language.specs.Expression.{Expression, HoleFree, ExpressionOf, Subje
 use Rattle.language.specs.Reading.{expressionOf}
 use Rattle.language.specs.Membership.{Member, HoleFreeMember}
 use Rattle.automaton.specs.Transition.{transitionsWords, headWord, lengthWord}
-use Rattle.automaton.specs.Numbering.{compiled}
+use Rattle.automaton.specs.Numbering.{Port, fullPort, portOf, anythingTransitions, ownTransitions, compiled}
 use Rattle.automaton.specs.Table.{isLength, tableWordCount, tableIn, noTable}
 use Rattle.automaton.specs.StateSet.{StateSet}
-use Rattle.operations.specs.Compile.{compiledTable, tooManyStates, tableTooLong, ruleRefusals, compileRefusals, compileFault}
-use Rattle.operations.specs.Compile.{compileAnswer, compileExit}
+use Rattle.operations.specs.Compile.{compiledTable, tooManyStates, tooManyWords, tableTooLong, ruleRefusals}
+use Rattle.operations.specs.Compile.{compileRefusals, compileFault, compileAnswer, compileExit}
 use Rattle.operations.specs.Marks.{sizeOf, nodeSet, ReachedSet, nodeSets, storedSet}
 use Rattle.operations.specs.Run.{runRefusals, runFault, runAnswer, runExit, cellsIn}
 use Rattle.operations.specs.Listing.{listRefusals, listAnswer, listExit, matchesOf}
@@ -232,8 +233,10 @@ pub record TableSlices : Type 0 where
   pub words : (alphabet rule : List ℕ)
       → compiledTable alphabet rule
       ≡ take 1 (plainTable alphabet rule) ++ (lengthWord (length (plainTable alphabet rule) + 1) ∷ drop 1 (plainTable alphabet rule))
-  -- "the largest compiled table grows to 1,148 words": at most so many; law `limits-attained` has a rule with as many
-  pub most : (alphabet rule : List ℕ) → refusal (ruleRefusals alphabet rule) ≡ 0 → length (compiledTable alphabet rule) ≤ compiledMost
+  -- "the largest compiled table grows to 1,148 words": at most so many, which "now holds for rules without" anything (U7); law
+  -- `limits-attained` has a rule with as many
+  pub most : (alphabet rule : List ℕ) → refusal (ruleRefusals alphabet rule) ≡ 0 → hasAnything rule ≡ false
+      → length (compiledTable alphabet rule) ≤ compiledMost
   -- the slice that Compile wrote may be lent as it is: the table in it is the rule's, and 8 does not apply
   pub compiles : (alphabet rule slice : List ℕ) (count : ℕ) → compileAnswer alphabet rule slice ≡ accepted (count ∷ [])
       → (tableIn (compileExit alphabet rule slice) ≡ compiledTable alphabet rule)
@@ -286,7 +289,7 @@ isPlainEntry w = hasKind entryKind w && ltb (bodyOf w) symbolRange && leb (entry
 abbrev pub noPlainAlphabet : List ℕ → Bool
 noPlainAlphabet alphabet = outside alphabetMost (length alphabet) || not (all isPlainEntry alphabet)
 
--- document 01's rule words: the c of a product or a closure is any constant; and its list for Compile
+-- document 01's rule words, beside U7's: the c of a product or a closure is any constant; and the list for Compile
 abbrev pub isPlainWord : List ℕ → ℕ → Bool
 isPlainWord alphabet w =
     cond (hasKind productKind w || hasKind closureKind w) (spareBitsClear w && isConstant alphabet (lowByte w))
@@ -296,7 +299,7 @@ abbrev pub plainCompileRefusals : List ℕ → List ℕ → ℕ → Refusals
 plainCompileRefusals alphabet rule tableLength =
     alphabetRefusals alphabet
     ++ ((3, wrongLength rule) ∷ (4, not (all (isPlainWord alphabet) rule)) ∷ (5, notOneTree alphabet rule)
-    ∷ (6, tooManyStates alphabet rule) ∷ (7, tableTooLong alphabet rule tableLength) ∷ [])
+    ∷ (6, tooManyStates alphabet rule) ∷ (25, tooManyWords alphabet rule) ∷ (7, tableTooLong alphabet rule tableLength) ∷ [])
 
 pub record Holes : Type 0 where
   -- "with rank above 0 it is refused as 1": otherwise a hole is a constant
@@ -319,7 +322,8 @@ pub record Holes : Type 0 where
       → compileFault alphabet rule tableLength ≡ refusal (plainCompileRefusals alphabet rule tableLength)
   pub constants : (alphabet : List ℕ) (c : ℕ) → hasHoles alphabet ≡ false → mayName alphabet c ≡ isConstant alphabet c
   pub trees : (alphabet : List ℕ) (t : Tree) → hasHoles alphabet ≡ false → HoleFree alphabet t
-  pub members : (alphabet : List ℕ) (E : Expression) (t : Tree) → hasHoles alphabet ≡ false → HoleFreeMember alphabet E t ↔ Member E t
+  pub members : (alphabet : List ℕ) (E : Expression) (t : Tree) → hasHoles alphabet ≡ false
+      → HoleFreeMember alphabet E t ↔ Member alphabet E t
   -- and 26, which the lists of Run and Exchange have beside document 01's numbers and U6's, refuses nothing: it can be left out
   pub runs : (alphabet table chapter : List ℕ) (marksLength : ℕ) → hasHoles alphabet ≡ false
       → runFault alphabet table chapter marksLength ≡ refusal (without 26 (runRefusals alphabet table chapter marksLength))
@@ -327,3 +331,21 @@ pub record Holes : Type 0 where
       → hasHoles alphabet ≡ false
       → exchangeFault alphabet table n elements chapterLength marksLength i replacement
       ≡ refusal (without 26 (exchangeRefusals alphabet table n elements chapterLength marksLength i replacement))
+
+-- ---- Anything (document 02, U7; Anything): "a rule word that holds for every tree over the alphabet". Its language is a clause of
+-- `Member`, its moves are those of `anythingTransitions`; demand 2 speaks of rules with it and without.
+
+pub record Anything : Type 0 where
+  -- the rule of this word alone: List names every element
+  pub everywhere : (c : ThreeCalls) → AllAccepted c → c .rule ≡ wordOf anythingKind 0 ∷ [] → (i : ℕ) → i < length (c .chapter)
+      → List·Memᴰ i (namesOf c)
+  -- "It gets an exit and an entry for each constant"
+  pub port : (alphabet : List ℕ) (n : ℕ) → portOf alphabet n (wordOf anythingKind 0) ≡ fullPort (constantsOf alphabet) n
+  -- "Its moves are, for each symbol of rank above 0 in order, a symbol move from its exit in every part to its exit, then each entry to
+  -- its exit"
+  pub moves : (alphabet : List ℕ) (E : Port) → ownTransitions alphabet (wordOf anythingKind 0) E [] ≡ anythingTransitions alphabet E
+  -- "25 table over 2,048 words": an accepted Compile answers at most as many
+  pub most : (alphabet rule slice : List ℕ) (count : ℕ) → compileAnswer alphabet rule slice ≡ accepted (count ∷ []) → count ≤ tableMost
+  -- a rule without it is judged as before: 25 refuses none, and can be left out
+  pub without-it : (alphabet rule : List ℕ) (tableLength : ℕ) → hasAnything rule ≡ false
+      → compileFault alphabet rule tableLength ≡ refusal (without 25 (compileRefusals alphabet rule tableLength))

@@ -14,7 +14,7 @@ use Rattle.words.specs.ExpressionWords.{wrongLength}
 use Rattle.words.proofs.TestLaws.{or-left}
 use Rattle.words.proofs.LimitLaws.{over-outside}
 use Rattle.words.proofs.RefusalLaws.{here, found-refusal, refusalOr, holds-ends, refusalOr-some}
-use Rattle.operations.specs.Compile.{ruleRefusals}
+use Rattle.operations.specs.Compile.{ruleTableRefusals}
 use Rattle.lines.specs.Line.{refusedLine}
 use Rattle.report.specs.Stages.{alphabetKept, ruleKept, chapterKept}
 use Rattle.report.specs.Output.{chapterMost, wrongChapter, marklistRefusals, marklistFault, reportLines, marklistOutput, outputOf}
@@ -48,16 +48,16 @@ unfolding wrongLength
 rule-long a e ch h =
     sym (found-refusal (marklistRefusals a e ch) (holds-ends (alphabetRefusals a) _ 3 (over-outside expressionMost (length e) h)))
 
-chapter-long : (a e ch : List ℕ) → chapterMost < length ch → marklistFault a e ch ≡ refusalOr (ruleRefusals a e) 9
+chapter-long : (a e ch : List ℕ) → chapterMost < length ch → marklistFault a e ch ≡ refusalOr (ruleTableRefusals a e) 9
 unfolding wrongChapter
 chapter-long a e ch h =
-    sym (found-refusal (marklistRefusals a e ch) (holds-ends (ruleRefusals a e) _ 9 (over-outside chapterMost (length ch) h)))
+    sym (found-refusal (marklistRefusals a e ch) (holds-ends (ruleTableRefusals a e) _ 9 (over-outside chapterMost (length ch) h)))
 
 rule-number : (a : List ℕ) → 0 < refusalOr (alphabetRefusals a) 3
 rule-number a = refusalOr-some (alphabetRefusals a) 3 (omega arith) refl
 
-chapter-number : (a e : List ℕ) → 0 < refusalOr (ruleRefusals a e) 9
-chapter-number a e = refusalOr-some (ruleRefusals a e) 9 (omega arith) refl
+chapter-number : (a e : List ℕ) → 0 < refusalOr (ruleTableRefusals a e) 9
+chapter-number a e = refusalOr-some (ruleTableRefusals a e) 9 (omega arith) refl
 
 -- ---- the words that are kept
 

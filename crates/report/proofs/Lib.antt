@@ -1,3 +1,4 @@
+pub mod Attained
 pub mod KeptLaws
 pub mod NeverTooHigh
 pub mod OutputLength

@@ -19,12 +19,11 @@ use Rattle.words.proofs.RefusalLaws.{found-alike, none-behind, behindNumber}
 use Rattle.words.proofs.AnswerLaws.{refused-number, accepted-values}
 use Rattle.automaton.specs.Transition.{Automaton, automatonOf}
 use Rattle.automaton.specs.Numbering.{compiled}
-use Rattle.automaton.proofs.CompiledTable.{table-most}
-use Rattle.operations.specs.Compile.{compiledTable, tableTooLong, ruleRefusals, compileRefusals, compileFault, compileAnswer}
+use Rattle.operations.specs.Compile.{compiledTable, tableTooLong, ruleTableRefusals, compileRefusals, compileFault, compileAnswer}
 use Rattle.operations.specs.Marks.{finalOf, nodeSets}
 use Rattle.operations.specs.Run.{wrongCount, marksTooShort, tableRefusals, runRefusals, runFault, runMarks, runAnswer, runExit}
 use Rattle.operations.specs.Listing.{listFault, matchesIn, matchesOf, listAnswer, listExit}
-use Rattle.operations.proofs.AcceptedLaws.{RuleAccepted, rule-accepted}
+use Rattle.operations.proofs.AcceptedLaws.{RuleAccepted, rule-accepted, rule-table-accepted}
 use Rattle.operations.proofs.AcceptedLaws.{accepted-table, fit-marks, run-accepted, accepted-list}
 use Rattle.operations.proofs.RunLaws.{run-exit, run-writes, run-length, matches-nodeSets}
 use Rattle.operations.proofs.CompileLaws.{CompileResult, compile-result}
@@ -37,23 +36,20 @@ use Rattle.report.proofs.KeptLaws.{refused-output, accepted-output}
 -- ---- Compile, with a table slice for the longest table
 
 module _ (a e : List ℕ) where
-  -- 7 cannot arise
-  table-enough : refusal (ruleRefusals a e) ≡ 0 → tableTooLong a e tableMost ≡ false
+  -- 7 cannot arise, since 25 does not
+  table-enough : refusal (ruleTableRefusals a e) ≡ 0 → tableTooLong a e tableMost ≡ false
   unfolding tableTooLong
-  table-enough h =
-      let f = rule-accepted a e h in
-      let l = table-most a e (f .alphabet) (f .expression) (f .states) in
-      le-ltb tableMost (length (compiledTable a e)) (omega arith)
+  table-enough h = le-ltb tableMost (length (compiledTable a e)) (rule-table-accepted a e h .words)
 
-  compile-rule : compileFault a e tableMost ≡ refusal (ruleRefusals a e)
-  compile-rule = go (refusal (ruleRefusals a e)) refl
+  compile-rule : compileFault a e tableMost ≡ refusal (ruleTableRefusals a e)
+  compile-rule = go (refusal (ruleTableRefusals a e)) refl
     where
-      go : (n : ℕ) → refusal (ruleRefusals a e) ≡ n → compileFault a e tableMost ≡ refusal (ruleRefusals a e)
+      go : (n : ℕ) → refusal (ruleTableRefusals a e) ≡ n → compileFault a e tableMost ≡ refusal (ruleTableRefusals a e)
       go (suc n) h =
-          sym (found-refusal (compileRefusals a e tableMost) (refuses (ruleRefusals a e) _ refl (λ z. omega arith)))
+          sym (found-refusal (compileRefusals a e tableMost) (refuses (ruleTableRefusals a e) _ refl (λ z. omega arith)))
       go zero h =
           sym
-          (found-refusal (compileRefusals a e tableMost) (passes (ruleRefusals a e) refl (sym h) refl (next (table-enough h) none)))
+          (found-refusal (compileRefusals a e tableMost) (passes (ruleTableRefusals a e) refl (sym h) refl (next (table-enough h) none)))
           ∙ sym h
 
   -- a refused Compile: its number is printed
@@ -62,21 +58,22 @@ module _ (a e : List ℕ) where
   unfolding compileAnswer
   compile-refusal ch slice n l h =
       let q = refused-number (compileFault a e (length slice)) (length (compiledTable a e) ∷ []) n (sym h) in
-      let f : n ≡ refusal (ruleRefusals a e) = sym (q .1) ∙ ap (compileFault a e) l ∙ compile-rule in
+      let f : n ≡ refusal (ruleTableRefusals a e) = sym (q .1) ∙ ap (compileFault a e) l ∙ compile-rule in
       let some = q .0 in
-      refused-output a e ch n (sym (found-refusal (marklistRefusals a e ch) (refuses (ruleRefusals a e) _ f (λ z. omega arith)))) (q .0)
+      refused-output a e ch n
+      (sym (found-refusal (marklistRefusals a e ch) (refuses (ruleTableRefusals a e) _ f (λ z. omega arith)))) (q .0)
 
   -- ---- an accepted Compile, and Run
 
   module _ (ch slice : List ℕ) (k : ℕ) (l : length slice ≡ tableMost) (h : accepted (k ∷ []) ≡ compileAnswer a e slice) where
-    rule-none : refusal (ruleRefusals a e) ≡ 0
+    rule-none : refusal (ruleTableRefusals a e) ≡ 0
     unfolding compileAnswer
     rule-none =
         sym compile-rule ∙ ap (compileFault a e) (sym l)
         ∙ accepted-values (compileFault a e (length slice)) (length (compiledTable a e) ∷ []) (k ∷ []) (sym h) .0
 
     rule : RuleAccepted a e
-    rule = rule-accepted a e rule-none
+    rule = rule-accepted a e (rule-table-accepted a e rule-none .rule)
 
     known : CompileResult a e slice k
     known = compile-result a e slice k (sym h)
@@ -86,7 +83,7 @@ module _ (a e : List ℕ) where
     left-fault =
         sym
         (found-refusal (marklistRefusals a e ch)
-        (passes (ruleRefusals a e) refl (sym rule-none) refl (refusal-found (chapterRefusals a ch) refl)))
+        (passes (ruleTableRefusals a e) refl (sym rule-none) refl (refusal-found (chapterRefusals a ch) refl)))
 
     -- "Over 256 elements it says 9"
     pub chapter-over : chapterMost < length ch → marklistOutput a e ch ≡ refusedLine 9

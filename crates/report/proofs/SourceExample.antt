@@ -14,8 +14,9 @@ use Rattle.words.specs.Shape.{treesBy, valueOnBy, stackAfterBy, heightOver, hei
 use Rattle.words.specs.Postfix.{arity, notOneTree}
 use Rattle.automaton.specs.Transition.{transitionsAt, automatonOf}
 use Rattle.automaton.specs.Numbering.{hasEntries, statesOf, portOf, ownTransitions, portsFrom, statesAfter, transitionsFrom, compiled}
-use Rattle.automaton.proofs.CompiledExample.{alphabet, rule}
-use Rattle.operations.specs.Compile.{compiledTable, tooManyStates}
+use Rattle.language.proofs.MembershipExamples.{alphabet}
+use Rattle.automaton.proofs.CompiledExample.{rule}
+use Rattle.operations.specs.Compile.{compiledTable, tooManyStates, tooManyWords}
 use Rattle.operations.specs.Marks.{finalOf, nodeSets}
 use Rattle.operations.specs.Run.{runMarks}
 use Rattle.operations.specs.Listing.{matchesIn, matchesOf}
@@ -85,7 +86,7 @@ unfolding
     kindAt spareBitsClear isOf marksHole isEntry rankOf isConstant isHole hasHoles mayName constantsFrom constantsOf noAlphabet
     wrongConstants isExpressionWord wrongLength notExpressionWords isNode notNodes arity treesBy notOneTree hasEntries statesOf portOf
     ownTransitions portsFrom statesAfter transitionsFrom compiled
-    valueOnBy stackAfterBy heightOver highest heightOfBy tooHigh holesIn tooManyStates wrongChapter
+    valueOnBy stackAfterBy heightOver highest heightOfBy tooHigh holesIn tooManyStates tooManyWords flatMap wrongChapter
 no-fault = refl
 
 words-are : wordsIn exampleInput ≡ 7 ∷ 9 ∷ 7 ∷ (alphabet ++ (rule ++ (chapter ++ [])))

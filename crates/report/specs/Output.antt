@@ -7,7 +7,7 @@ use lib.Dec.{eqb}
 use Rattle.words.specs.Limits.{outside}
 use Rattle.words.specs.Refusal.{Refusals, refusal}
 use Rattle.automaton.specs.Numbering.{compiled}
-use Rattle.operations.specs.Compile.{compiledTable, ruleRefusals}
+use Rattle.operations.specs.Compile.{compiledTable, ruleTableRefusals}
 use Rattle.operations.specs.Marks.{nodeSets}
 use Rattle.operations.specs.Run.{elementRefusals}
 use Rattle.operations.specs.Listing.{matchesIn}
@@ -30,7 +30,7 @@ chapterRefusals a ch = (9, wrongChapter ch) ∷ elementRefusals a ch
 -- "the faults of Compile before those of Run"; its memory is so large that no refusal of a short slice can arise, nor one of a
 -- table, which is a compiled one
 abbrev pub marklistRefusals : List ℕ → List ℕ → List ℕ → Refusals
-marklistRefusals a e ch = ruleRefusals a e ++ chapterRefusals a ch
+marklistRefusals a e ch = ruleTableRefusals a e ++ chapterRefusals a ch
 
 abbrev pub marklistFault : List ℕ → List ℕ → List ℕ → ℕ
 marklistFault a e ch = refusal (marklistRefusals a e ch)

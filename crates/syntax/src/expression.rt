@@ -26,6 +26,7 @@ fn is_expression_word(alphabet: &[u32], w: u32) -> bool
         Kind::Union => true,
         Kind::Product => may_name(alphabet, symbol),
         Kind::Closure => may_name(alphabet, symbol),
+        Kind::Anything => true,
         _ => false,
     }
 }

@@ -17,7 +17,7 @@ use Rattle.words.specs.Word.{Kind, noKind, kinds, kindAt, kindNumber, nu
 use Rattle.words.specs.Decoded.{kindIn}
 use Rattle.words.specs.declared.word.Kind.{Kind as Case}
 use Rattle.words.specs.declared.word.Kind.the-variants.{Entry, Symbol, Empty, Union, Product, Closure}
-use Rattle.words.specs.declared.word.Kind.the-variants.{Node, Head, Transition, Epsilon, Source, Length, Other}
+use Rattle.words.specs.declared.word.Kind.the-variants.{Node, Head, Transition, Epsilon, Source, Length, Anything, Other}
 use Rattle.words.proofs.word.Kind.{the-type}
 use Rattle.words.proofs.TestLaws.{and-true}
 use Rattle.words.proofs.KindLaws.{kindAt-number, number-kindAt}
@@ -61,6 +61,7 @@ kinds-place Transition = refl
 kinds-place Epsilon = refl
 kinds-place Source = refl
 kinds-place Length = refl
+kinds-place Anything = refl
 kinds-place Other = refl
 
 -- what a test says of each kind that is left it says of this one

@@ -1,4 +1,4 @@
--- What an expression word that refusal 4 lets pass can be: one of five kinds, with its low byte in order and its arity.
+-- What an expression word that refusal 4 lets pass can be: one of six kinds, with its low byte in order and its arity.
 use Prim.Native.Nat.{ℕ, _<_}
 use mathlib.Core.Path.{_≡_, refl}
 use mathlib.Core.Bool.{true, false≢true}
@@ -6,7 +6,8 @@ use mathlib.Core.List.{List}
 use lib.ListN.{length}
 use borrow.Author.Tests.{ltb-true}
 use Rattle.words.specs.Word.{Kind, entryKind, symbolKind, emptyKind, unionKind, productKind, closureKind, nodeKind}
-use Rattle.words.specs.Word.{headKind, transitionKind, epsilonKind, sourceKind, lengthKind, noKind, kindOf, spareBitsClear, lowByte}
+use Rattle.words.specs.Word.{headKind, transitionKind, epsilonKind, sourceKind, lengthKind, anythingKind, noKind, kindOf}
+use Rattle.words.specs.Word.{spareBitsClear, lowByte}
 use Rattle.words.specs.Alphabet.{rankOf, mayName}
 use Rattle.words.specs.Postfix.{arity}
 use Rattle.words.specs.ExpressionWords.{namesAt, isExpressionWord}
@@ -19,6 +20,7 @@ pub data ExpressionWord (a : List ℕ) (w : ℕ) : Type 0 where
   unionWord : kindOf w ≡ unionKind → arity a w ≡ 2 → ExpressionWord a w
   productWord : kindOf w ≡ productKind → mayName a (lowByte w) ≡ true → arity a w ≡ 2 → ExpressionWord a w
   closureWord : kindOf w ≡ closureKind → mayName a (lowByte w) ≡ true → arity a w ≡ 1 → ExpressionWord a w
+  anythingWord : kindOf w ≡ anythingKind → arity a w ≡ 0 → ExpressionWord a w
 
 module _ (a : List ℕ) (w : ℕ) where
   named : (k : Kind) → kindOf w ≡ k → namesAt a (lowByte w) k ≡ true → ExpressionWord a w
@@ -27,6 +29,7 @@ module _ (a : List ℕ) (w : ℕ) where
   named unionKind e h = unionWord e (arity-kind a w unionKind e)
   named productKind e h = productWord e h (arity-kind a w productKind e)
   named closureKind e h = closureWord e h (arity-kind a w closureKind e)
+  named anythingKind e h = anythingWord e (arity-kind a w anythingKind e)
   named nodeKind e h = absurd (false≢true h)
   named entryKind e h = absurd (false≢true h)
   named headKind e h = absurd (false≢true h)

@@ -8,7 +8,8 @@ use native.Mathlib.Omega.{arith}
 use lib.Dec.{eqb}
 use borrow.Author.Tests.{eq-eqb, ne-eqb, eqb-true, lt-ltb, ltb-true}
 use Rattle.words.specs.Word.{Kind, entryKind, symbolKind, emptyKind, unionKind, productKind, closureKind, nodeKind, kindUnit}
-use Rattle.words.specs.Word.{headKind, transitionKind, epsilonKind, sourceKind, lengthKind, noKind, kinds, kindAmong, kindAt}
+use Rattle.words.specs.Word.{headKind, transitionKind, epsilonKind, sourceKind, lengthKind, anythingKind, noKind}
+use Rattle.words.specs.Word.{kinds, kindAmong, kindAt}
 use Rattle.words.specs.Word.{kindNumber, numberOf, kindOf, hasKind, bodyOf, fieldRange, spareBitsClear, isOf, wordOf}
 use Rattle.words.specs.Word.{lowByte, symbolRange}
 use Rattle.words.proofs.TestLaws.{Tested, holds, fails, tested, and-true, true-and, and-none}
@@ -30,6 +31,7 @@ kindAt-number transitionKind = refl
 kindAt-number epsilonKind = refl
 kindAt-number sourceKind = refl
 kindAt-number lengthKind = refl
+kindAt-number anythingKind = refl
 
 among-cases : (ks : List Kind) (n : ℕ) → (kindNumber (kindAmong ks n) ≡ n) ⊎ (kindAmong ks n ≡ noKind)
 among-cases [] n = inr refl
@@ -114,6 +116,7 @@ fieldRange-fits transitionKind = omega arith
 fieldRange-fits epsilonKind = omega arith
 fieldRange-fits sourceKind = omega arith
 fieldRange-fits lengthKind = omega arith
+fieldRange-fits anythingKind = omega arith
 
 -- what `isOf k w` says
 pub record IsOf (k : Kind) (w : ℕ) : Type 0 where

@@ -7,7 +7,7 @@ use native.Mathlib.Omega.{arith}
 use lib.ListN.{length}
 use borrow.Author.Tests.{ltb-true, lt-ltb}
 use Rattle.words.specs.Word.{Kind, entryKind, symbolKind, emptyKind, unionKind, productKind, closureKind, nodeKind, kindUnit}
-use Rattle.words.specs.Word.{headKind, transitionKind, epsilonKind, sourceKind, lengthKind, noKind, symbolRange}
+use Rattle.words.specs.Word.{headKind, transitionKind, epsilonKind, sourceKind, lengthKind, anythingKind, noKind, symbolRange}
 use Rattle.words.specs.Word.{kindOf, bodyOf, fieldRange, spareBitsClear, isOf, wordOf, lowByte}
 use Rattle.words.specs.Alphabet.{rankOf, isSymbol}
 use Rattle.words.specs.Postfix.{arity, arityAt}
@@ -42,6 +42,7 @@ arityAt-most m r transitionKind l h = omega arith
 arityAt-most m r epsilonKind l h = omega arith
 arityAt-most m r sourceKind l h = omega arith
 arityAt-most m r lengthKind l h = omega arith
+arityAt-most m r anythingKind l h = omega arith
 arityAt-most m r noKind l h = omega arith
 
 -- ---- nodes

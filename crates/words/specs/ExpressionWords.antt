@@ -1,13 +1,14 @@
--- The words of a rule (document 01, kinds 2 to 6) and refusals 3, 4 and 5.
+-- The words of a rule (document 01, kinds 2 to 6; document 02, kind 14) and refusals 3, 4 and 5.
 use Prim.Native.Nat.{ℕ}
 use mathlib.Core.List.{List, [], _∷_}
 use mathlib.Core.Bool.{Bool, true, false, not, _&&_}
 use lib.ListN.{length}
-use Rattle.words.specs.Lists.{all}
+use Rattle.words.specs.Lists.{all, some}
 use Rattle.words.specs.Limits.{outside, expressionMost}
 use Rattle.words.specs.Refusal.{Refusals, refusal}
 use Rattle.words.specs.Word.{Kind, entryKind, symbolKind, emptyKind, unionKind, productKind, closureKind, nodeKind}
-use Rattle.words.specs.Word.{headKind, transitionKind, epsilonKind, sourceKind, lengthKind, noKind, kindOf, spareBitsClear, lowByte}
+use Rattle.words.specs.Word.{headKind, transitionKind, epsilonKind, sourceKind, lengthKind, anythingKind, noKind, kindOf, hasKind}
+use Rattle.words.specs.Word.{spareBitsClear, lowByte}
 use Rattle.words.specs.Alphabet.{isSymbol, mayName}
 use Rattle.words.specs.Postfix.{notOneTree}
 
@@ -18,6 +19,7 @@ namesAt a s emptyKind = true
 namesAt a s unionKind = true
 namesAt a s productKind = mayName a s
 namesAt a s closureKind = mayName a s
+namesAt a s anythingKind = true
 namesAt a s nodeKind = false
 namesAt a s entryKind = false
 namesAt a s headKind = false
@@ -30,6 +32,10 @@ namesAt a s noKind = false
 -- a rule word over the alphabet
 unfoldable pub isExpressionWord : List ℕ → ℕ → Bool
 isExpressionWord a w = spareBitsClear w && namesAt a (lowByte w) (kindOf w)
+
+-- a rule with anything in it (document 02, U7)
+abbrev pub hasAnything : List ℕ → Bool
+hasAnything e = some (hasKind anythingKind) e
 
 -- 3: "rule of 0 or over 64 words"
 unfoldable pub wrongLength : List ℕ → Bool

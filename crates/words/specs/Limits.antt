@@ -29,7 +29,7 @@ statesMost = 1024
 abbrev pub tableMost : ℕ
 tableMost = 2048
 
--- "the largest compiled table grows to 1,148 words" (document 02, U1)
+-- "the largest compiled table grows to 1,148 words" (document 02, U1), which "now holds for rules without" anything (U7)
 abbrev pub compiledMost : ℕ
 compiledMost = 1148
 

@@ -4,7 +4,7 @@ use Prim.Native.Nat.{ℕ}
 use mathlib.Core.List.{List}
 use mathlib.Core.Bool.{Bool}
 use Rattle.words.specs.Word.{Kind, entryKind, symbolKind, emptyKind, unionKind, productKind, closureKind, nodeKind}
-use Rattle.words.specs.Word.{headKind, transitionKind, epsilonKind, sourceKind, lengthKind, noKind, kindOf, lowByte}
+use Rattle.words.specs.Word.{headKind, transitionKind, epsilonKind, sourceKind, lengthKind, anythingKind, noKind, kindOf, lowByte}
 use Rattle.words.specs.Alphabet.{rankOf}
 use Rattle.words.specs.Shape.{Span, treesBy, oneTreeBy, notOneTreeBy, heightOfBy, startFromBy, spanOfBy, subtreeOfBy, isAncestorBy}
 use Rattle.words.specs.Shape.{depthOfBy, spliceBy, valueOnBy, valuesBy, stackAfterBy, stackGivenBy, rootsBy, childrenOfBy}
@@ -17,6 +17,7 @@ arityAt rank emptyKind = 0
 arityAt rank unionKind = 2
 arityAt rank productKind = 2
 arityAt rank closureKind = 1
+arityAt rank anythingKind = 0
 arityAt rank entryKind = 0
 arityAt rank headKind = 0
 arityAt rank transitionKind = 0

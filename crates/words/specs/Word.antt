@@ -5,10 +5,11 @@ use mathlib.Core.Bool.{Bool, cond, _&&_}
 use lib.Dec.{ltb, eqb}
 
 -- document 01's kinds: alphabet entry; the rule words symbol, empty language, union, product, closure; chapter element;
--- table head, symbol move, empty move, part state of a move; document 02's length word (U1); and no kind of theirs
+-- table head, symbol move, empty move, part state of a move; document 02's length word (U1) and its rule word "for every tree over the
+-- alphabet" (U7); and no kind of theirs
 pub data Kind : Type 0 where
   entryKind symbolKind emptyKind unionKind productKind closureKind nodeKind : Kind
-  headKind transitionKind epsilonKind sourceKind lengthKind noKind : Kind
+  headKind transitionKind epsilonKind sourceKind lengthKind anythingKind noKind : Kind
 
 -- the documents' number of a kind; 0 is that of none
 abbrev pub kindNumber : Kind → ℕ
@@ -24,6 +25,7 @@ kindNumber transitionKind = 0x9
 kindNumber epsilonKind = 0xA
 kindNumber sourceKind = 0xB
 kindNumber lengthKind = 0xC
+kindNumber anythingKind = 0xE
 kindNumber noKind = 0x0
 
 -- the one of these kinds that has the number n, or no kind
@@ -35,7 +37,7 @@ kindAmong (k ∷ ks) n = cond (eqb n (kindNumber k)) k (kindAmong ks n)
 abbrev pub kinds : List Kind
 kinds =
     entryKind ∷ symbolKind ∷ emptyKind ∷ unionKind ∷ productKind ∷ closureKind ∷ nodeKind ∷ headKind ∷ transitionKind
-    ∷ epsilonKind ∷ sourceKind ∷ lengthKind ∷ []
+    ∷ epsilonKind ∷ sourceKind ∷ lengthKind ∷ anythingKind ∷ []
 
 -- the kind that has the number n
 unfoldable pub kindAt : ℕ → Kind
@@ -95,6 +97,7 @@ fieldRange transitionKind = symbolRange * stateRange
 fieldRange epsilonKind = stateRange * stateRange
 fieldRange sourceKind = stateRange
 fieldRange lengthKind = lengthRange
+fieldRange anythingKind = 0x1
 fieldRange noKind = 0x0
 
 -- "Bits not named are zero."

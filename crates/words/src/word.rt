@@ -45,6 +45,9 @@ pub const SOURCE: u32 = 0xB;
 // The length word of a table.
 pub const LENGTH: u32 = 0xC;
 
+// Every tree over the alphabet.
+const ANYTHING: u32 = 0xE;
+
 // Bits 7..0 of an entry are its rank, those of rule words and elements a symbol or a constant.
 pub const SYMBOL_RANGE: u32 = 0x100;
 
@@ -75,6 +78,7 @@ pub enum Kind {
     Epsilon,
     Source,
     Length,
+    Anything,
     Other,
 }
 
@@ -96,6 +100,7 @@ pub fn kind_of(w: u32) -> Kind
         EPSILON => Kind::Epsilon,
         SOURCE => Kind::Source,
         LENGTH => Kind::Length,
+        ANYTHING => Kind::Anything,
         _ => Kind::Other,
     }
 }
@@ -117,6 +122,7 @@ fn field_range(kind: Kind) -> u32
         Kind::Epsilon => STATE_RANGE * STATE_RANGE,
         Kind::Source => STATE_RANGE,
         Kind::Length => LENGTH_RANGE,
+        Kind::Anything => 0x1,
         Kind::Other => 0x0,
     }
 }

@@ -6,7 +6,7 @@ use native.Mathlib.Omega.{arith}
 use lib.ListN.{length}
 use borrow.Author.Needs.{needs}
 use Rattle.words.specs.Limits.{expressionMost}
-use Rattle.compiler.proofs.AcceptedRuleLaws.{rule-alphabet, rule-expression, states-countable}
+use Rattle.compiler.proofs.AcceptedRuleLaws.{rule-alphabet, rule-expression, states-countable, symbols-emittable}
 use Rattle.compiler.proofs.EmittedLaws.{Emitted, emitted-none, emitted-word, emitted-children, emitted-height}
 use Rattle.compiler.proofs.EmittedLaws.{emitted-emittable, emitted-own-emittable, emitted-more, emitted-end}
 use Rattle.compiler.proofs.table.write_words.Statement.{statement}
@@ -65,7 +65,7 @@ push-own-requires c κs =
     let h = c .before .before .before .before .before .loop-test .taken in
     let r = c .before .before .before .arity .ensures in (
       emitted-emittable m _ _ (p .constants) (rule-alphabet _ _ (p .accepted)) h (e .counted .few) (p .fits) r refl,
-      emitted-own-emittable m _ _ (p .constants) h (e .counted .few) r refl,
+      (symbols-emittable _ (rule-alphabet _ _ (p .accepted)), emitted-own-emittable m _ _ (p .constants) h (e .counted .few) r refl),
     )
 
 word-port-requires : tie.Need-word-port-requires Inv-loop μ-loop
@@ -120,8 +120,8 @@ loop-again c =
     emitted-more m _ _ _ _ _ _ (p .constants)
     (c .before .before .before .before .before .before .before .before .before .before .loop-test .taken) (e .counted .few)
     (c .before .before .before .before .before .before .before .before .arity .ensures) refl
-    (c .before .before .before .before .push-own .ensures) (c .before .before .before .before .push-own .kept .1 .1 .0) (rw (p .constants)
-    (c .before .word-port .ensures)) (c .states-of .ensures .0) (c .states-of .ensures .1)
+    (c .before .before .before .before .push-own .ensures) (c .before .before .before .before .push-own .kept .1 .1 .1 .0)
+    (rw (p .constants) (c .before .word-port .ensures)) (c .states-of .ensures .0) (c .states-of .ensures .1)
 
 same-length : tie.Need-same-length Inv-loop μ-loop
 same-length c = c .before .loop .inv .long

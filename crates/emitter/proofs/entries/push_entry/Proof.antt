@@ -30,6 +30,15 @@ push-closure-entry-requires c κs =
     let p = c .before .before .before .before .before .before .before .pre in
     (p .0, (p .1 .0, targetable-said _ _ _ (c .before .before .targets2 .given .1) (p .1 .1)))
 
+enum-told-2 : tie.Need-enum-told-2
+enum-told-2 c = search needs
+
+entry-state-requires : tie.Need-entry-state-requires
+entry-state-requires c κs = search needs
+
+push-epsilon-requires : tie.Need-push-epsilon-requires
+push-epsilon-requires c κs = search needs
+
 same-length : tie.Need-same-length
 same-length c = search needs
 
@@ -60,6 +69,16 @@ returns-3 c =
     (c .before .before .before .before .before .targets2 .given .1)
     (c .before .before .push-closure-entry .ensures)
 
+same-length-4 : tie.Need-same-length-4
+same-length-4 c = search needs
+
+returns-4 : tie.Need-returns-4
+returns-4 c =
+    let a = c .before .before .before .before .before .before .before .before .before .before .args in
+    targets-said (a .constants .now) (a .ports .now) (a .exit) (entryState (a .exit) (a .k)) _ _ _ _ _ _ _ 1 (omega arith)
+    (c .before .before .before .before .before .enum-told2 .given .1)
+    (rw (c .before .before .before .entry-state .ensures) at (c .before .before .push-epsilon .ensures))
+
 pub push-entry-spec : {M : Type 1} → statement M
 push-entry-spec =
     tie.close
@@ -70,9 +89,14 @@ push-entry-spec =
     push-product-entry-requires
     enum-known-targets-2
     push-closure-entry-requires
+    enum-told-2
+    entry-state-requires
+    push-epsilon-requires
     same-length
     returns
     same-length-2
     returns-2
     same-length-3
-    returns-3)
+    returns-3
+    same-length-4
+    returns-4)

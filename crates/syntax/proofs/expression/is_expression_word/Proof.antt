@@ -9,7 +9,7 @@ use borrow.Author.Tests.{not-true, not-false}
 use Rattle.words.specs.Word.{Kind, kindOf, spareBitsClear, lowByte}
 use Rattle.words.specs.Decoded.{kindIn}
 use Rattle.words.specs.declared.word.Kind.{Kind as Case}
-use Rattle.words.specs.declared.word.Kind.the-variants.{Symbol, Empty, Union, Product, Closure}
+use Rattle.words.specs.declared.word.Kind.the-variants.{Symbol, Empty, Union, Product, Closure, Anything}
 use Rattle.words.specs.ExpressionWords.{namesAt, isExpressionWord}
 use Rattle.words.proofs.TestLaws.{and-none}
 use Rattle.words.proofs.DecodedLaws.{Left, left-all, told-kind}
@@ -22,12 +22,12 @@ named : (a : List ℕ) (w : ℕ) (r : Bool) (k j : Case) → r ≡ spareBitsClea
 unfolding isExpressionWord
 named a w r k j clear h decoded told = rw (sym clear ∙ not-false r h, told-kind w k decoded j told)
 
-no-rule-word : (a : List ℕ) (w : ℕ) (k : Case) → kindIn k ≡ kindOf w → Left (Symbol ∷ Empty ∷ Union ∷ Product ∷ Closure ∷ []) k
-    → isExpressionWord a w ≡ false
+no-rule-word : (a : List ℕ) (w : ℕ) (k : Case) → kindIn k ≡ kindOf w
+    → Left (Symbol ∷ Empty ∷ Union ∷ Product ∷ Closure ∷ Anything ∷ []) k → isExpressionWord a w ≡ false
 unfolding isExpressionWord
 no-rule-word a w k decoded left =
     let e = not-true (namesAt a (lowByte w) (kindIn k))
-    (left-all (Symbol ∷ Empty ∷ Union ∷ Product ∷ Closure ∷ []) k left (λ (j : Kind). not (namesAt a (lowByte w) j)) refl) in
+    (left-all (Symbol ∷ Empty ∷ Union ∷ Product ∷ Closure ∷ Anything ∷ []) k left (λ (j : Kind). not (namesAt a (lowByte w) j)) refl) in
     rw (sym decoded, e) (and-none (spareBitsClear w))
 
 spare-bits-clear-requires : tie.Need-spare-bits-clear-requires
@@ -64,6 +64,9 @@ enum-told-5 c = search needs
 may-name-requires-2 : tie.Need-may-name-requires-2
 may-name-requires-2 c κs = search needs
 
+enum-told-6 : tie.Need-enum-told-6
+enum-told-6 c = search needs
+
 returns-2 : tie.Need-returns-2
 returns-2 c =
     let t = c .before .before in
@@ -97,7 +100,13 @@ returns-6 c =
     (c .before .enum-told5 .given .1))
 
 returns-7 : tie.Need-returns-7
-returns-7 c = sym (no-rule-word _ _ (c .before .kind-of .result) (c .before .kind-of .ensures) (c .match .keys6))
+returns-7 c =
+    let t = c .before .before in
+    sym (named _ _ _ _ _ (t .before .before .spare-bits-clear .ensures) (t .before .if1 .left) (t .kind-of .ensures)
+    (c .enum-told6 .given .1))
+
+returns-8 : tie.Need-returns-8
+returns-8 c = sym (no-rule-word _ _ (c .before .kind-of .result) (c .before .kind-of .ensures) (c .match .keys7))
 
 pub is-expression-word-spec : {M : Type 1} → statement M
 is-expression-word-spec =
@@ -114,9 +123,11 @@ is-expression-word-spec =
     may-name-requires
     enum-told-5
     may-name-requires-2
+    enum-told-6
     returns-2
     returns-3
     returns-4
     returns-5
     returns-6
-    returns-7)
+    returns-7
+    returns-8)
