@@ -1,6 +1,6 @@
-//! Document 01's "Numbered automaton": the table words of an expression. The transitions of every word are listed as
-//! the document names them and only then sorted, so nothing here depends on an order of writing. Document 02's U1 adds the
-//! length word.
+//! Document 01's "Numbered automaton": the table words of an expression. The epsilon transitions of every word are listed
+//! as the document names them and only then sorted, so nothing here depends on an order of writing. Document 02's U1 adds
+//! the length word, and its U7 a word that has entries and takes no parts.
 
 use crate::language::Expression;
 use crate::length_word::with_length_word;
@@ -13,7 +13,7 @@ struct Ends {
     entries: BTreeMap<usize, usize>,
 }
 
-/// How many states the expression words take; a word that is neither a constant nor empty takes the most.
+/// How many states the expression words take: a constant or empty word takes one, any other its exit and its entries.
 pub fn states(alphabet: &[u32], expression: &[u32]) -> usize {
     let constants = words::constants(alphabet).len();
     expression
@@ -38,26 +38,30 @@ fn has_one_state(alphabet: &[u32], word: u32) -> bool {
 
 /// The table words of an expression; None where the words are not one expression.
 pub fn table(alphabet: &[u32], words: &[u32]) -> Option<Vec<u32>> {
+    Some(with_length_word(&parts(alphabet, words)?.concat()))
+}
+
+/// The table words but for the length word in parts: the head with the constants' transitions, and then those of each
+/// expression word.
+pub fn parts(alphabet: &[u32], words: &[u32]) -> Option<Vec<Vec<TableWord>>> {
     let expression = Expression::read(alphabet, words)?;
     let ends = number(alphabet, &expression);
     let last = ends.last()?;
-    let mut table = vec![TableWord::Head {
+    let mut start = vec![TableWord::Head {
         states: states(alphabet, words),
         accepting: last.exit,
     }];
     for (symbol, target) in &last.entries {
-        table.push(TableWord::Transition {
+        start.push(TableWord::Transition {
             symbol: *symbol,
             target: *target,
         });
     }
-    for place in 0..words.len() {
-        table.extend(transitions(&expression, &ends, place));
-    }
-    Some(with_length_word(&table))
+    let of_words = (0..words.len()).map(|place| transitions(alphabet, &expression, &ends, place));
+    Some([start].into_iter().chain(of_words).collect())
 }
 
-/// Consecutive states from 0: the exit, then for a word that is no leaf one entry for each constant.
+/// Consecutive states from 0: the exit, then one entry for each constant, unless the word is a constant or empty.
 fn number(alphabet: &[u32], expression: &Expression) -> Vec<Ends> {
     let mut next = 0;
     let mut fresh = || {
@@ -80,8 +84,8 @@ fn number(alphabet: &[u32], expression: &Expression) -> Vec<Ends> {
     all
 }
 
-/// The symbol transition and the sorted epsilon transitions of one expression word.
-fn transitions(expression: &Expression, ends: &[Ends], place: usize) -> Vec<TableWord> {
+/// The symbol transitions and the sorted epsilon transitions of one expression word.
+fn transitions(alphabet: &[u32], expression: &Expression, ends: &[Ends], place: usize) -> Vec<TableWord> {
     let own = &ends[place];
     let parts: Vec<&Ends> = expression.children[place]
         .iter()
@@ -92,12 +96,9 @@ fn transitions(expression: &Expression, ends: &[Ends], place: usize) -> Vec<Tabl
     match expression.operators[place] {
         Operator::Empty => {}
         Operator::Symbol(symbol) => {
-            if !parts.is_empty() {
-                written.push(TableWord::Transition {
-                    symbol,
-                    target: own.exit,
-                });
-                written.extend(parts.iter().map(|part| TableWord::Child(part.exit)));
+            let exits: Vec<usize> = parts.iter().map(|part| part.exit).collect();
+            if !exits.is_empty() {
+                written.extend(symbol_transition(symbol, &exits, own.exit));
             }
             for part in &parts {
                 epsilons.extend(entries_to(own, part, None));
@@ -123,6 +124,15 @@ fn transitions(expression: &Expression, ends: &[Ends], place: usize) -> Vec<Tabl
             epsilons.extend(inner.entries.get(&constant).map(|to| (inner.exit, *to)));
             epsilons.push((inner.exit, own.exit));
         }
+        Operator::Anything => {
+            for symbol in 0..alphabet.len() {
+                let arity = words::arity(alphabet, symbol).unwrap_or(0);
+                if arity > 0 {
+                    written.extend(symbol_transition(symbol, &vec![own.exit; arity], own.exit));
+                }
+            }
+            epsilons.extend(own.entries.values().map(|entry| (*entry, own.exit)));
+        }
     }
     epsilons.sort();
     written.extend(
@@ -131,6 +141,15 @@ fn transitions(expression: &Expression, ends: &[Ends], place: usize) -> Vec<Tabl
             .map(|(from, to)| TableWord::Epsilon { from, to }),
     );
     written
+}
+
+/// The transition on a symbol from these states of its children, in order.
+fn symbol_transition(symbol: usize, children: &[usize], target: usize) -> Vec<TableWord> {
+    let from = children.iter().map(|state| TableWord::Child(*state));
+    [TableWord::Transition { symbol, target }]
+        .into_iter()
+        .chain(from)
+        .collect()
 }
 
 /// Each entry to the same constant's entry of the part, where there is one, but for one constant.

@@ -42,6 +42,12 @@ impl Random {
         all[self.below(all.len())]
     }
 
+    pub fn shuffle<T>(&mut self, all: &mut [T]) {
+        for place in (1..all.len()).rev() {
+            all.swap(place, self.below(place + 1));
+        }
+    }
+
     pub fn words(&mut self, length: usize) -> Vec<u32> {
         (0..length).map(|_| self.word() as u32).collect()
     }

@@ -2,6 +2,7 @@
 //! stand.
 
 use crate::chance::Random;
+use crate::generate::holes::without_marks;
 use crate::generate::tree;
 use crate::language::{Expression, Tree};
 use crate::words::{self, Operator};
@@ -54,75 +55,90 @@ pub fn hole_free_member(
     expression: &Expression,
     limit: usize,
 ) -> Option<Tree> {
-    member(random, expression, limit).filter(|tree| !words::has_hole(alphabet, tree))
+    member(random, alphabet, expression, limit).filter(|tree| !words::has_hole(alphabet, tree))
 }
 
 /// A member of the expression's language with at most `limit` nodes, where one is found: each operator is read as the
 /// substitution semantics says, with a free choice at each place.
-pub fn member(random: &mut Random, expression: &Expression, limit: usize) -> Option<Tree> {
-    member_of(random, expression, expression.whole(), limit, &mut 200)
-}
-
-fn member_of(
-    random: &mut Random,
-    expression: &Expression,
-    place: usize,
-    limit: usize,
-    effort: &mut usize,
-) -> Option<Tree> {
-    *effort = effort.checked_sub(1)?;
-    let parts = &expression.children[place];
-    let found = match expression.operators[place] {
-        Operator::Empty => None,
-        Operator::Symbol(symbol) => {
-            let mut found = Tree::new();
-            for part in parts {
-                found.extend(member_of(random, expression, *part, limit, effort)?);
-            }
-            found.push(symbol);
-            Some(found)
-        }
-        Operator::Union => {
-            let first = random.below(2);
-            member_of(random, expression, parts[first], limit, effort)
-                .or_else(|| member_of(random, expression, parts[1 - first], limit, effort))
-        }
-        Operator::Product(constant) => {
-            let first = member_of(random, expression, parts[0], limit, effort)?;
-            replace_each(&first, constant, || {
-                member_of(random, expression, parts[1], limit, effort)
-            })
-        }
-        Operator::Closure(constant) => {
-            let steps = random.below(4);
-            closure_member(random, expression, parts[0], constant, steps, limit, effort)
-        }
+pub fn member(random: &mut Random, alphabet: &[u32], expression: &Expression, limit: usize) -> Option<Tree> {
+    let mut drawing = Drawing {
+        random,
+        alphabet,
+        expression,
+        limit,
+        effort: 200,
     };
-    found.filter(|tree| tree.len() <= limit)
+    drawing.member_of(expression.whole())
 }
 
-/// A member of a closure's step with this number.
-fn closure_member(
-    random: &mut Random,
-    expression: &Expression,
-    inner: usize,
-    constant: usize,
-    step: usize,
+/// How a member is drawn: from an expression over an alphabet, with at most `limit` nodes, in no more than `effort` steps.
+struct Drawing<'a> {
+    random: &'a mut Random,
+    alphabet: &'a [u32],
+    expression: &'a Expression,
     limit: usize,
-    effort: &mut usize,
-) -> Option<Tree> {
-    if step == 0 {
-        return Some(vec![constant]);
+    effort: usize,
+}
+
+impl Drawing<'_> {
+    fn member_of(&mut self, place: usize) -> Option<Tree> {
+        self.effort = self.effort.checked_sub(1)?;
+        let expression = self.expression;
+        let parts = &expression.children[place];
+        let found = match expression.operators[place] {
+            Operator::Empty => None,
+            Operator::Symbol(symbol) => {
+                let mut found = Tree::new();
+                for part in parts {
+                    found.extend(self.member_of(*part)?);
+                }
+                found.push(symbol);
+                Some(found)
+            }
+            Operator::Union => {
+                let first = self.random.below(2);
+                self.member_of(parts[first])
+                    .or_else(|| self.member_of(parts[1 - first]))
+            }
+            Operator::Product(constant) => {
+                let first = self.member_of(parts[0])?;
+                replace_each(&first, constant, || self.member_of(parts[1]))
+            }
+            Operator::Closure(constant) => {
+                let steps = self.random.below(4);
+                self.closure_member(parts[0], constant, steps)
+            }
+            Operator::Anything => Some(self.any_tree()),
+        };
+        found.filter(|tree| tree.len() <= self.limit)
     }
-    if !random.once_in(4) {
-        if let Some(outer) = member_of(random, expression, inner, limit, effort) {
-            return replace_each(&outer, constant, || {
-                closure_member(random, expression, inner, constant, step - 1, limit, effort)
-            })
-            .filter(|tree| tree.len() <= limit);
+
+    /// A member of a closure's step with this number.
+    fn closure_member(&mut self, inner: usize, constant: usize, step: usize) -> Option<Tree> {
+        if step == 0 {
+            return Some(vec![constant]);
         }
+        if !self.random.once_in(4) {
+            if let Some(outer) = self.member_of(inner) {
+                let limit = self.limit;
+                return replace_each(&outer, constant, || {
+                    self.closure_member(inner, constant, step - 1)
+                })
+                .filter(|tree| tree.len() <= limit);
+            }
+        }
+        self.closure_member(inner, constant, step - 1)
     }
-    closure_member(random, expression, inner, constant, step - 1, limit, effort)
+
+    /// A tree over the alphabet, mostly a small one; holes are among its leaves half the time.
+    fn any_tree(&mut self) -> Tree {
+        let most = if self.random.once_in(3) { 12 } else { 4 };
+        let budget = self.random.between(1, most.min(self.limit));
+        if self.random.once_in(2) {
+            return tree(self.random, self.alphabet, budget);
+        }
+        tree(self.random, &without_marks(self.alphabet), budget)
+    }
 }
 
 /// A separately chosen tree at each place of the constant.

@@ -6,6 +6,7 @@ use crate::length_word::with_length_word;
 use crate::limits::{ARITY_LIMIT, CONSTANT_LIMIT, STATE_LIMIT, SYMBOL_LIMIT, TABLE_LIMIT};
 use crate::words::{self, Operator, TableWord};
 
+pub mod anything;
 pub mod holes;
 
 /// An alphabet without holes: mostly small, so that symbols meet each other often; sometimes up to the
@@ -20,9 +21,7 @@ pub fn alphabet(random: &mut Random) -> Vec<u32> {
     };
     let mut arities = vec![0; constants];
     arities.extend((0..others).map(|_| random.between(1, ARITY_LIMIT)));
-    for place in (1..arities.len()).rev() {
-        arities.swap(place, random.below(place + 1));
-    }
+    random.shuffle(&mut arities);
     arities.into_iter().map(words::entry_word).collect()
 }
 

@@ -26,6 +26,9 @@ pub const CHILD: u32 = 11;
 /// How many words a table has, as its second word (document 02, U1).
 pub const LENGTH: u32 = 12;
 
+/// An expression's word for every tree over the alphabet (document 02, U7).
+pub const ANYTHING: u32 = 14;
+
 /// How many bits the fields have together.
 pub const FIELD_BITS: u32 = 28;
 

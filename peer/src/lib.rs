@@ -1,6 +1,6 @@
 //! An unrelated matcher for document 01's trees, and its comparison with the proved library.
 //!
-//! The model is written from document 01 and document 02's U1, U6 and U8 alone: `limits` and `kinds` have
+//! The model is written from document 01 and document 02's U1, U6, U7 and U8 alone: `limits` and `kinds` have
 //! their numbers, and `refusals` every refusal in order; `language` decides membership by substitution,
 //! without an automaton; `automaton`, `marks` and `exchange` recompute the words that the operations write,
 //! `length_word` says where a table in a slice ends, and `marklist` has the text that the program prints.

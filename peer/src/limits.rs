@@ -18,8 +18,8 @@ pub const STATE_LIMIT: usize = 1024;
 /// Words of a table.
 pub const TABLE_LIMIT: usize = 2048;
 
-/// Words of a compiled table: no rule takes more, and one takes as many. Document 01 has one less, without the length word
-/// (document 02, U1).
+/// Words of the compiled table of a rule without `anything`: none takes more, and one takes as many (document 02, U1 and
+/// U7). Document 01 has one less, without the length word.
 pub const COMPILED_LIMIT: usize = 1148;
 
 /// Nodes of a tree.

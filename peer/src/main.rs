@@ -5,9 +5,10 @@
 //! HAQBYLUR_LIB_DIR names the folder of the static library when this is built, HAQBYLUR_MARKLIST the program when it runs.
 
 use peer::cases::{
-    behind, damage, examples, faults, heights, high_chapters, high_histories, histories, hole_histories,
-    hole_members, hole_places, hole_random, hole_rules, holes, largest, length_words, lengths, limits,
-    packed, program, raised, random,
+    anything, anything_histories, anything_members, anything_random, anything_shapes, anything_tables,
+    anything_users, behind, damage, examples, faults, heights, high_chapters, high_histories, histories,
+    hole_histories, hole_members, hole_places, hole_random, hole_rules, holes, largest, length_words,
+    lengths, limits, packed, program, raised, random,
 };
 use peer::compare::{said, Comparison, Tally};
 use peer::library;
@@ -62,6 +63,13 @@ fn main() -> ExitCode {
     section("members without holes", &mut |all| {
         hole_members::compare(all, seed, cases / 40)
     });
+    section("anything in rules", &mut anything::compare);
+    section("members of anything", &mut anything_members::compare);
+    section("rules of all shapes with anything", &mut |all| {
+        anything_shapes::compare(all, seed, cases / 40)
+    });
+    section("tables over the most words", &mut anything_tables::compare);
+    section("long tables in use", &mut anything_users::compare);
     section("two faults at once", &mut faults::compare);
     section("damaged words", &mut |all| damage::compare(all, seed, cases / 4));
     section("random rules and chapters", &mut |all| {
@@ -75,6 +83,12 @@ fn main() -> ExitCode {
     });
     section("lists of exchanges with holes", &mut |all| {
         hole_histories::compare(all, seed, cases / 4)
+    });
+    section("random rules and chapters with anything", &mut |all| {
+        anything_random::compare(all, seed, cases / 2)
+    });
+    section("lists of exchanges with anything", &mut |all| {
+        anything_histories::compare(all, seed, cases / 8)
     });
     section("random high chapters", &mut |all| {
         high_chapters::compare(all, seed, 1 + cases / 40)

@@ -1,5 +1,5 @@
 //! The program `marklist` as document 01 gives it: the bytes it reads, and the text it prints for them. Of
-//! document 02's numbers it prints 26, and never 24.
+//! document 02's numbers it prints 25 and 26, and never 24.
 
 use crate::automaton;
 use crate::call::{Answer, Call, Matcher};

@@ -1,4 +1,4 @@
-//! Document 01's "Refused calls", with document 02's U1, U6 and U8. Every condition is judged by itself, so
+//! Document 01's "Refused calls", with document 02's U1, U6, U7 and U8. Every condition is judged by itself, so
 //! that a call has a list of faults in the documents' order; the first of them is its refusal, and a call
 //! without a fault is accepted. A condition that rests on something missing (the table of a rule that is
 //! none, say) is judged by what holds of every such thing: a table has two words, a state set has a word, a
@@ -9,7 +9,9 @@ use crate::automaton;
 use crate::call::{Call, Operation};
 use crate::exchange::splice;
 use crate::length_word::LEAST_WORDS;
-use crate::limits::{CONSTANT_LIMIT, EXPRESSION_LIMIT, HEIGHT_LIMIT, NODE_LIMIT, STATE_LIMIT, SYMBOL_LIMIT};
+use crate::limits::{
+    CONSTANT_LIMIT, EXPRESSION_LIMIT, HEIGHT_LIMIT, NODE_LIMIT, STATE_LIMIT, SYMBOL_LIMIT, TABLE_LIMIT,
+};
 use crate::marks::Table;
 use crate::postfix;
 use crate::words::{self, Entry, Operator};
@@ -145,7 +147,7 @@ fn expression(call: &Call) -> Judged {
 fn compiled(call: &Call) -> Judged {
     let table = automaton::table(&call.alphabet, &call.expression);
     let words = table.map_or(LEAST_WORDS, |table| table.len());
-    vec![(7, words > call.table.len())]
+    vec![(25, words > TABLE_LIMIT), (7, words > call.table.len())]
 }
 
 fn table(own: &Marked) -> Judged {
@@ -215,7 +217,7 @@ fn is_no_operator(alphabet: &[u32], named: &[usize], word: u32) -> bool {
         None => true,
         Some(Operator::Symbol(symbol)) => words::arity(alphabet, symbol).is_none(),
         Some(Operator::Product(constant) | Operator::Closure(constant)) => !named.contains(&constant),
-        Some(Operator::Empty | Operator::Union) => false,
+        Some(Operator::Empty | Operator::Union | Operator::Anything) => false,
     }
 }
 

@@ -22,6 +22,8 @@ pub enum Operator {
     Union,
     Product(usize),
     Closure(usize),
+    /// Every tree over the alphabet (document 02, U7).
+    Anything,
 }
 
 /// One word of a table.
@@ -78,6 +80,7 @@ impl Operator {
             Operator::Union => kinds::word(kinds::UNION),
             Operator::Product(constant) => kinds::symbol_word(kinds::PRODUCT, constant),
             Operator::Closure(constant) => kinds::symbol_word(kinds::CLOSURE, constant),
+            Operator::Anything => kinds::word(kinds::ANYTHING),
         }
     }
 
@@ -89,6 +92,7 @@ impl Operator {
             kinds::UNION => Operator::Union,
             kinds::PRODUCT => Operator::Product(field),
             kinds::CLOSURE => Operator::Closure(field),
+            kinds::ANYTHING => Operator::Anything,
             _ => return None,
         };
         (operator.word() == word).then_some(operator)
@@ -215,7 +219,7 @@ pub fn operator_words(expression: &[Operator]) -> Vec<u32> {
 pub fn operands(alphabet: &[u32], word: u32) -> Option<usize> {
     match Operator::read(word)? {
         Operator::Symbol(symbol) => arity(alphabet, symbol),
-        Operator::Empty => Some(0),
+        Operator::Empty | Operator::Anything => Some(0),
         Operator::Union | Operator::Product(_) => Some(2),
         Operator::Closure(_) => Some(1),
     }

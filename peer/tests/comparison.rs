@@ -3,6 +3,7 @@
 
 use peer::automaton;
 use peer::call::{Answer, Call, Matcher, Operation};
+use peer::cases::patterns::pattern;
 use peer::cases::{damage, examples, faults, histories, hole_members, largest, lengths, limits, random};
 use peer::chance::Random;
 use peer::compare::Comparison;
@@ -225,7 +226,7 @@ fn a_write_outside_a_slice_is_not_seen() {
 fn a_seed_gives_other_inputs_each_time() {
     let draw = || {
         let mut random = Random::of_case("test", 9, 4);
-        let own = random::pattern(&mut random);
+        let own = pattern(&mut random);
         let tree = generate::tree(&mut random, &own.alphabet, 30);
         (own.alphabet, own.expression, tree)
     };

@@ -2,23 +2,28 @@
 //! refused would show little.
 
 use peer::automaton;
-use peer::call::{Call, Operation};
+use peer::call::{Answer, Call, Matcher, Operation};
+use peer::cases::anything_tables::TOO_LONG;
 use peer::cases::heights::RESULT_TOO_HIGH;
 use peer::cases::holes::{HOLE_IN_CHAPTER, HOLE_IN_REPLACEMENT};
-use peer::cases::random::{pattern, pattern_over};
-use peer::cases::{high_histories, hole_histories, hole_random};
+use peer::cases::patterns::{pattern, Alphabets, Patterns};
+use peer::cases::{anything_histories, anything_random, high_histories, hole_histories, hole_random};
 use peer::chance::Random;
 use peer::compare::Comparison;
 use peer::draw;
 use peer::exchange::{exchange, MarkedTree};
-use peer::generate::holes;
+use peer::generate::{self, holes};
 use peer::language::membership::Membership;
 use peer::language::Expression;
+use peer::length_word::table_in;
+use peer::limits::COMPILED_LIMIT;
 use peer::marks::Table;
 use peer::model::Model;
 use peer::postfix;
 use peer::refusals::{self, Condition};
-use peer::words::{self, arities};
+use peer::words::{self, arities, Operator};
+use std::cell::Cell;
+use std::rc::Rc;
 
 #[test]
 fn random_trees_match_nearly_never_or_nearly_always() {
@@ -29,7 +34,7 @@ fn random_trees_match_nearly_never_or_nearly_always() {
         let arities = arities(&own.alphabet);
         let read = Expression::read(&own.alphabet, &own.expression).expect("an expression");
         let tree = draw::planted_tree(&mut random, &own.alphabet, &read, 24);
-        let matches = Membership::new(&read, arities.len()).subtrees(&tree, &arities);
+        let matches = Membership::new(&read, &arities).subtrees(&tree);
         let inner = |node: &usize| arities[tree[*node]] > 0;
         let found = (0..tree.len())
             .filter(inner)
@@ -42,6 +47,34 @@ fn random_trees_match_nearly_never_or_nearly_always() {
     println!("{trees_with_an_inner_match} trees, {inner_matches} of {inner_nodes} inner nodes");
     assert!(trees_with_an_inner_match > 400);
     assert!(inner_matches > inner_nodes / 20 && inner_matches < inner_nodes / 2);
+}
+
+#[test]
+fn rules_with_anything_match_nearly_never_or_nearly_always() {
+    let (mut with_both, mut inner_nodes, mut inner_matches) = (0, 0, 0);
+    let (mut in_products, mut in_closures) = (0, 0);
+    for case in 0..2000 {
+        let mut random = Random::of_case("test", 8, case);
+        let alphabets = [generate::alphabet as Alphabets, holes::mixed_alphabet][case as usize % 2];
+        let own = Patterns::with_anything_over(alphabets).draw(&mut random);
+        assert!(own.expression.contains(&Operator::Anything.word()));
+        let arities = arities(&own.alphabet);
+        let read = Expression::read(&own.alphabet, &own.expression).expect("an expression");
+        let tree = draw::planted_tree(&mut random, &own.alphabet, &read, 24);
+        let matches = Membership::new(&read, &arities).subtrees(&tree);
+        let inner: Vec<usize> = (0..tree.len()).filter(|node| arities[tree[*node]] > 0).collect();
+        let found = inner.iter().filter(|node| matches[**node]).count();
+        inner_nodes += inner.len();
+        inner_matches += found;
+        with_both += usize::from(found > 0 && matches.contains(&false));
+        let has = |is_such: fn(&Operator) -> bool| usize::from(read.operators.iter().any(is_such));
+        in_products += has(|word| matches!(word, Operator::Product(_)));
+        in_closures += has(|word| matches!(word, Operator::Closure(_)));
+    }
+    println!("{with_both} trees with both, {inner_matches} of {inner_nodes} inner nodes");
+    println!("{in_products} rules with products, {in_closures} with closures");
+    assert!(with_both > 500 && in_products > 700 && in_closures > 700);
+    assert!(inner_matches > inner_nodes / 10 && inner_matches < 9 * inner_nodes / 10);
 }
 
 #[test]
@@ -96,7 +129,7 @@ fn rules_with_holes_are_refused_or_match_nearly_never() {
     let (mut all_holes, mut one_hole, mut filled, mut with_a_match) = (0, 0, 0, 0);
     for case in 0..2000 {
         let mut random = Random::of_case("test", 7, case);
-        let own = pattern_over(&mut random, holes::alphabet);
+        let own = Patterns::over(holes::alphabet).draw(&mut random);
         let compile = Call::compile(&own.alphabet, &own.expression, vec![0; 2048]);
         assert_eq!(refusals::faults(&compile), []);
         one_hole += usize::from(words::holes(&own.alphabet).len() == 1);
@@ -108,7 +141,7 @@ fn rules_with_holes_are_refused_or_match_nearly_never() {
         let tree = draw::planted_tree(&mut random, &own.alphabet, &read, 24);
         assert!(!words::has_hole(&own.alphabet, &tree));
         let arities = arities(&own.alphabet);
-        let matches = Membership::new(&read, arities.len()).subtrees(&tree, &arities);
+        let matches = Membership::new(&read, &arities).subtrees(&tree);
         with_a_match += usize::from((0..tree.len()).any(|node| arities[tree[node]] > 0 && matches[node]));
         filled += usize::from(own.expression.iter().any(|word| names_hole(&own.alphabet, *word)));
     }
@@ -120,10 +153,8 @@ fn rules_with_holes_are_refused_or_match_nearly_never() {
 }
 
 fn names_hole(alphabet: &[u32], word: u32) -> bool {
-    match words::Operator::read(word) {
-        Some(words::Operator::Product(hole) | words::Operator::Closure(hole)) => {
-            words::is_hole(alphabet, hole)
-        }
+    match Operator::read(word) {
+        Some(Operator::Product(hole) | Operator::Closure(hole)) => words::is_hole(alphabet, hole),
         _ => false,
     }
 }
@@ -157,4 +188,37 @@ fn lists_with_holes_are_all_accepted_or_all_refused() {
     let times = |refusal| times(&comparison, Operation::Exchange, refusal);
     assert!(times(None) > 300);
     assert!(times(Some(HOLE_IN_CHAPTER)) > 100 && times(Some(HOLE_IN_REPLACEMENT)) > 100);
+}
+
+#[test]
+fn rules_with_anything_are_all_accepted_or_all_refused() {
+    let mut comparison = Comparison::with(Box::new(Model));
+    anything_random::compare(&mut comparison, 3, 400);
+    println!("{:?}", comparison.numbers);
+    let times = |refusal| times(&comparison, Operation::Compile, refusal);
+    assert!(times(None) > 600 && times(Some(TOO_LONG)) > 80);
+    assert!([6, 7]
+        .iter()
+        .all(|number| times(Some(Condition::first(*number))) > 10));
+}
+
+#[test]
+fn long_tables_are_not_in_lists() {
+    /// Counts the exchanges with a table that no rule without anything has.
+    struct Counting(Rc<Cell<usize>>);
+    impl Matcher for Counting {
+        fn answer(&mut self, call: &Call) -> Answer {
+            let words = table_in(&call.table).map_or(0, <[u32]>::len);
+            let answer = Model.answer(call);
+            let is_long = call.operation == Operation::Exchange && words > COMPILED_LIMIT;
+            self.0
+                .set(self.0.get() + usize::from(is_long && answer.number == 0));
+            answer
+        }
+    }
+    let count = Rc::new(Cell::new(0));
+    let mut comparison = Comparison::with(Box::new(Counting(count.clone())));
+    anything_histories::compare(&mut comparison, 3, 40);
+    println!("{} exchanges with long tables", count.get());
+    assert!(comparison.differences() == 0 && count.get() > 20);
 }

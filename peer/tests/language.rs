@@ -1,7 +1,7 @@
 //! The two readings of a language against each other and against document 01's examples.
 
 use peer::cases::examples::{alphabet, A, B, C, F, G};
-use peer::cases::random::{pattern, pattern_over, Alphabets};
+use peer::cases::patterns::{pattern, Patterns};
 use peer::chance::Random;
 use peer::draw;
 use peer::generate::{self, holes};
@@ -22,9 +22,7 @@ fn literal(operators: &[Operator], limit: usize) -> BTreeSet<Tree> {
 
 fn decided(operators: &[Operator], tree: &[usize]) -> bool {
     let read = expression(operators);
-    let root = Membership::new(&read, alphabet().len())
-        .subtrees(tree, &arities(&alphabet()))
-        .pop();
+    let root = Membership::new(&read, &arities(&alphabet())).subtrees(tree).pop();
     root == Some(true)
 }
 
@@ -101,26 +99,32 @@ fn a_product_misses_the_constants_that_one_inside_has_put() {
 
 #[test]
 fn the_literal_members_are_not_those_decided() {
-    compare_readings(generate::alphabet);
+    compare_readings(Patterns::over(generate::alphabet));
 }
 
 #[test]
 fn the_literal_members_over_holes_are_not_those_decided() {
-    compare_readings(holes::alphabet);
+    compare_readings(Patterns::over(holes::alphabet));
 }
 
-/// All trees up to a size, those with holes too, with rules over alphabets that are drawn so.
-fn compare_readings(alphabets: Alphabets) {
+#[test]
+fn the_literal_members_of_anything_are_not_those_decided() {
+    compare_readings(Patterns::with_anything_over(generate::alphabet));
+    compare_readings(Patterns::with_anything_over(holes::alphabet));
+}
+
+/// All trees up to a size, those with holes too, with rules that are drawn so.
+fn compare_readings(patterns: Patterns) {
     for case in 0..300 {
         let mut random = Random::of_case("test", 77, case);
-        let pattern = pattern_over(&mut random, alphabets);
+        let pattern = patterns.draw(&mut random);
         let arities = arities(&pattern.alphabet);
         let read = Expression::read(&pattern.alphabet, &pattern.expression).expect("an expression");
         let limit = literal::size_with_at_most(&arities, 120);
         let literal = members(&read, &arities, limit);
-        let membership = Membership::new(&read, arities.len());
+        let membership = Membership::new(&read, &arities);
         for tree in literal::trees(&arities, limit) {
-            let decided = membership.subtrees(&tree, &arities).pop() == Some(true);
+            let decided = membership.subtrees(&tree).pop() == Some(true);
             assert_eq!(literal.contains(&tree), decided, "case {case}: {tree:?}");
         }
     }
@@ -129,18 +133,22 @@ fn compare_readings(alphabets: Alphabets) {
 #[test]
 fn a_drawn_member_is_no_member() {
     let mut drawn = 0;
-    for case in 0..2000 {
+    for case in 0..4000 {
         let mut random = Random::of_case("test", 78, case);
-        let pattern = pattern(&mut random);
+        let pattern = match case % 4 {
+            0 => Patterns::with_anything_over(generate::alphabet).draw(&mut random),
+            1 => Patterns::with_anything_over(holes::alphabet).draw(&mut random),
+            _ => pattern(&mut random),
+        };
         let arities = arities(&pattern.alphabet);
         let read = Expression::read(&pattern.alphabet, &pattern.expression).expect("an expression");
-        if let Some(tree) = draw::member(&mut random, &read, 60) {
+        if let Some(tree) = draw::member(&mut random, &pattern.alphabet, &read, 60) {
             drawn += 1;
-            let decided = Membership::new(&read, arities.len()).subtrees(&tree, &arities);
+            let decided = Membership::new(&read, &arities).subtrees(&tree);
             assert_eq!(decided.last(), Some(&true), "case {case}: {tree:?}");
         }
     }
-    assert!(drawn > 1000, "{drawn} members drawn");
+    assert!(drawn > 2500, "{drawn} members drawn");
 }
 
 #[test]

@@ -48,7 +48,7 @@ fn is_no_rule(call: &Call) -> bool {
         None => true,
         Some(Operator::Symbol(symbol)) => rank(symbol).is_none(),
         Some(Operator::Product(constant) | Operator::Closure(constant)) => rank(constant) != Some(0),
-        Some(Operator::Empty | Operator::Union) => false,
+        Some(Operator::Empty | Operator::Union | Operator::Anything) => false,
     })
 }
 

@@ -6,7 +6,7 @@ use crate::automaton;
 use crate::call::{Call, Operation};
 use crate::cases::examples::{self, A, B, C, D, F, G, H};
 use crate::cases::holes::source_with;
-use crate::cases::random::{pattern_over, Alphabets, Pattern};
+use crate::cases::patterns::{Pattern, Patterns};
 use crate::chance::Random;
 use crate::compare::Comparison;
 use crate::generate::{self, holes};
@@ -46,10 +46,10 @@ pub fn compare(comparison: &mut Comparison, seed: u64, cases: u64) {
         }
     }
     comparison.random_cases("damaged words", seed, cases, |comparison, _, random| {
-        some_bits(comparison, random, generate::alphabet);
+        some_bits(comparison, random, Patterns::over(generate::alphabet));
     });
     comparison.random_cases("damaged holes", seed, cases / 2, |comparison, _, random| {
-        some_bits(comparison, random, holes::mixed_alphabet);
+        some_bits(comparison, random, Patterns::over(holes::mixed_alphabet));
         every_mark(comparison, random);
     });
 }
@@ -66,7 +66,7 @@ fn arguments(call: &mut Call) -> Vec<&mut Vec<u32>> {
     all
 }
 
-fn every_bit(comparison: &mut Comparison, accepted: &Call) {
+pub fn every_bit(comparison: &mut Comparison, accepted: &Call) {
     let lengths: Vec<usize> = arguments(&mut accepted.clone())
         .iter()
         .map(|words| words.len())
@@ -80,16 +80,16 @@ fn every_bit(comparison: &mut Comparison, accepted: &Call) {
     }
 }
 
-/// One accepted call of each operation over an alphabet that is drawn so.
-fn random_calls(random: &mut Random, alphabets: Alphabets) -> Vec<Call> {
-    let Pattern { alphabet, expression } = pattern_over(random, alphabets);
+/// One accepted call of each operation on a pattern that is drawn so.
+fn random_calls(random: &mut Random, patterns: Patterns) -> Vec<Call> {
+    let Pattern { alphabet, expression } = patterns.draw(random);
     let budget = random.between(1, 20);
     let tree = words::node_words(&generate::tree(random, &alphabet, budget));
     accepted_calls(&alphabet, &expression, &tree, 4)
 }
 
-fn some_bits(comparison: &mut Comparison, random: &mut Random, alphabets: Alphabets) {
-    for mut call in random_calls(random, alphabets) {
+pub fn some_bits(comparison: &mut Comparison, random: &mut Random, patterns: Patterns) {
+    for mut call in random_calls(random, patterns) {
         call.node = random.below(call.count.max(1));
         for _ in 0..random.between(1, 2) {
             let mut filled = arguments(&mut call);
@@ -102,8 +102,12 @@ fn some_bits(comparison: &mut Comparison, random: &mut Random, alphabets: Alphab
 
 /// Every alphabet entry in turn as a hole, or no longer as one.
 fn every_mark(comparison: &mut Comparison, random: &mut Random) {
-    let alphabets = random.pick(&[generate::alphabet as Alphabets, holes::mixed_alphabet]);
-    for call in random_calls(random, alphabets) {
+    let patterns = [
+        Patterns::over(generate::alphabet),
+        Patterns::over(holes::mixed_alphabet),
+    ];
+    let patterns = random.pick(&patterns);
+    for call in random_calls(random, patterns) {
         for symbol in 0..call.alphabet.len() {
             let mut changed = call.clone();
             changed.alphabet[symbol] ^= HOLE;

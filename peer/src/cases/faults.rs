@@ -3,6 +3,7 @@
 //! two must have met in one, with no third.
 
 use crate::call::{Call, Operation};
+use crate::cases::anything_faults;
 use crate::cases::damage::accepted_calls;
 use crate::cases::examples::{self, A, D, G, H};
 use crate::cases::heights::{RESULT_TOO_HIGH, TOO_HIGH};
@@ -54,10 +55,15 @@ pub fn compare_operation(comparison: &mut Comparison, operation: Operation) {
     }
 }
 
-/// Words that are no tree have no height. Among the cases of `heights` are some that hold trees which are too
-/// high. A hole may stand among any words, so that 26 meets every other number.
+/// Words that are no tree have no height, and words that are no rule have no table. Among the cases of `heights` are
+/// some that hold trees which are too high, and here some that hold rules whose tables are too long. A hole may stand
+/// among any words, so that 26 meets every other number.
 fn can_meet(first: Condition, second: Condition) -> bool {
-    (first, second) != (Condition::first(11), TOO_HIGH)
+    let apart = [
+        (Condition::first(11), TOO_HIGH),
+        (Condition::first(5), Condition::first(25)),
+    ];
+    !apart.contains(&(first, second))
 }
 
 /// Gives the call each fault alone and each two of them in both orders; answers which faults met.
@@ -88,7 +94,7 @@ fn pairs(comparison: &mut Comparison, accepted: &Call) -> BTreeSet<Vec<Condition
 
 fn faults(operation: Operation) -> Vec<(Condition, Change)> {
     let parts: &[fn() -> Vec<Fault>] = match operation {
-        Operation::Compile => &[alphabet, compile, hole_faults::rule],
+        Operation::Compile => &[alphabet, compile, hole_faults::rule, anything_faults::rule],
         Operation::Run => &[alphabet, table, nodes, hole_faults::tree, sets, run],
         Operation::List => &[alphabet, table, count, sets, list],
         Operation::Exchange => &[alphabet, table, count, nodes, hole_faults::tree, sets, exchange],
@@ -390,7 +396,7 @@ pub fn set_bit(words: &mut [u32], place: usize, bit: u32) {
 }
 
 /// Appends constants to the alphabet until it has so many; a compiled table then needs more room.
-fn add_constants(call: &mut Call, count: usize) {
+pub fn add_constants(call: &mut Call, count: usize) {
     while words::constants(&call.alphabet).len() < count {
         call.alphabet.push(entry_word(0));
     }

@@ -1,7 +1,7 @@
 //! Document 02's U6: a chapter of height 512 is marked, one of 513 refused by 24, whatever its shape and its number of
 //! elements; in Exchange too, where the used elements are that chapter and the result is a low one or as high.
 
-use crate::call::Call;
+use crate::call::{Answer, Call};
 use crate::cases::in_slices::of_all_arities;
 use crate::cases::shapes::{
     chain, chain_beside_low, chain_over_low, comb, combs, deepest, low, low_height, shape_children, under_one,
@@ -57,13 +57,14 @@ pub fn turning_over(symbols: &[usize; ARITY_LIMIT + 1]) -> Vec<TableWord> {
     table
 }
 
-/// Compares the call, and checks that it has these faults and no others.
-pub fn expect_faults(comparison: &mut Comparison, wrong: &str, call: &Call, faults: &[Condition]) {
-    comparison.call(wrong, call);
+/// Compares the call, and checks that it has these faults and no others. Answers what the model answers.
+pub fn expect_faults(comparison: &mut Comparison, wrong: &str, call: &Call, faults: &[Condition]) -> Answer {
+    let answer = comparison.call(wrong, call);
     let found = refusals::faults(call);
     comparison.check(wrong, found == faults, || {
         format!("    faults {found:?} instead of {faults:?}\n{call}")
     });
+    answer
 }
 
 /// Run on the chapter, with a mark word for each element and some to spare.

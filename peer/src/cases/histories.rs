@@ -4,7 +4,7 @@
 
 use crate::automaton;
 use crate::call::Call;
-use crate::cases::random::{pattern_over, Alphabets, Pattern};
+use crate::cases::patterns::{Pattern, Patterns};
 use crate::chance::Random;
 use crate::compare::Comparison;
 use crate::draw;
@@ -24,28 +24,24 @@ pub struct History {
 
 pub fn compare(comparison: &mut Comparison, seed: u64, cases: u64) {
     comparison.random_cases("lists of exchanges", seed, cases, |comparison, case, random| {
-        true_marks(comparison, random, 40, 12);
-        false_marks(comparison, random, generate::alphabet);
+        let patterns = Patterns::over(generate::alphabet);
+        true_marks(comparison, random, patterns, 40, 12);
+        false_marks(comparison, random, patterns);
         if case % 200 == 0 {
-            true_marks(comparison, random, 500, 400);
+            true_marks(comparison, random, patterns, 500, 400);
         }
     });
 }
 
-/// A rule's or any other table over an alphabet that is drawn so, a tree that Run marked, and slices with
-/// room to grow.
-pub fn start(
-    comparison: &mut Comparison,
-    random: &mut Random,
-    budget: usize,
-    alphabets: Alphabets,
-) -> History {
+/// The table of a pattern that is drawn so, or any other over such an alphabet, a tree that Run marked, and
+/// slices with room to grow.
+pub fn start(comparison: &mut Comparison, random: &mut Random, budget: usize, patterns: Patterns) -> History {
     let (alphabet, expression, mut table) = if random.once_in(4) {
-        let alphabet = alphabets(random);
+        let alphabet = (patterns.alphabet)(random);
         let table = generate::table(random, &alphabet);
         (alphabet, None, table)
     } else {
-        let Pattern { alphabet, expression } = pattern_over(random, alphabets);
+        let Pattern { alphabet, expression } = patterns.draw(random);
         let table = automaton::table(&alphabet, &expression).expect("an expression");
         let read = Expression::read(&alphabet, &expression);
         (alphabet, read, table)
@@ -113,8 +109,15 @@ fn step(comparison: &mut Comparison, wrong: &str, call: &mut Call) {
     }
 }
 
-fn true_marks(comparison: &mut Comparison, random: &mut Random, budget: usize, calls: usize) {
-    let History { call, expression } = start(comparison, random, budget, generate::alphabet);
+/// A list of up to so many calls on a tree of at most `budget` nodes.
+pub fn true_marks(
+    comparison: &mut Comparison,
+    random: &mut Random,
+    patterns: Patterns,
+    budget: usize,
+    calls: usize,
+) {
+    let History { call, expression } = start(comparison, random, budget, patterns);
     let calls = random.between(0, calls);
     demand_3(comparison, random, call, calls, |_, random, call, _| {
         draw(random, call, &expression);
@@ -188,8 +191,8 @@ fn plain_exchange(call: &Call, plain: &[u32]) -> Vec<u32> {
 }
 
 /// Stored marks count as they stand: some or all of them are changed before and between the calls.
-pub fn false_marks(comparison: &mut Comparison, random: &mut Random, alphabets: Alphabets) {
-    let History { mut call, expression } = start(comparison, random, 40, alphabets);
+pub fn false_marks(comparison: &mut Comparison, random: &mut Random, patterns: Patterns) {
+    let History { mut call, expression } = start(comparison, random, 40, patterns);
     if random.once_in(3) {
         call.sets = random.words(call.sets.len());
     }

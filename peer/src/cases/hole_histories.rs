@@ -5,6 +5,7 @@ use crate::call::Call;
 use crate::cases::histories::{demand_3, draw, false_marks, start, History};
 use crate::cases::holes::HOLE_IN_CHAPTER;
 use crate::cases::limits::expect;
+use crate::cases::patterns::Patterns;
 use crate::chance::Random;
 use crate::compare::Comparison;
 use crate::generate::holes;
@@ -15,7 +16,7 @@ use crate::words::{self, node_words};
 pub fn compare(comparison: &mut Comparison, seed: u64, cases: u64) {
     comparison.random_cases("lists with holes", seed, cases, |comparison, case, random| {
         true_marks(comparison, random, 40, 12);
-        false_marks(comparison, random, holes::mixed_alphabet);
+        false_marks(comparison, random, Patterns::over(holes::mixed_alphabet));
         if case % 200 == 0 {
             true_marks(comparison, random, 800, 100);
         }
@@ -25,7 +26,8 @@ pub fn compare(comparison: &mut Comparison, seed: u64, cases: u64) {
 /// A list of calls, of which some have holes in their replacements. Beside some of them the same call is made
 /// with a hole in the used chapter, which is gone for the next one.
 fn true_marks(comparison: &mut Comparison, random: &mut Random, budget: usize, calls: usize) {
-    let History { call, expression } = start(comparison, random, budget, holes::mixed_alphabet);
+    let patterns = Patterns::over(holes::mixed_alphabet);
+    let History { call, expression } = start(comparison, random, budget, patterns);
     let calls = random.between(0, calls);
     // Demand 3 begins with a chapter that Run has taken.
     let used = words::symbols(&call.tree[..call.count]);

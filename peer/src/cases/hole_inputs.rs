@@ -18,14 +18,16 @@ pub fn compare(comparison: &mut Comparison, program: &mut Compared) {
     lengths(comparison, program);
 }
 
+const WRONG: &str = "an input with holes prints otherwise";
+
 /// Expects the program to print this.
-fn expect(
+pub fn expect(
     comparison: &mut Comparison,
     program: &mut Compared,
+    wrong: &str,
     [alphabet, rule, tree]: [&[u32]; 3],
     printed: &str,
 ) {
-    let wrong = "an input with holes prints otherwise";
     let bytes = encode(alphabet, rule, tree);
     let own = expected(&bytes);
     comparison.check(wrong, own == printed, || {
@@ -40,21 +42,33 @@ fn source(comparison: &mut Comparison, program: &mut Compared) {
     let rule = examples::expression();
     let tree = node_words(&[A, B, F, A, G, H, F]);
     let printed = "nodes 7 states 29 hits 1\n2 4 3\n";
-    expect(comparison, program, [&alphabet, &rule, &tree], printed);
+    expect(comparison, program, WRONG, [&alphabet, &rule, &tree], printed);
     let filled = [
         &rule[..],
         &[Operator::Symbol(A).word(), Operator::Product(D).word()],
     ]
     .concat();
     let printed = "nodes 7 states 35 hits 4\n0 0 1\n2 4 3\n3 0 1\n4 5 2\n";
-    expect(comparison, program, [&alphabet, &filled, &tree], printed);
+    expect(comparison, program, WRONG, [&alphabet, &filled, &tree], printed);
     for holes in [&[A][..], &[B], &[A, B, C, D]] {
         let alphabet = source_with(holes);
         let rule = [Operator::Symbol(A).word()];
-        expect(comparison, program, [&alphabet, &rule, &tree], "refused 26\n");
+        expect(
+            comparison,
+            program,
+            WRONG,
+            [&alphabet, &rule, &tree],
+            "refused 26\n",
+        );
     }
     let lone = node_words(&[D]);
-    expect(comparison, program, [&alphabet, &rule, &lone], "refused 26\n");
+    expect(
+        comparison,
+        program,
+        WRONG,
+        [&alphabet, &rule, &lone],
+        "refused 26\n",
+    );
 }
 
 /// Every number that can stand beside 26, and the rules' numbers for holes.
@@ -88,7 +102,7 @@ fn numbers(comparison: &mut Comparison, program: &mut Compared) {
     ];
     for (alphabet, rule, tree, number) in cases {
         let printed = format!("refused {number}\n");
-        expect(comparison, program, [alphabet, rule, tree], &printed);
+        expect(comparison, program, WRONG, [alphabet, rule, tree], &printed);
     }
 }
 
@@ -100,7 +114,13 @@ fn every_place(comparison: &mut Comparison, program: &mut Compared) {
         let part = if place % 2 == 0 { low } else { high };
         let shape = with_leaf(PROGRAM_LIMIT, place, part);
         let tree = own.with_holes(&shape, &[place]);
-        expect(comparison, program, [&own.alphabet, &rule, &tree], "refused 26\n");
+        expect(
+            comparison,
+            program,
+            WRONG,
+            [&own.alphabet, &rule, &tree],
+            "refused 26\n",
+        );
     }
 }
 
@@ -128,7 +148,7 @@ fn lengths(comparison: &mut Comparison, program: &mut Compared) {
         } else {
             "refused 26\n"
         };
-        expect(comparison, program, [&own.alphabet, &rule, &with], printed);
+        expect(comparison, program, WRONG, [&own.alphabet, &rule, &with], printed);
         let without = encode(&own.alphabet, &rule, &own.tree(&shape));
         same(
             comparison,

@@ -5,7 +5,8 @@
 use crate::call::Call;
 use crate::cases::examples::{A, B, C, D, F, G, H};
 use crate::cases::holes::source_with;
-use crate::cases::random::{marked_hits, pattern_over, Pattern};
+use crate::cases::patterns::{Pattern, Patterns};
+use crate::cases::random::marked_hits;
 use crate::chance::Random;
 use crate::compare::Comparison;
 use crate::generate::holes;
@@ -25,7 +26,7 @@ pub fn compare(comparison: &mut Comparison, seed: u64, cases: u64) {
 }
 
 /// What is wrong otherwise, the holes, a rule, the symbols of a tree, and the hits in it.
-type Case = (
+pub type Case = (
     &'static str,
     &'static [usize],
     Vec<Operator>,
@@ -156,20 +157,26 @@ fn small_rule(comparison: &mut Comparison, (wrong, holes, operators, tree, hits)
     }
 }
 
-/// All small trees with a random rule: those with a hole are refused, and of the others the root is a hit
-/// exactly if the literal reading has it.
+/// All small trees with a random rule.
 fn all_trees(comparison: &mut Comparison, random: &mut Random) {
-    let Pattern { alphabet, expression } = pattern_over(random, holes::alphabet);
-    let arities = words::arities(&alphabet);
-    let limit = literal::size_with_at_most(&arities, 60);
-    let read = Expression::read(&alphabet, &expression).expect("an expression");
+    let pattern = Patterns::over(holes::alphabet).draw(random);
+    every_tree(comparison, random, &pattern, 60);
+}
+
+/// All trees up to a size, at most so many: those with a hole are refused, and of the others the root is a hit
+/// exactly if the literal reading has it.
+pub fn every_tree(comparison: &mut Comparison, random: &mut Random, pattern: &Pattern, most: usize) {
+    let Pattern { alphabet, expression } = pattern;
+    let arities = words::arities(alphabet);
+    let limit = literal::size_with_at_most(&arities, most);
+    let read = Expression::read(alphabet, expression).expect("an expression");
     let members = members(&read, &arities, limit);
-    let compile = Call::compile(&alphabet, &expression, vec![0; TABLE_LIMIT]);
-    let compiled = comparison.call("a rule with holes has another table", &compile);
+    let compile = Call::compile(alphabet, expression, vec![0; TABLE_LIMIT]);
+    let compiled = comparison.call("a small rule has another table", &compile);
     for tree in literal::trees(&arities, limit) {
-        let hits = marked_hits(comparison, random, &alphabet, compiled.table(), &tree);
+        let hits = marked_hits(comparison, random, alphabet, compiled.table(), &tree);
         let is_right = hits.last() == Some(&members.contains(&tree));
-        if !words::has_hole(&alphabet, &tree) {
+        if !words::has_hole(alphabet, &tree) {
             comparison.check("a hit is no member without holes", is_right, || {
                 format!("    {tree:?}\n{compile}")
             });

@@ -4,7 +4,8 @@
 
 use crate::call::Call;
 use crate::cases::limits::expect;
-use crate::cases::random::{cases_over, length_near, marked_hits, Matched, Pattern};
+use crate::cases::patterns::{Pattern, Patterns};
+use crate::cases::random::{cases_over, length_near, marked_hits, Matched};
 use crate::chance::Random;
 use crate::compare::Comparison;
 use crate::generate::{self, holes};
@@ -14,7 +15,7 @@ use crate::words::{self, node_words, Operator};
 
 pub fn compare(comparison: &mut Comparison, seed: u64, cases: u64) {
     comparison.random_cases("rules with holes", seed, cases, |comparison, case, random| {
-        let own = cases_over(comparison, case, random, holes::alphabet);
+        let own = cases_over(comparison, case, random, Patterns::over(holes::alphabet));
         unmarked(comparison, random, &own);
         other_constant(comparison, random, &own.pattern);
         if case % 2 == 0 {

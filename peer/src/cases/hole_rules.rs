@@ -9,7 +9,7 @@ use crate::cases::hole_places::NUMBERS;
 use crate::cases::holed::Holed;
 use crate::cases::holes::{choices, source_with};
 use crate::cases::limits::{self, expect};
-use crate::cases::random::{pattern, Pattern};
+use crate::cases::patterns::{pattern, Pattern};
 use crate::chance::Random;
 use crate::compare::Comparison;
 use crate::generate::holes::without_marks;

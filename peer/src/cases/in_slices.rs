@@ -2,6 +2,7 @@
 
 use crate::automaton;
 use crate::call::Call;
+use crate::cases::aimed;
 use crate::cases::examples;
 use crate::cases::largest::largest;
 use crate::chance::Random;
@@ -52,8 +53,9 @@ pub fn ending_with(symbol: usize, states: usize) -> Vec<u32> {
 }
 
 /// Tables of all lengths and with every sort of last word, each with its alphabet: the smallest, the source's, the largest
-/// compiled one and one of the most words, of which all but the first end with an epsilon transition; and with few and many
-/// states one that ends with the transition on a symbol of each arity.
+/// compiled one without `anything`, and two of the most words, of which one is compiled and has the most states too; all but
+/// the first end with an epsilon transition. And with few and many states one that ends with the transition on a symbol of
+/// each arity.
 pub fn tables() -> Vec<(Vec<u32>, Vec<u32>)> {
     let own = examples::alphabet();
     let smallest = with_length_word(&[TableWord::Head {
@@ -62,11 +64,15 @@ pub fn tables() -> Vec<(Vec<u32>, Vec<u32>)> {
     }]);
     let (sixteen, rule) = largest();
     let most_compiled = automaton::table(&sixteen, &rule).expect("an expression");
+    let with_anything = aimed::with_most_states(TABLE_LIMIT).pop().expect("a rule");
+    let longest =
+        automaton::table(&with_anything.alphabet, &with_anything.expression).expect("an expression");
     let mut tables = vec![
         (own.clone(), smallest),
         (own.clone(), source()),
         (sixteen, most_compiled),
         (own, full()),
+        (with_anything.alphabet, longest),
     ];
     for states in [1, STATE_LIMIT] {
         tables.extend((0..=ARITY_LIMIT).map(|symbol| (of_all_arities(), ending_with(symbol, states))));

@@ -1,4 +1,5 @@
-//! The largest compiled table: no rule takes more words than document 02's U1 says, and one takes as many.
+//! The largest compiled table of a rule without `anything`: none takes more words than document 02's U1 says, and one
+//! takes as many.
 //!
 //! Every table word but the head and the length word belongs to one rule word. Into each entry of a rule word leads exactly
 //! one word: from the entry of the word above, for F of a product and its c from G's exit, and for the last word from the
@@ -93,7 +94,7 @@ fn attained(comparison: &mut Comparison) {
     }
 }
 
-/// A long rule over many constants, in a slice for the largest table: 7 may not be the answer.
+/// A long rule over many constants, in a slice for the largest table: neither 7 nor 25 may be the answer.
 fn near_the_limits(comparison: &mut Comparison, random: &mut Random, bounds: &[usize]) {
     let constants = random.between(12, CONSTANT_LIMIT);
     let mut alphabet = vec![entry_word(0); constants];
@@ -106,7 +107,7 @@ fn near_the_limits(comparison: &mut Comparison, random: &mut Random, bounds: &[u
     let within = automaton::states(&alphabet, &expression) > STATE_LIMIT || own <= bounds[constants - 1];
     comparison.check(
         "a table is longer than the bound",
-        within && answer.number != 7,
+        within && [0, 6].contains(&answer.number),
         || call.to_string(),
     );
 }

@@ -114,7 +114,7 @@ fn states(comparison: &mut Comparison) {
     run_and_list(comparison, &sixteen, answer.table(), &words::node_words(&tree));
     let arities = words::arities(&sixteen);
     let read = Expression::read(&sixteen, &full).expect("an expression");
-    let decided = Membership::new(&read, sixteen.len()).subtrees(&tree, &arities);
+    let decided = Membership::new(&read, &arities).subtrees(&tree);
     let own = Table::read(&sixteen, answer.table()).expect("a table");
     let reached = own.reached_by_all(&tree, &arities);
     let hits: Vec<bool> = reached.iter().map(|set| set[own.accepting]).collect();

@@ -1,5 +1,15 @@
 //! The inputs of the comparison, by subject.
 
+pub mod aimed;
+pub mod anything;
+pub mod anything_faults;
+pub mod anything_histories;
+pub mod anything_inputs;
+pub mod anything_members;
+pub mod anything_random;
+pub mod anything_shapes;
+pub mod anything_tables;
+pub mod anything_users;
 pub mod behind;
 pub mod damage;
 pub mod examples;
@@ -23,6 +33,7 @@ pub mod length_words;
 pub mod lengths;
 pub mod limits;
 pub mod packed;
+pub mod patterns;
 pub mod program;
 pub mod raised;
 pub mod random;

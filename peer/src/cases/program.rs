@@ -1,8 +1,8 @@
 //! The program `marklist`: what it prints for an input of bytes, compared with what document 01 says, and that it ends
 //! well. The program's path is in HAQBYLUR_MARKLIST.
 
-use crate::cases::random::{pattern_over, Alphabets, Pattern};
-use crate::cases::{examples, hole_inputs, limits};
+use crate::cases::patterns::{Pattern, Patterns};
+use crate::cases::{anything_inputs, examples, hole_inputs, limits};
 use crate::chance::Random;
 use crate::compare::Comparison;
 use crate::draw;
@@ -29,12 +29,23 @@ pub fn compare(comparison: &mut Comparison, path: &str, seed: u64, cases: u64) {
     lengths(comparison, program);
     heights(comparison, program);
     hole_inputs::compare(comparison, program);
-    comparison.random_cases("inputs of marklist", seed, cases, |comparison, _, random| {
-        random_input(comparison, program, random, generate::alphabet);
-    });
-    comparison.random_cases("inputs with holes", seed, cases, |comparison, _, random| {
-        random_input(comparison, program, random, holes::alphabet);
-    });
+    anything_inputs::compare(comparison, program);
+    for (subject, patterns) in [
+        ("inputs of marklist", Patterns::over(generate::alphabet)),
+        ("inputs with holes", Patterns::over(holes::alphabet)),
+        (
+            "inputs with anything",
+            Patterns::with_anything_over(generate::alphabet),
+        ),
+        (
+            "inputs with anything and holes",
+            Patterns::with_anything_over(holes::alphabet),
+        ),
+    ] {
+        comparison.random_cases(subject, seed, cases, |comparison, _, random| {
+            random_input(comparison, program, random, patterns);
+        });
+    }
 }
 
 /// The compared program. Once it did not end in time, it is not started again: each such wait is long.
@@ -200,12 +211,12 @@ fn random_input(
     comparison: &mut Comparison,
     program: &mut Compared,
     random: &mut Random,
-    alphabets: Alphabets,
+    patterns: Patterns,
 ) {
     let Pattern {
         mut alphabet,
         mut expression,
-    } = pattern_over(random, alphabets);
+    } = patterns.draw(random);
     let read = Expression::read(&alphabet, &expression).expect("an expression");
     let budget = if random.once_in(8) {
         random.between(PROGRAM_LIMIT - 56, PROGRAM_LIMIT + 14)

@@ -4,6 +4,7 @@
 use crate::automaton;
 use crate::call::Call;
 use crate::cases::holes::HOLE_IN_CHAPTER;
+use crate::cases::patterns::{Pattern, Patterns};
 use crate::chance::Random;
 use crate::compare::Comparison;
 use crate::draw;
@@ -11,40 +12,9 @@ use crate::generate;
 use crate::language::literal;
 use crate::language::membership::Membership;
 use crate::language::{Expression, Tree};
-use crate::limits::{EXPRESSION_LIMIT, STATE_LIMIT};
 use crate::marks::Table;
 use crate::model;
 use crate::words::{self, Hex};
-
-/// An alphabet with an expression whose states over it are not too many.
-pub struct Pattern {
-    pub alphabet: Vec<u32>,
-    pub expression: Vec<u32>,
-}
-
-/// A pattern without holes.
-pub fn pattern(random: &mut Random) -> Pattern {
-    pattern_over(random, generate::alphabet)
-}
-
-/// A function that draws alphabets.
-pub type Alphabets = fn(&mut Random) -> Vec<u32>;
-
-/// A pattern over an alphabet that is drawn so.
-pub fn pattern_over(random: &mut Random, alphabets: Alphabets) -> Pattern {
-    loop {
-        let alphabet = alphabets(random);
-        let budget = if random.once_in(12) {
-            random.between(1, EXPRESSION_LIMIT)
-        } else {
-            random.between(1, 14)
-        };
-        let expression = generate::expression(random, &alphabet, budget);
-        if automaton::states(&alphabet, &expression) <= STATE_LIMIT {
-            return Pattern { alphabet, expression };
-        }
-    }
-}
 
 /// A length at, below or above the one that is needed.
 pub fn length_near(random: &mut Random, needed: usize) -> usize {
@@ -57,7 +27,7 @@ pub fn length_near(random: &mut Random, needed: usize) -> usize {
 
 pub fn compare(comparison: &mut Comparison, seed: u64, cases: u64) {
     comparison.random_cases("rules and chapters", seed, cases, |comparison, case, random| {
-        cases_over(comparison, case, random, generate::alphabet);
+        cases_over(comparison, case, random, Patterns::over(generate::alphabet));
     });
 }
 
@@ -68,26 +38,26 @@ pub struct Matched {
     pub tree: Tree,
 }
 
-/// A pattern over an alphabet that is drawn so, and a tree; sometimes also another table, or all small trees.
+/// A pattern that is drawn so, and a tree; sometimes also another table, or all small trees.
 pub fn cases_over(
     comparison: &mut Comparison,
     case: u64,
     random: &mut Random,
-    alphabets: Alphabets,
+    patterns: Patterns,
 ) -> Matched {
-    let matched = pattern_case(comparison, random, alphabets);
+    let matched = pattern_case(comparison, random, patterns);
     if case % 4 == 0 {
-        table_case(comparison, random, alphabets);
+        table_case(comparison, random, patterns);
     }
     if case % 16 == 0 {
-        literal_case(comparison, random, alphabets);
+        literal_case(comparison, random, patterns);
     }
     matched
 }
 
 /// A rule and a tree: table, marks, list, and the language.
-fn pattern_case(comparison: &mut Comparison, random: &mut Random, alphabets: Alphabets) -> Matched {
-    let Pattern { alphabet, expression } = pattern_over(random, alphabets);
+fn pattern_case(comparison: &mut Comparison, random: &mut Random, patterns: Patterns) -> Matched {
+    let Pattern { alphabet, expression } = patterns.draw(random);
     let mut table = automaton::table(&alphabet, &expression).expect("an expression");
     let length = length_near(random, table.len());
     let lent = random.words(length);
@@ -110,7 +80,7 @@ fn pattern_case(comparison: &mut Comparison, random: &mut Random, alphabets: Alp
     let hits = marked_hits(comparison, random, &alphabet, &table, &tree);
     if !words::has_hole(&alphabet, &tree) {
         let arities = words::arities(&alphabet);
-        let in_language = Membership::new(&read, alphabet.len()).subtrees(&tree, &arities);
+        let in_language = Membership::new(&read, &arities).subtrees(&tree);
         comparison.check(
             "the hits are not the subtrees in the language",
             hits == in_language,
@@ -131,8 +101,8 @@ fn pattern_case(comparison: &mut Comparison, random: &mut Random, alphabets: Alp
 }
 
 /// A table that need not come from a rule.
-fn table_case(comparison: &mut Comparison, random: &mut Random, alphabets: Alphabets) {
-    let alphabet = alphabets(random);
+fn table_case(comparison: &mut Comparison, random: &mut Random, patterns: Patterns) {
+    let alphabet = (patterns.alphabet)(random);
     let mut table = generate::table(random, &alphabet);
     table.extend(generate::behind(random));
     let budget = random.between(1, 30);
@@ -173,8 +143,8 @@ pub fn marked_hits(
 
 /// All trees up to a size, those with holes too: members by the literal reading, members by the decision, and
 /// hits.
-fn literal_case(comparison: &mut Comparison, random: &mut Random, alphabets: Alphabets) {
-    let Pattern { alphabet, expression } = pattern_over(random, alphabets);
+fn literal_case(comparison: &mut Comparison, random: &mut Random, patterns: Patterns) {
+    let Pattern { alphabet, expression } = patterns.draw(random);
     let arities = words::arities(&alphabet);
     let read = Expression::read(&alphabet, &expression).expect("an expression");
     let limit = literal::size_with_at_most(&arities, 250);
@@ -182,12 +152,12 @@ fn literal_case(comparison: &mut Comparison, random: &mut Random, alphabets: Alp
         return;
     }
     let members = literal::members(&read, &arities, limit);
-    let membership = Membership::new(&read, alphabet.len());
+    let membership = Membership::new(&read, &arities);
     let words = automaton::table(&alphabet, &expression).expect("an expression");
     let table = Table::read(&alphabet, &words).expect("a table");
     for tree in literal::trees(&arities, limit) {
         let is_member = members.contains(&tree);
-        let decided = membership.subtrees(&tree, &arities).last() == Some(&true);
+        let decided = membership.subtrees(&tree).last() == Some(&true);
         let root = table.reached_by_all(&tree, &arities).pop().expect("a root");
         let agree = is_member == decided && is_member == root[table.accepting];
         comparison.check("the literal members are not the hits", agree, || {

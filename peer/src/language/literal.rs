@@ -22,6 +22,7 @@ fn members_of(expression: &Expression, place: usize, arities: &[usize], limit: u
         Operator::Union => parts[0].union(&parts[1]).cloned().collect(),
         Operator::Product(constant) => product(&parts[0], constant, &parts[1], arities, limit),
         Operator::Closure(constant) => closure(&parts[0], constant, arities, limit),
+        Operator::Anything => trees(arities, limit),
     }
 }
 
@@ -31,8 +32,12 @@ fn over(symbol: usize, parts: &[BTreeSet<Tree>], limit: usize) -> BTreeSet<Tree>
     for part in parts {
         rows = rows
             .iter()
-            .flat_map(|row| part.iter().map(move |member| [&row[..], member].concat()))
-            .filter(|row| row.len() < limit)
+            .flat_map(|row| {
+                let fits = |member: &&Tree| row.len() + member.len() < limit;
+                part.iter()
+                    .filter(fits)
+                    .map(move |member| [&row[..], member].concat())
+            })
             .collect();
     }
     rows.into_iter()

@@ -6,21 +6,24 @@
 //! t in place E exactly if
 //!   E a constant: t is in what the constant stands for here;
 //!   E a symbol over parts: t has that symbol and each child is in the part;
-//!   E a union: t is in either; E a product: t is in F; E a closure: t is in what c stands for outside, or in F.
+//!   E a union: t is in either; E a product: t is in F; E a closure: t is in what c stands for outside, or in F;
+//!   E anything (document 02, U7): t is in what some constant stands for here, or t has children and each is in E.
 
 use crate::language::Expression;
 use crate::postfix;
 use crate::words::Operator;
 
-/// An expression with what each constant stands for at each place: itself (None) or another place's language.
+/// An expression over symbols with these arities, with what each constant stands for at each place: itself (None) or
+/// another place's language.
 pub struct Membership<'a> {
     expression: &'a Expression,
+    arities: &'a [usize],
     scopes: Vec<Vec<Option<usize>>>,
 }
 
 impl<'a> Membership<'a> {
-    pub fn new(expression: &'a Expression, symbols: usize) -> Membership<'a> {
-        let mut scopes = vec![vec![None; symbols]; expression.operators.len()];
+    pub fn new(expression: &'a Expression, arities: &'a [usize]) -> Membership<'a> {
+        let mut scopes = vec![vec![None; arities.len()]; expression.operators.len()];
         for place in (0..expression.operators.len()).rev() {
             let outer = scopes[place].clone();
             let parts = &expression.children[place];
@@ -33,13 +36,17 @@ impl<'a> Membership<'a> {
                 _ => {}
             }
         }
-        Membership { expression, scopes }
+        Membership {
+            expression,
+            arities,
+            scopes,
+        }
     }
 
     /// For every node of a tree, whether the subtree there is a member of the whole expression's language.
-    pub fn subtrees(&self, tree: &[usize], arities: &[usize]) -> Vec<bool> {
+    pub fn subtrees(&self, tree: &[usize]) -> Vec<bool> {
         let mut holds: Vec<Vec<bool>> = Vec::with_capacity(tree.len());
-        for (symbol, children) in tree.iter().zip(postfix::tree_children(tree, arities)) {
+        for (symbol, children) in tree.iter().zip(postfix::tree_children(tree, self.arities)) {
             let row = self.least(*symbol, &children, &holds);
             holds.push(row);
         }
@@ -89,6 +96,11 @@ impl<'a> Membership<'a> {
             Operator::Union => row[parts[0]] || row[parts[1]],
             Operator::Product(_) => row[parts[0]],
             Operator::Closure(constant) => stands_for(constant) || row[parts[0]],
+            Operator::Anything => {
+                let mut constants = (0..self.arities.len()).filter(|symbol| self.arities[*symbol] == 0);
+                let is_over_members = || children.iter().all(|child| holds[*child][place]);
+                constants.any(stands_for) || (!children.is_empty() && is_over_members())
+            }
         }
     }
 }
