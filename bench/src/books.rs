@@ -58,6 +58,20 @@ pub fn emphasis_at_sixteen() -> (Vec<u32>, Vec<u32>) {
     (alphabet, words::operator_words(&operators))
 }
 
+/// Paragraphs that begin with an emphasis, whatever is in it and behind it.
+pub fn emphasis_first() -> (Vec<u32>, Vec<u32>) {
+    let alphabet = [0, 0, 0, 2, 2, 1, 1].map(entry_word).to_vec();
+    use Operator::{Anything, Symbol};
+    let operators = [
+        Anything,
+        Symbol(EMPHASIS),
+        Anything,
+        Symbol(LIST),
+        Symbol(PARAGRAPH),
+    ];
+    (alphabet, words::operator_words(&operators))
+}
+
 /// Sections of three to six paragraphs, each one of two.
 pub fn repetitive(_: &[u32], nodes: usize) -> Vec<usize> {
     let plain = [TEXT, TEXT, TEXT, END, LIST, LIST, LIST, PARAGRAPH];

@@ -7,8 +7,8 @@ use crate::incremental::Incremental;
 use crate::runs::SIMULATIONS;
 use crate::workloads::{self, Workload};
 use peer::call::{Answer, Call};
+use peer::cases::{anything_histories, hole_histories, hole_places, holes};
 use peer::cases::{damage, faults, heights, histories, length_words, lengths, packed, raised};
-use peer::cases::{hole_histories, hole_places, holes};
 use peer::compare::Comparison;
 use peer::library;
 use peer::model;
@@ -19,9 +19,18 @@ const CASES: u64 = 300;
 
 /// Whether everything is equal; prints what is not.
 pub fn all(workloads: &[Workload]) -> bool {
-    let mut library = Comparison::with(library::matcher());
     let mut incremental = Comparison::with(Box::new(Incremental));
     untimed(&mut incremental);
+    let workloads_agree = each(workloads);
+    let anything_agrees = each(&workloads::with_anything());
+    let pairs_agree = with_holes(&workloads::with_holes());
+    workloads_agree && anything_agrees && pairs_agree && incremental.differences() == 0
+}
+
+/// Whether the library, the simulations and the incremental Exchange are right on workloads; prints where not.
+pub fn each(workloads: &[Workload]) -> bool {
+    let mut library = Comparison::with(library::matcher());
+    let mut incremental = Comparison::with(Box::new(Incremental));
     let mut simulations_agree = true;
     for work in workloads {
         simulations_agree &= simulations(work);
@@ -29,8 +38,7 @@ pub fn all(workloads: &[Workload]) -> bool {
         exchanges::compare(&mut library, work);
         exchanges::compare(&mut incremental, work);
     }
-    let pairs_agree = with_holes(&workloads::with_holes());
-    simulations_agree && pairs_agree && library.differences() == 0 && incremental.differences() == 0
+    simulations_agree && library.differences() == 0 && incremental.differences() == 0
 }
 
 /// Whether the library and the incremental Exchange are right on pairs of workloads, without and with holes in the alphabet;
@@ -51,7 +59,8 @@ pub fn with_holes(pairs: &[[Workload; 2]]) -> bool {
 }
 
 /// Every pair of faults, changed bits, lists of exchanges, slices of all lengths, tables in longer slices, chapters and results
-/// around the greatest height, alphabets with holes, and holes at all places; every number is answered.
+/// around the greatest height, alphabets with holes, holes at all places, and tables of rules with anything; every number is
+/// answered.
 fn untimed(comparison: &mut Comparison) {
     faults::compare(comparison);
     damage::compare(comparison, SEED, CASES);
@@ -64,6 +73,7 @@ fn untimed(comparison: &mut Comparison) {
     holes::compare(comparison);
     hole_places::compare(comparison);
     hole_histories::compare(comparison, SEED, CASES);
+    anything_histories::compare(comparison, SEED, CASES);
     comparison.check_numbers();
 }
 

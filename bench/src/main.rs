@@ -1,10 +1,12 @@
 //! Times Run, Exchange and Compile of the library beside two other simulations and an incremental Exchange on the same
 //! inputs, after checking that all results are equal: `bench [MILLISECONDS]`, the length of one batch. Prints tables of
-//! times and ratios, and what the ratios are held to. `bench holes` times the library over an alphabet with holes beside the
-//! same without their marks. `bench beside OTHER` times the library beside that of another build of this program; both are
-//! started as `bench batch`, which prints the time of one batch of each call.
+//! times and ratios, and what the ratios are held to. `bench anything` prints the same tables for rules with anything.
+//! `bench holes` times the library over an alphabet with holes beside the same without their marks. `bench beside OTHER` times
+//! the library beside that of another build of this program; both are started as `bench batch`, which prints the time of one
+//! batch of each call.
 //! HAQBYLUR_LIB_DIR names the folder of the static library when this is built.
 
+mod anything;
 mod automaton;
 mod beside;
 mod books;
@@ -26,11 +28,12 @@ use peer::library;
 use std::path::Path;
 use std::process::ExitCode;
 use std::time::Duration;
+use workloads::Workload;
 
 /// The length of a batch where none is given.
 const MILLISECONDS: u64 = 5;
 
-const USAGE: &str = "the arguments are [MILLISECONDS], holes, beside OTHER or batch";
+const USAGE: &str = "the arguments are [MILLISECONDS], anything, holes, beside OTHER or batch";
 
 fn main() -> ExitCode {
     if !library::LINKED {
@@ -43,6 +46,7 @@ fn main() -> ExitCode {
             beside::print_batch(&measure(MILLISECONDS, 1), &workloads::all());
             ExitCode::SUCCESS
         }
+        ["anything"] => print_anything(),
         ["holes"] => print_holes(),
         ["beside", other] => match beside::print(Path::new(other)) {
             Ok(()) => ExitCode::SUCCESS,
@@ -68,6 +72,15 @@ fn measure(milliseconds: u64, batches: usize) -> Measure {
     }
 }
 
+fn print_anything() -> ExitCode {
+    let workloads = workloads::with_anything();
+    if !equal::each(&workloads) {
+        return ExitCode::FAILURE;
+    }
+    print_times(MILLISECONDS, &workloads);
+    ExitCode::SUCCESS
+}
+
 fn print_holes() -> ExitCode {
     let pairs = workloads::with_holes();
     if !equal::with_holes(&pairs) {
@@ -82,19 +95,23 @@ fn print_tables(milliseconds: u64) -> ExitCode {
     if !equal::all(&workloads) {
         return ExitCode::FAILURE;
     }
+    print_times(milliseconds, &workloads);
+    ExitCode::SUCCESS
+}
+
+fn print_times(milliseconds: u64, workloads: &[Workload]) {
     let measure = measure(milliseconds, BATCHES);
     println!(
         "All results are equal. Times are the best of {} batches.\n",
         measure.batches
     );
-    let runs = runs::print(&measure, &workloads);
+    let runs = runs::print(&measure, workloads);
     println!();
-    let exchanges = exchanges::print(&measure, &workloads);
+    let exchanges = exchanges::print(&measure, workloads);
     println!();
-    compiles::print(&measure, &workloads);
+    compiles::print(&measure, workloads);
     println!();
     for target in runs.iter().chain(&exchanges) {
         target.print();
     }
-    ExitCode::SUCCESS
 }

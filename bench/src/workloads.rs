@@ -1,5 +1,6 @@
 //! The inputs that are timed: a rule and a chapter each, made from a fixed seed.
 
+use crate::anything;
 use crate::books;
 use crate::byhand;
 use peer::automaton;
@@ -113,6 +114,15 @@ pub fn with_holes() -> [[Workload; 2]; 2] {
         };
         [unmarked, work]
     })
+}
+
+/// Rules with anything.
+pub fn with_anything() -> Vec<Workload> {
+    vec![
+        Workload::new("closure with anything, random", anything::closure(), random_tree),
+        Workload::new("book, emphasis first", books::emphasis_first(), books::random),
+        Workload::new("2,048 table words, random", anything::largest(), random_tree),
+    ]
 }
 
 fn random_tree(alphabet: &[u32], nodes: usize) -> Vec<usize> {
