@@ -1,5 +1,5 @@
-"""Document 01's words and limits and document 02's length word (U1), height (U6) and holes (U8), each number once, for words.py
-and ./judge. A word has its kind in bits 31..28 and the kind's fields below; every other bit is zero."""
+"""Document 01's words and limits and document 02's length word (U1), height (U6), rule word for every tree (U7) and holes (U8), each
+number once, for words.py and ./judge. A word has its kind in bits 31..28 and the kind's fields below; every other bit is zero."""
 
 # ---- kinds
 
@@ -18,18 +18,20 @@ EMPTY_MOVE = 10
 PART = 11
 # How many words a table has, as its second word.
 LENGTH = 12
+# A word of a rule: every tree over the alphabet.
+ANYTHING = 14
 
 # The bits of each kind's fields. In a word of a table, but for its length, the lowest STATE_BITS are a state.
 FIELDS = {
     ENTRY: 0x1FF, SYMBOL: 0xFF, EMPTY: 0, UNION: 0, PRODUCT: 0xFF, CLOSURE: 0xFF, ELEMENT: 0xFF,
-    HEAD: 0x1FFFFF, SYMBOL_MOVE: 0x3FFFF, EMPTY_MOVE: 0xFFFFF, PART: 0x3FF, LENGTH: 0xFFF,
+    HEAD: 0x1FFFFF, SYMBOL_MOVE: 0x3FFFF, EMPTY_MOVE: 0xFFFFF, PART: 0x3FF, LENGTH: 0xFFF, ANYTHING: 0,
 }
 STATE_BITS = 10
 # The bit of an alphabet entry that marks a hole, which is a constant.
 HOLE = 0x100
 
 # How many rules a rule word takes, but for a symbol, which takes as many as its rank; and those over a constant.
-OPERANDS = {EMPTY: 0, UNION: 2, PRODUCT: 2, CLOSURE: 1}
+OPERANDS = {EMPTY: 0, UNION: 2, PRODUCT: 2, CLOSURE: 1, ANYTHING: 0}
 OVER_CONSTANT = (PRODUCT, CLOSURE)
 RULE_KINDS = (SYMBOL,) + tuple(OPERANDS)
 

@@ -1,4 +1,4 @@
-/* How much stack each C function takes: it is called on a painted stack with the largest rule (1,024 states, 1,148 table
+/* How much stack each C function takes: it is called on a painted stack with the largest rule (1,024 states, 2,048 table
  * words) and a chapter of 4,081 elements, 512 high, and with the source's rule. Printed are the bytes below the caller's frame that
  * were written, the return address included; the lowest may lie in the red zone (docs/FIRMWARE.md). What is measured is this
  * build on this machine: no theorem bounds a stack.
@@ -18,7 +18,7 @@
 /* Left unpainted below the caller's frame, whose own bytes are among these. */
 #define GAP 256
 
-static uint32_t alphabet[HAQBYLUR_MOST_SYMBOLS], rule[HAQBYLUR_MOST_RULE_WORDS], table[HAQBYLUR_MOST_COMPILED_WORDS];
+static uint32_t alphabet[HAQBYLUR_MOST_SYMBOLS], rule[HAQBYLUR_MOST_RULE_WORDS], table[HAQBYLUR_MOST_TABLE_WORDS];
 static uint32_t chapter[HAQBYLUR_MOST_ELEMENTS], list[HAQBYLUR_MOST_ELEMENTS];
 static uint32_t marks[HAQBYLUR_MARK_WORDS(HAQBYLUR_MOST_ELEMENTS, HAQBYLUR_MOST_STATES)];
 static size_t symbols, rule_words, chapter_words;
@@ -29,7 +29,7 @@ static size_t replacement_words;
 
 static void compile(void)
 {
-    status = haqbylur_compile(alphabet, symbols, rule, rule_words, table, HAQBYLUR_MOST_COMPILED_WORDS, &words);
+    status = haqbylur_compile(alphabet, symbols, rule, rule_words, table, HAQBYLUR_MOST_TABLE_WORDS, &words);
 }
 
 static void run(void)
@@ -94,19 +94,26 @@ static void measure_all(const char *name)
            (unsigned)words, chapter_words, (unsigned)elements);
 }
 
-/* A symbol of rank 4 over 4 constants under 59 closures, over 16 constants. */
+/* A symbol of rank 4 over 4 constants, in a union with four times anything, under 51 closures, over 16 constants, 42 symbols of rank 4
+ * and one of rank 2. */
 static void take_largest(void)
 {
-    symbols = 17;
+    symbols = 59;
     for (size_t i = 0; i < 16; i++)
         alphabet[i] = HAQBYLUR_ENTRY(0);
-    alphabet[16] = HAQBYLUR_ENTRY(4);
+    for (size_t i = 16; i < 58; i++)
+        alphabet[i] = HAQBYLUR_ENTRY(4);
+    alphabet[58] = HAQBYLUR_ENTRY(2);
     rule_words = 64;
     for (uint32_t i = 0; i < 4; i++)
         rule[i] = HAQBYLUR_SYMBOL(i);
     rule[4] = HAQBYLUR_SYMBOL(16);
-    for (uint32_t i = 0; i < 59; i++)
-        rule[5 + i] = HAQBYLUR_CLOSURE((7 * i) % 16);
+    for (uint32_t i = 0; i < 4; i++) {
+        rule[5 + 2 * i] = HAQBYLUR_ANYTHING;
+        rule[6 + 2 * i] = HAQBYLUR_UNION;
+    }
+    for (uint32_t i = 0; i < 51; i++)
+        rule[13 + i] = HAQBYLUR_CLOSURE((7 * i) % 16);
     /* a constant, and then each element over the one before, an element over four constants, and two constants: as high as a
      * chapter may be, which leaves room for four elements more */
     chapter_words = 0;

@@ -7,8 +7,8 @@
 
 `-` is standard input, as is TEXT or INPUT where `make` or `show` gets none. docs/BENCH.md describes the text. Its alphabet is
 NAME/RANK for each symbol, and NAME/hole for a hole, which is a constant; where there is one, products and closures are over holes
-alone. What `show` prints, `make` turns back into the very same bytes, whatever they are. The status is 0, 1 for a wrong file, 2
-for wrong usage.
+alone. In a rule `?` is every tree over the alphabet. What `show` prints, `make` turns back into the very same bytes, whatever they
+are. The status is 0, 1 for a wrong file, 2 for wrong usage.
 """
 
 import os
@@ -18,13 +18,15 @@ import sys
 
 sys.dont_write_bytecode = True
 
-from document01 import (CLOSURE, ELEMENT, EMPTY, ENTRY, HOLE, MOST_ELEMENTS, MOST_RANK, PRODUCT, SYMBOL, UNION,  # noqa: E402
-                        arity, holes, is_element, is_entry, is_rule_word, kind, low_byte, nameable, word)
+from document01 import (ANYTHING, CLOSURE, ELEMENT, EMPTY, ENTRY, HOLE, MOST_ELEMENTS, MOST_RANK, PRODUCT, SYMBOL,  # noqa: E402
+                        UNION, arity, holes, is_element, is_entry, is_rule_word, kind, low_byte, nameable, word)
 
 SECTIONS = ("alphabet", "rule", "chapter")
 NAME = r"[A-Za-z][A-Za-z0-9_]*"
 # What stands behind a symbol's name in the alphabet: its rank, or for a hole this word.
 ENTRIES = {**{str(rank): word(ENTRY, rank) for rank in range(MOST_RANK + 1)}, "hole": word(ENTRY, HOLE)}
+# The rules of one word that names no symbol: the empty language, and every tree.
+LONE = {"_": word(EMPTY), "?": word(ANYTHING)}
 
 
 class Wrong(Exception):
@@ -113,8 +115,8 @@ def read_term(alphabet, tokens):
     if first == "(":
         words = read_sum(alphabet, tokens)
         take(tokens, ")")
-    elif first == "_":
-        words = [word(EMPTY)]
+    elif first in LONE:
+        words = [LONE[first]]
     elif re.fullmatch(NAME, first):
         words = parts_of(alphabet, first, tokens, read_sum) + [word(SYMBOL, alphabet.number(first))]
     else:
@@ -264,12 +266,14 @@ def fold(alphabet, words, is_word, write):
 
 def show_rule(alphabet, words):
     """With the fewest brackets. What stands for a part is its text and how tightly that binds: 0 union, 1 product, 2 closure."""
+    written = {w: text for text, w in LONE.items()}
+
     def at_least(binding, part):
         return part[0] if part[1] >= binding else "(%s)" % part[0]
 
     def write(i, parts):
-        if kind(words[i]) == EMPTY:
-            return "_", 2
+        if words[i] in written:
+            return written[words[i]], 2
         if kind(words[i]) == UNION:
             return "%s + %s" % (parts[0][0], at_least(1, parts[1])), 0
         name = alphabet.names[low_byte(words[i])]

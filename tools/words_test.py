@@ -41,20 +41,22 @@ def random_postfix(chance, ranks, kind, length):
 
 
 def random_rule(chance, depth):
-    shape = chance.randrange(9) if depth else chance.randrange(2)
+    shape = chance.randrange(10) if depth else chance.randrange(3)
     part = lambda: random_rule(chance, depth - 1)
     c = chance.randrange(4)
     if shape == 0:
         return [words.word(words.EMPTY)]
     if shape == 1:
-        return [words.word(words.SYMBOL, c)]
+        return [words.word(words.ANYTHING)]
     if shape == 2:
-        return part() + part() + [words.word(words.SYMBOL, 4)]
+        return [words.word(words.SYMBOL, c)]
     if shape == 3:
+        return part() + part() + [words.word(words.SYMBOL, 4)]
+    if shape == 4:
         return part() + [words.word(words.SYMBOL, 5)]
-    if shape in (4, 5):
+    if shape in (5, 6):
         return part() + part() + [words.word(words.UNION)]
-    if shape in (6, 7):
+    if shape in (7, 8):
         return part() + part() + [words.word(words.PRODUCT, c)]
     return part() + [words.word(words.CLOSURE, c)]
 
@@ -83,6 +85,7 @@ class Words(unittest.TestCase):
             ("a + b .c: d*a", "a + (b .c: (d*a))"),
             ("a*c*d", "(a*c)*d"),
             ("f(a + b, _)*c", "(f((a + b), (_)))*c"),
+            ("? + ? .c: ?*c", "(?) + (? .c: (?*c))"),
         ):
             self.assertEqual(rule_words(text), rule_words(bracketed))
         self.assertNotEqual(rule_words("a + (b + c)"), rule_words("a + b + c"))
@@ -91,7 +94,8 @@ class Words(unittest.TestCase):
     def test_wrong_texts(self):
         for line in (
             "rule: e\nchapter: d", "rule: f(a)\nchapter: d", "rule: a b\nchapter: d", "rule: a .g: b\nchapter: d",
-            "rule: a +\nchapter: d", "rule: (a\nchapter: d", "rule: a\nchapter: f(a)", "rule: a\nchapter: a + b",
+            "rule: a +\nchapter: d", "rule: (a\nchapter: d", "rule: ?(a)\nchapter: d", "rule: ??\nchapter: d", "rule: a\nchapter: ?",
+            "rule: a\nchapter: f(a)", "rule: a\nchapter: a + b",
             "rule: a\nchapter:\n 0: a\n 2: g(0)", "rule: a\nchapter:\n 0: a\n 1: b\n 2: f(1,0)", "rule: a\nchapter:\n 0: a\n 1: b",
             "rule: a", "rule: a\nrule: a\nchapter: d", "rules: a\nchapter: d", "rule: 0x1ffffffff\nchapter: d",
             "rule: 0x20000003 20000003\nchapter: d", "rule: 0x2000_0003\nchapter: d",
@@ -146,7 +150,7 @@ class Words(unittest.TestCase):
         chance = random.Random(2)
         for _ in range(500):
             self.same_again(bytes(chance.randrange(256) for _ in range(chance.randrange(40))))
-            few = [chance.randrange(4) for _ in range(3)] + [chance.choice((1, 2, 3, 4, 5, 6, 7)) << 28 for _ in range(9)]
+            few = [chance.randrange(4) for _ in range(3)] + [chance.choice((1, 2, 3, 4, 5, 6, 7, 14)) << 28 for _ in range(9)]
             self.same_again(struct.pack("<12I", *few))
 
     def test_names(self):
@@ -242,8 +246,25 @@ class Words(unittest.TestCase):
         self.assertIn("alphabet: 0x10000000 0x10000101\n", words.show(data))
         self.same_again(data)
 
+    def test_anything(self):
+        """Written `?`, it takes no parts. Where the word has another bit, it is no rule word, which is refused with 4."""
+        rule = "f(?, ? .c: a + ?*c)"
+        data = words.make(ALPHABET + "rule: %s\nchapter: a\n" % rule)
+        anything = 0xE0000000
+        self.assertEqual(struct.unpack("<8I", data[40:72]), (
+            anything, anything, 0x20000000, 0x50000002, anything, 0x60000002, 0x40000000, 0x20000004))
+        self.assertIn("\nrule: %s\n" % rule, words.show(data, ["a", "b", "c", "d", "f", "g", "h"]))
+        self.same_again(data)
+        self.assertEqual(words.hits(data, "refused 25\n"), "refused 25\n")
+        for bit in (0, 7, 8, 27):
+            line = "rule: 0x%08x\n" % (anything | 1 << bit)
+            wrong = words.make("alphabet: a/0\n" + line + "chapter: a\n")
+            self.assertIn(line, words.show(wrong))
+            self.same_again(wrong)
+
     def test_limits(self):
-        """The limits are those of the C header, which also has the largest compiled table; so is the mark of a hole."""
+        """The limits are those of the C header, which also has the largest table of a rule without `?`; so are the mark of a hole and
+        the word of `?`."""
         with open(os.path.join(ROOT, "include", "haqbylur.h")) as file:
             header = file.read()
         stated = dict(re.findall(r"^#define HAQBYLUR_(MOST_\w+) (\d+)u$", header, re.M))
@@ -251,6 +272,7 @@ class Words(unittest.TestCase):
         own = {name: str(value) for name, value in vars(document01).items() if name.startswith("MOST_")}
         self.assertEqual(own, stated)
         self.assertIn("#define HAQBYLUR_HOLE_BIT 0x%xu\n" % document01.HOLE, header)
+        self.assertIn("#define HAQBYLUR_ANYTHING 0x%xu\n" % document01.word(document01.ANYTHING), header)
 
 
 if __name__ == "__main__":

@@ -6,6 +6,7 @@ from itertools import groupby
 
 from document01 import arity
 from . import matcher
+from .automaton import Automaton
 from .notation import chain, fact, hexadecimal, inline, joined, list_of, listed, part_of
 from .postfix import pop, spans_of
 
@@ -41,7 +42,7 @@ class Reading:
     the parts of the chapter."""
 
     def __init__(self, book, words_in_part):
-        self.automaton = matcher.Automaton(book.alphabet, book.rule)
+        self.automaton = Automaton(book.alphabet, book.rule)
         self.table = self.automaton.table()
         self.steps = matcher.Steps(self.table)
         uses, stack, self.stacks, self.sets = Counter(), [], [], []

@@ -1,10 +1,11 @@
-"""The refusals of documents 01 and 02 (U1, U6, U8): lists of a number and whether its condition holds, in the order in which they
+"""The refusals of documents 01 and 02 (U1, U6, U7, U8): lists of a number and whether its condition holds, in the order in which they
 are judged. A condition is worked out only where none before it holds. Nothing here is trusted: the checker computes the
 definition."""
 
 from document01 import (EMPTY_MOVE, HEAD, LENGTH, MOST_CONSTANTS, MOST_ELEMENTS, MOST_HEIGHT, MOST_RULE_WORDS, MOST_STATES,
-                        MOST_SYMBOLS, MOST_TABLE_WORDS, PART, SYMBOL_MOVE, arity, constants, has_hole, is_element, is_entry,
-                        is_of, is_rule_word, length_in, low_byte, state_in, upper_in)
+                        MOST_SYMBOLS, MOST_TABLE_WORDS, PART, SYMBOL_MOVE, constants, has_hole, is_element, is_entry, is_of,
+                        is_rule_word, length_in, low_byte, state_in, upper_in)
+from .automaton import Automaton
 from .postfix import one_tree, spans_of, splice
 
 
@@ -37,7 +38,9 @@ def of_rule(alphabet, rule):
     yield 3, outside(len(rule), MOST_RULE_WORDS)
     yield 4, not all(is_rule_word(alphabet, word) for word in rule)
     yield 5, not one_tree(alphabet, rule)
-    yield 6, state_count(alphabet, rule) > MOST_STATES
+    automaton = Automaton(alphabet, rule)
+    yield 6, automaton.states > MOST_STATES
+    yield 25, len(automaton.table()) > MOST_TABLE_WORDS
 
 
 def of_table(alphabet, table):
@@ -72,10 +75,6 @@ def of_change(call):
 
 def outside(count, most):
     return not 1 <= count <= most
-
-
-def state_count(alphabet, rule):
-    return sum(1 + (len(constants(alphabet)) if arity(alphabet, word) else 0) for word in rule)
 
 
 def set_size(table):
