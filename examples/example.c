@@ -1,5 +1,6 @@
 /* The source's own example through the C interface: Compile, Run and List, and then Exchange of element 4 for d. Its table stands end
- * to end with another rule's in one image, and each is used from its own first word. At the end two constants become holes. */
+ * to end with another rule's in one image, and each is used from its own first word. Then two constants become holes, and at the end
+ * a rule has places where anything may stand. */
 #include <stdio.h>
 
 #include "haqbylur.h"
@@ -25,13 +26,20 @@ static const uint32_t with_holes[] = {
 /* The other rule: d h. */
 static const uint32_t other_rule[] = {HAQBYLUR_SYMBOL(D), HAQBYLUR_SYMBOL(H)};
 
+/* The pattern f(S, g(S)) of document 002's example 2, where S stands for any tree, and the example's tree f(f(a, g(a)), g(a)): both f
+ * match. */
+static const uint32_t pattern[] = {HAQBYLUR_ANYTHING, HAQBYLUR_ANYTHING, HAQBYLUR_SYMBOL(G), HAQBYLUR_SYMBOL(F)};
+static const uint32_t subject[] = {
+    HAQBYLUR_ELEMENT(A), HAQBYLUR_ELEMENT(A), HAQBYLUR_ELEMENT(G), HAQBYLUR_ELEMENT(F),
+    HAQBYLUR_ELEMENT(A), HAQBYLUR_ELEMENT(G), HAQBYLUR_ELEMENT(F)};
+
 static const uint32_t d[] = {HAQBYLUR_ELEMENT(D)};
 
 /* Chapter a b f d g h f. The slices are lent to the calls. */
 static uint32_t chapter[] = {
     HAQBYLUR_ELEMENT(A), HAQBYLUR_ELEMENT(B), HAQBYLUR_ELEMENT(F), HAQBYLUR_ELEMENT(D),
     HAQBYLUR_ELEMENT(G), HAQBYLUR_ELEMENT(H), HAQBYLUR_ELEMENT(F)};
-static uint32_t image[2 * HAQBYLUR_MOST_COMPILED_WORDS];
+static uint32_t image[2 * HAQBYLUR_MOST_TABLE_WORDS];
 static uint32_t marks[HAQBYLUR_MARK_WORDS(LENGTH(chapter), HAQBYLUR_MOST_STATES)];
 static uint32_t list[LENGTH(chapter)];
 
@@ -108,5 +116,16 @@ int main(void)
     if (status != HAQBYLUR_HAS_HOLE)
         return 1;
     printf("with holes run refused %u\n", (unsigned)status);
+
+    /* Anything may stand in two places of a rule. */
+    status = haqbylur_compile(alphabet, LENGTH(alphabet), pattern, LENGTH(pattern), image, LENGTH(image), &words);
+    if (status != HAQBYLUR_ACCEPTED)
+        return 1;
+    printf("anything words %u\n", (unsigned)words);
+    status = haqbylur_run(alphabet, LENGTH(alphabet), image, LENGTH(image), subject, LENGTH(subject), marks, LENGTH(marks), &elements,
+                          &cells);
+    if (status != HAQBYLUR_ACCEPTED)
+        return 1;
+    print_hits("anything", image, elements);
     return 0;
 }

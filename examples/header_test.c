@@ -14,7 +14,8 @@ HOLDS(unsigned_size, HAQBYLUR_MARK_WORDS(0, 0) - 1 > 0);
 /* the head of the source's table, and the largest */
 HOLDS(source, HAQBYLUR_STATE_COUNT(0x80007418) == 29);
 HOLDS(most, HAQBYLUR_STATE_COUNT(0x80000000 | 0x100000 | 0x3ff) == HAQBYLUR_MOST_STATES);
-/* the length word of the source's table, of the largest compiled table and of the largest, and other words in its place */
+/* the length word of the source's table, of the largest table of a rule without anything and of the largest, and other words in its
+ * place */
 HOLDS(source_words, HAQBYLUR_TABLE_WORDS(0xc0000025) == 37);
 HOLDS(compiled_words, HAQBYLUR_TABLE_WORDS(0xc000047c) == HAQBYLUR_MOST_COMPILED_WORDS);
 HOLDS(table_words, HAQBYLUR_TABLE_WORDS(0xc0000000 | 0x800) / 2 == HAQBYLUR_MOST_TABLE_WORDS / 2);
@@ -27,6 +28,10 @@ HOLDS(too_high, HAQBYLUR_TOO_HIGH == 24 && sizeof HAQBYLUR_TOO_HIGH == sizeof HA
 HOLDS(hole_bit, HAQBYLUR_HOLE_BIT == 1 << 8 && (HAQBYLUR_HOLE_BIT & 0xff) == 0);
 HOLDS(hole_entry, HAQBYLUR_HOLE_ENTRY == 0x10000100 && HAQBYLUR_HOLE_ENTRY / 2 == 0x08000080 && sizeof HAQBYLUR_HOLE_ENTRY == 4);
 HOLDS(has_hole, HAQBYLUR_HAS_HOLE == 26 && sizeof HAQBYLUR_HAS_HOLE == sizeof HAQBYLUR_ACCEPTED);
+/* document 02's rule word for every tree, of kind 14 with no other bit, and the refusal of a table over the most words */
+HOLDS(anything, HAQBYLUR_ANYTHING == 0xe0000000 && HAQBYLUR_ANYTHING / 2 == 0x70000000 && sizeof HAQBYLUR_ANYTHING == 4);
+HOLDS(too_many_words, HAQBYLUR_TOO_MANY_WORDS == 25 && sizeof HAQBYLUR_TOO_MANY_WORDS == sizeof HAQBYLUR_ACCEPTED);
+HOLDS(compiled_below_table_words, HAQBYLUR_MOST_COMPILED_WORDS < HAQBYLUR_MOST_TABLE_WORDS);
 /* the words of document 01's kinds 1 to 7 */
 HOLDS(entry, HAQBYLUR_ENTRY(4) == 0x10000004 && HAQBYLUR_ENTRY(HAQBYLUR_MOST_RANK) / 2 == 0x08000002);
 HOLDS(symbol, HAQBYLUR_SYMBOL(63) == 0x2000003f && HAQBYLUR_SYMBOL(1 ? 2 : 3) == 0x20000002);

@@ -13,9 +13,10 @@
 #include <stddef.h>
 #include <stdint.h>
 
-/* The most that documents 01 and 02 allow. No table that haqbylur_compile writes is longer than HAQBYLUR_MOST_COMPILED_WORDS; the
- * other functions take tables of up to HAQBYLUR_MOST_TABLE_WORDS, in slices that may be longer. A lone element has height 1, any
- * other one more than its highest part; a chapter's height is its root's. */
+/* The most that documents 01 and 02 allow. A table that haqbylur_compile writes has at most HAQBYLUR_MOST_COMPILED_WORDS where the rule
+ * has no HAQBYLUR_ANYTHING, and at most HAQBYLUR_MOST_TABLE_WORDS where it has one. The other functions take tables of up to
+ * HAQBYLUR_MOST_TABLE_WORDS, in slices that may be longer. A lone element has height 1, any other one more than its highest part; a
+ * chapter's height is its root's. */
 #define HAQBYLUR_MOST_SYMBOLS 64u
 #define HAQBYLUR_MOST_CONSTANTS 16u
 #define HAQBYLUR_MOST_RANK 4u
@@ -45,6 +46,7 @@
 #define HAQBYLUR_NO_REPLACEMENT 15u  /* 0 or over 4,096 words, or no tree over the alphabet */
 #define HAQBYLUR_RESULT_TOO_LONG 16u /* the result is over 4,096 elements, the chapter slice or the marks slice */
 #define HAQBYLUR_TOO_HIGH 24u        /* the chapter, or the result of an exchange, is over 512 high */
+#define HAQBYLUR_TOO_MANY_WORDS 25u  /* over 2,048 table words, the length word among them */
 #define HAQBYLUR_HAS_HOLE 26u        /* a hole in the chapter or in the replacement */
 
 /* The words of an alphabet and of a chapter: a symbol with so many parts (its rank); an element with this symbol. A symbol's
@@ -60,12 +62,14 @@
 #define HAQBYLUR_HOLE_ENTRY (HAQBYLUR_ENTRY(0) | HAQBYLUR_HOLE_BIT)
 
 /* The words of a rule, in the same order (docs/RULES.md): a symbol, which takes as many rules as its rank; the empty language; the
- * union of two; the product of two and the closure of one over c, which is a constant, and where the alphabet has a hole, a hole. */
+ * union of two; the product of two and the closure of one over c, which is a constant, and where the alphabet has a hole, a hole; the
+ * language of all trees over the alphabet, those with holes too. */
 #define HAQBYLUR_SYMBOL(symbol) (0x20000000u + (uint32_t)(symbol))
 #define HAQBYLUR_EMPTY 0x30000000u
 #define HAQBYLUR_UNION 0x40000000u
 #define HAQBYLUR_PRODUCT(c) (0x50000000u + (uint32_t)(c))
 #define HAQBYLUR_CLOSURE(c) (0x60000000u + (uint32_t)(c))
+#define HAQBYLUR_ANYTHING 0xe0000000u
 
 /* A table begins with its head, which has the state count, and its length word, which has the table's word count, these two words
  * included; haqbylur_compile writes both. The other functions take a slice that begins with a table. They use as many of its words as
@@ -87,7 +91,9 @@ extern "C" {
 #endif
 
 /* Turns an alphabet and a rule into a table, and leaves the words of the slice behind the table as they are. The slice may then be
- * given to the other functions as it is. words: the table's word count, as in its length word. Refusals 1 to 7. */
+ * given to the other functions as it is. words: the table's word count, as in its length word. Refusals 1 to 6, 25, 7. No rule is
+ * refused with 7 where the slice has HAQBYLUR_MOST_TABLE_WORDS words. One without HAQBYLUR_ANYTHING is never refused with 25, and not
+ * with 7 where the slice has HAQBYLUR_MOST_COMPILED_WORDS words. */
 uint32_t haqbylur_compile(
     const uint32_t *alphabet, size_t alphabet_length,
     const uint32_t *rule, size_t rule_length,
