@@ -11,8 +11,8 @@ use Rattle.words.specs.Postfix.{arity, spanOf}
 use Rattle.words.proofs.PostfixLaws.{start-le, splice-count}
 use Rattle.operations.specs.Marks.{sizeOf, refit}
 use Rattle.operations.specs.ExchangeCall.{ExchangeCall}
-use Rattle.operations.specs.Exchange.{used, fault, newTree}
-use Rattle.operations.proofs.AcceptedLaws.{CallAccepted, accepted-run, call-accepted}
+use Rattle.operations.specs.Exchange.{used, wordsFault, newTree}
+use Rattle.operations.proofs.AcceptedLaws.{CallAccepted, accepted-run, words-accepted}
 use Rattle.operations.proofs.ResultLaws.{result-accepted}
 use Rattle.nodes.specs.Nodes.{Workable}
 use Rattle.nodes.proofs.WorkableLaws.{workable-long}
@@ -57,9 +57,9 @@ pub record CallNumbers (c : ExchangeCall) (s size : ℕ) : Type 0 where
   pub old-fits : c .count * size ≤ length (c .marks)
   pub new-fits : totalCount c s * size ≤ length (c .marks)
 
-module _ (c : ExchangeCall) (ok : fault c ≡ 0) where
+module _ (c : ExchangeCall) (ok : wordsFault c ≡ 0) where
   abbrev g : CallAccepted c
-  g = call-accepted c ok
+  g = words-accepted c ok
 
   pub length-used : length (used c) ≡ c .count
   length-used = length-take-le (c .count) (c .chapter) (g .count .within)

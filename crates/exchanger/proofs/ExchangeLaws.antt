@@ -19,9 +19,9 @@ use Rattle.words.proofs.HoldingLaws.{holding-first}
 use Rattle.automaton.specs.StateSet.{StateSet}
 use Rattle.operations.specs.Marks.{sizeOf, storedSet, sameWords, refit}
 use Rattle.operations.specs.ExchangeCall.{ExchangeCall}
-use Rattle.operations.specs.Exchange.{setIn, recomputedIn, used, fault, newTree, storedIn, outcomes}
+use Rattle.operations.specs.Exchange.{setIn, recomputedIn, used, wordsFault, newTree, storedIn, outcomes, newChapter, newMarks}
 use Rattle.operations.specs.Recomputation.{startIn}
-use Rattle.operations.proofs.AcceptedLaws.{call-accepted}
+use Rattle.operations.proofs.AcceptedLaws.{words-accepted}
 use Rattle.operations.proofs.MarksLaws.{length-flatten, take-refit}
 use Rattle.operations.proofs.FromChildren.{follows-length, follows-outcomes}
 use Rattle.nodes.specs.Nodes.{setFrom, markedFrom}
@@ -43,10 +43,10 @@ use Rattle.exchanger.proofs.MovedLaws.{gapSets, behindUse}
 
 -- the marks at exit, and the number worked out
 pub record ExchangeLeft (c : ExchangeCall) (marks′ : List ℕ) (count : ℕ) : Type 0 where
-  pub words : marks′ ≡ refit (c .count * sizeOf (c .table)) (flatten (map setIn (outcomes c))) (c .marks)
+  pub words : marks′ ≡ newMarks c
   pub count-is : count ≡ recomputedIn (outcomes c)
 
-module _ (c : ExchangeCall) (ok : fault c ≡ 0) where
+module _ (c : ExchangeCall) (ok : wordsFault c ≡ 0) where
   abbrev a : List ℕ
   a = c .alphabet
 
@@ -91,7 +91,7 @@ module _ (c : ExchangeCall) (ok : fault c ≡ 0) where
   facts = call-numbers c ok s refl size refl
 
   he : element < length ch
-  he = rw (length-used c ok) (call-accepted c ok .change .element)
+  he = rw (length-used c ok) (words-accepted c ok .change .element)
 
   abbrev replaced : ℕ → List StateSet
   replaced = replacedSets a table stored ch element xs gap
@@ -109,7 +109,7 @@ module _ (c : ExchangeCall) (ok : fault c ≡ 0) where
 
   length-moved : length (movedSets a table stored ch element xs gap) ≡ length tree
   length-moved =
-      let g = call-accepted c ok in
+      let g = words-accepted c ok in
       let shape = g .change .replacement .tree .shape in
       let some = g .change .replacement .counted .some in
       length-movedSets a table stored ch element xs gap he shape some length-gap ∙ sym (length-splice (arity a) ch element xs he)
@@ -195,7 +195,7 @@ module _ (c : ExchangeCall) (ok : fault c ≡ 0) where
         → Same a table tree ch element rest above
         (propagateFrom a table tree (suc (s + m)) left work t) (propagateSets a table tree above (s + length xs) left rows (length xs))
     behind t r e =
-        let g = call-accepted c ok in
+        let g = words-accepted c ok in
         let at : PropagatingSets a table tree ch element rest above (s + length xs) (element + 1) 0 left work rows = record {
           words =
               λ t. sym (getD-drop (s + length xs) tree t 0)
@@ -270,9 +270,9 @@ module _ (c : ExchangeCall) (ok : fault c ≡ 0) where
         ≡ updatedFrom a table tree (startIn c)
         (startIn c + length xs - 1) moved
         → ExchangeLeft c marks′ count
-    unfolding outcomes newTree refit
+    unfolding outcomes newTree newMarks refit
     left-outcomes marks′ count q =
-        let g = call-accepted c ok in
+        let g = words-accepted c ok in
         let os = outcomes c in
         let same : Same a table tree ch element rest above (marks′, count) (map setIn os, recomputedIn os) =
         rw (
@@ -294,14 +294,14 @@ module _ (c : ExchangeCall) (ok : fault c ≡ 0) where
 
 -- ---- the chapter
 
-module _ (c : ExchangeCall) (ok : fault c ≡ 0) where
+module _ (c : ExchangeCall) (ok : wordsFault c ≡ 0) where
   abbrev place : ℕ
   place = startIn c
 
   pub chapter-left : (moved filled : List ℕ) → moved ≡ movedChapter c (startIn c)
       → filled ≡ paste moved (startIn c) (c .replacement) (length (c .replacement))
-      → filled ≡ refit (c .count) (newTree c) (c .chapter)
-  unfolding newTree spliceBy
+      → filled ≡ newChapter c
+  unfolding newTree newChapter spliceBy
   chapter-left moved filled p q =
       let g = call-numbers c ok place refl (sizeOf (c .table)) refl in
       let low = g .low in
@@ -314,8 +314,8 @@ module _ (c : ExchangeCall) (ok : fault c ≡ 0) where
       ∙ ap (λ (l : List ℕ). refit (c .count) (l ++ (xs ++ tail)) (c .chapter)) (sym (take-take place (c .count) (c .chapter) (omega arith)))
 
   -- the new tree's words are those in use
-  pub nodes-left : (filled : List ℕ) → filled ≡ refit (c .count) (newTree c) (c .chapter)
-      → take (totalCount c (startIn c)) filled ≡ newTree c
+  pub nodes-left : (filled : List ℕ) → filled ≡ newChapter c → take (totalCount c (startIn c)) filled ≡ newTree c
+  unfolding newChapter
   nodes-left filled p =
       let g = call-numbers c ok place refl (sizeOf (c .table)) refl in
       ap₂ take (g .total) p ∙ take-refit (c .count) (newTree c) (c .chapter)

@@ -7,3 +7,4 @@ pub mod MovedLaws
 pub mod ExchangeLaws
 pub mod ReplaceLaws
 pub mod ExchangeAnswerLaws
+pub mod CountedLaws

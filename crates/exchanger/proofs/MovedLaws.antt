@@ -14,7 +14,7 @@ use Rattle.words.proofs.ScanLaws.{take-drop}
 use Rattle.automaton.specs.StateSet.{StateSet}
 use Rattle.operations.specs.Marks.{sizeOf, refit}
 use Rattle.operations.specs.ExchangeCall.{ExchangeCall}
-use Rattle.operations.specs.Exchange.{used, fault, storedIn}
+use Rattle.operations.specs.Exchange.{used, wordsFault, storedIn}
 use Rattle.operations.specs.Recomputation.{startIn}
 use Rattle.operations.proofs.MarksLaws.{Sized, sized-append}
 use Rattle.sets.proofs.RowLaws.{sized-stored, flatten-stored}
@@ -33,7 +33,7 @@ flatten-append (r ∷ l) k = ap (λ (t : List ℕ). r ++ t) (flatten-append l k)
 abbrev pub behindUse : ℕ → ℕ → List ℕ → List ℕ
 behindUse old new slice = replicate (old - new) 0 ++ drop (max old new) slice
 
-module _ (c : ExchangeCall) (ok : fault c ≡ 0) where
+module _ (c : ExchangeCall) (ok : wordsFault c ≡ 0) where
   abbrev size : ℕ
   size = sizeOf (c .table)
 

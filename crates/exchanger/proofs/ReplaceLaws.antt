@@ -6,16 +6,16 @@ use Prim.Native.Nat.{ℕ}
 use native.Mathlib.Omega.{arith}
 use lib.ListN.{length, take}
 use lib.Seq.{paste}
-use Rattle.operations.specs.Marks.{sizeOf, refit}
+use Rattle.operations.specs.Marks.{sizeOf}
 use Rattle.operations.specs.ExchangeCall.{ExchangeCall}
-use Rattle.operations.specs.Exchange.{fault, newTree}
+use Rattle.operations.specs.Exchange.{wordsFault, newTree, newChapter}
 use Rattle.operations.specs.Recomputation.{startIn}
 use Rattle.updates.specs.Updating.{updatedFrom, Updatable}
 use Rattle.exchanger.proofs.CallNumberLaws.{rootAt, totalCount, movedChapter, movedMarks, CallNumbers, call-numbers, result-workable}
 use Rattle.exchanger.proofs.MovedLaws.{moved-holds}
 use Rattle.exchanger.proofs.ExchangeLaws.{ExchangeLeft, left-outcomes, chapter-left, nodes-left}
 
-module _ (c : ExchangeCall) (ok : fault c ≡ 0) (s : ℕ) (qs : s ≡ startIn c) (size : ℕ) (qz : size ≡ sizeOf (c .table)) where
+module _ (c : ExchangeCall) (ok : wordsFault c ≡ 0) (s : ℕ) (qs : s ≡ startIn c) (size : ℕ) (qz : size ≡ sizeOf (c .table)) where
   facts : CallNumbers c s size
   facts = call-numbers c ok s qs size qz
 
@@ -23,7 +23,7 @@ module _ (c : ExchangeCall) (ok : fault c ≡ 0) (s : ℕ) (qs : s ≡ startIn c
 
   module _ (moved filled : List ℕ) (p : moved ≡ movedChapter c s)
       (q : filled ≡ paste moved s (c .replacement) (length (c .replacement))) where
-    pub chapter-exit : filled ≡ refit (c .count) (newTree c) (c .chapter)
+    pub chapter-exit : filled ≡ newChapter c
     chapter-exit =
         chapter-left c ok moved filled (p ∙ ap (movedChapter c) qs)
         (q ∙ ap (λ (i : ℕ). paste moved i (c .replacement) (length (c .replacement))) qs)

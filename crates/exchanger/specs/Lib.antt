@@ -1,3 +1,2 @@
 pub mod Tail
-pub mod Replaceable
 pub mod ExchangeAnswer

@@ -1,18 +1,19 @@
 // An accepted Exchange: an element's subtree gives way to a replacement. The words and the marks behind it move, the
 // replacement's nodes are worked out, and then ancestors, nearest first; no other node is.
 ghost use mathlib.Core.Path.{_≡_};
+ghost use Rattle.words.specs.Answer.{accepted};
 ghost use Rattle.operations.specs.ExchangeCall.{exchangeCall};
-ghost use Rattle.operations.specs.Exchange.{exchangeAnswer, exchangeChapter, exchangeMarks};
+ghost use Rattle.operations.specs.Exchange.{exchangeValues, newChapter, newMarks};
+ghost use Rattle.totals.specs.Replaceable.{Replaceable};
 ghost use Rattle.exchanger.specs.ExchangeAnswer.{answerInExchanged};
-ghost use Rattle.exchanger.specs.Replaceable.{Replaceable};
 use super::Exchanged;
 use super::tail::move_tail;
 use slices::moves::copy_words;
 use tables::head::set_size;
 use updates::update_marks;
 
-// An accepted call; the element's subtree begins at `start`. The old element's words move to the place of the replacement's root, which
-// is then compared with them.
+// A call that is not refused; the element's subtree begins at `start`. The old element's words move to the place of the replacement's root,
+// which is then compared with them.
 pub(crate) fn replace_subtree(
     alphabet: &[u32],
     table: &[u32],
@@ -26,19 +27,20 @@ pub(crate) fn replace_subtree(
     requires { ⌜ Replaceable (exchangeCall (now alphabet) (now table) (now chapter) (now marks) count element (now replacement)) start ⌝ }
     ensures answer { λ r. ⌜
         answerInExchanged r
-        ≡ exchangeAnswer
+        ≡ accepted
+        (exchangeValues
         (exchangeCall (now (alphabet .entry)) (now (table .entry)) (now (chapter .entry)) (now (marks .entry)) count element
-        (now (replacement .entry)))
+        (now (replacement .entry))))
         ⌝ }
     ensures chapter { λ _. ⌜
         now (chapter .exit)
-        ≡ exchangeChapter
+        ≡ newChapter
         (exchangeCall (now (alphabet .entry)) (now (table .entry)) (now (chapter .entry)) (now (marks .entry)) count element
         (now (replacement .entry)))
         ⌝ }
     ensures marks { λ _. ⌜
         now (marks .exit)
-        ≡ exchangeMarks
+        ≡ newMarks
         (exchangeCall (now (alphabet .entry)) (now (table .entry)) (now (chapter .entry)) (now (marks .entry)) count element
         (now (replacement .entry)))
         ⌝ }

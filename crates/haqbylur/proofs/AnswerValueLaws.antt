@@ -5,6 +5,7 @@ use Prim.Native.Nat.{ℕ, _<_}
 use Rattle.words.specs.Word.{wordRange}
 use Rattle.operations.specs.Compile.{compileAnswer}
 use Rattle.operations.specs.Run.{runAnswer}
+use Rattle.operations.specs.Totals.{Totals}
 use Rattle.operations.specs.Listing.{listAnswer}
 use Rattle.operations.specs.ExchangeCall.{ExchangeCall}
 use Rattle.operations.specs.Exchange.{exchangeAnswer}
@@ -32,6 +33,6 @@ pub list-small : (a table : List ℕ) (n : ℕ) (marks list : List ℕ) {k : ℕ
     → answerInListed r ≡ listAnswer a table n marks list → k < wordRange
 list-small a table n marks list r told answer = list-value a table n marks list (rw told at answer)
 
-pub exchange-small : (c : ExchangeCall) {count worked : ℕ} (r : Exchanged) → r ≡ Replaced count worked
-    → answerInExchanged r ≡ exchangeAnswer c → (count < wordRange) × (worked < wordRange)
-exchange-small c r told answer = exchange-values c (rw told at answer)
+pub exchange-small : (c : ExchangeCall) (t : Totals) {count worked : ℕ} (r : Exchanged) → r ≡ Replaced count worked
+    → answerInExchanged r ≡ exchangeAnswer c t → (count < wordRange) × (worked < wordRange)
+exchange-small c t r told answer = exchange-values c t (rw told at answer)

@@ -1,11 +1,12 @@
--- Run's accepted calls: what its parts ask, and that the marks and the cells are those of the definition.
-use mathlib.Core.Path.{_≡_, refl, ap, ap₂, _∙_}
+-- Run's accepted calls: what its parts ask, and that the marks and the totals are those of the definition.
+use mathlib.Core.Path.{_≡_, refl, ap, ap₂, _∙_, sym}
 use mathlib.Core.List.{List, [], _∷_, _++_, flatten, append-nil}
 use Prim.Native.Nat.{ℕ, _+_, _-_, _*_, _≤_}
 use native.Mathlib.Omega.{arith}
 use native.Mathlib.Nat.{zero-add}
 use lib.ListN.{length, take, drop, drop-of-length-le}
-use lib.Seq.{length-take-le, take-length}
+use lib.Seq.{take-length}
+use borrow.Author.Tests.{ne-eqb}
 use Rattle.words.specs.Lists.{listFrom}
 use Rattle.words.specs.Shape.{stackGivenBy}
 use Rattle.words.specs.Postfix.{values}
@@ -14,10 +15,11 @@ use Rattle.words.proofs.ListLaws.{length-listFrom}
 use Rattle.words.proofs.AnswerLaws.{answer-refused, answer-accepted, exit-refused, exit-accepted}
 use Rattle.automaton.specs.StateSet.{StateSet}
 use Rattle.operations.specs.Marks.{sizeOf, nodeSet, nodeSets, storedSet}
-use Rattle.operations.specs.Run.{runFault, runMarks, cellsIn, runAnswer, runExit}
+use Rattle.operations.specs.Run.{runFault, runMarks, runAnswer, runExit}
+use Rattle.operations.specs.Totals.{Totals, totalsOf, runTotals}
+use Rattle.operations.proofs.MarksLaws.{stored-nodeSets}
 use Rattle.operations.proofs.RunLaws.{run-writes, run-length}
-use Rattle.sets.specs.Size.{marksMost}
-use Rattle.sets.proofs.SizeLaws.{words-few}
+use Rattle.totals.specs.Countable.{Countable}
 use Rattle.nodes.specs.Nodes.{markedFrom, Workable}
 use Rattle.nodes.proofs.LoopLaws.{Recomputing}
 use Rattle.nodes.proofs.MarkedSets.{markedSets, markedSets-recomputing}
@@ -69,33 +71,40 @@ module _ (a table ch marks : List ℕ) (h : runFault a table ch (length marks) �
     pub run-left : marks′ ≡ runMarks a table ch marks
     run-left = tree-marked a table ch marks marks′ count e ∙ marked-run a table ch marks (workable-marks workable)
 
-    module _ (size : ℕ) (s : size ≡ sizeOf table) where
-      pub run-fits : length ch * size ≤ length marks′
-      run-fits = rw (run-left, run-length a table ch marks (workable-marks workable), s) (workable-marks workable)
+    run-fits : length ch * sizeOf table ≤ length marks′
+    run-fits = rw (run-left, run-length a table ch marks (workable-marks workable)) (workable-marks workable)
 
-      pub run-few : length ch * size ≤ marksMost
-      run-few = words-few (length ch) size (bounded-tree workable .few) (rw s (workable-size workable))
+    pub run-countable : Countable (length marks′) (sizeOf table) 0 (length ch)
+    run-countable = record {
+      order = omega arith;
+      few = bounded-tree workable .few;
+      small = workable-size workable;
+      inside = run-fits;
+    }
 
-      pub run-part : length (take (length ch * size) marks′) ≡ length ch * size
-      run-part = length-take-le (length ch * size) marks′ run-fits
+    pub run-totals : (t : Totals) → t ≡ totalsOf table (listFrom (storedSet (sizeOf table) marks′) 0 (length ch - 0))
+        → t ≡ totalsOf table (nodeSets a table ch)
+    run-totals t q =
+        let all : length ch - 0 ≡ length ch = omega arith in
+        let written : take (length ch * sizeOf table) marks′ ≡ flatten (nodeSets a table ch) =
+        ap (take (length ch * sizeOf table)) run-left ∙ run-writes a table ch marks in
+        q ∙ ap (λ (n : ℕ). totalsOf table (listFrom (storedSet (sizeOf table) marks′) 0 n)) all
+        ∙ ap (totalsOf table) (stored-nodeSets a table ch marks′ written)
 
-      pub run-cells : (r : ℕ) → r ≡ cellsIn (take (length ch * size) marks′) → r ≡ cellsIn (flatten (nodeSets a table ch))
-      run-cells r q =
-          q ∙ ap (λ (n : ℕ). cellsIn (take (length ch * n) marks′)) s
-          ∙ ap (λ (m : List ℕ). cellsIn (take (length ch * sizeOf table) m)) run-left ∙ ap cellsIn (run-writes a table ch marks)
+-- ---- the answer, the marks and the record at exit
 
--- ---- the answer and the marks at exit
+module _ (a table ch marks : List ℕ) (before : Totals) (f : ℕ) (e : f ≡ runFault a table ch (length marks)) where
+  pub run-refused : (f ≡ 0 → ⊥)
+      → (refused f ≡ runAnswer a table ch marks) × ((marks ≡ runExit a table ch marks) × (before ≡ runTotals a table ch marks before))
+  unfolding runAnswer runExit runTotals
+  run-refused h = (answer-refused e _ h, (exit-refused e _ marks h, sym (rw (← e, ne-eqb f 0 h))))
 
-module _ (a table ch marks : List ℕ) (f : ℕ) (e : f ≡ runFault a table ch (length marks)) where
-  pub run-refused : (f ≡ 0 → ⊥) → (refused f ≡ runAnswer a table ch marks) × (marks ≡ runExit a table ch marks)
-  unfolding runAnswer runExit
-  run-refused h = (answer-refused e _ h, exit-refused e _ marks h)
-
-  pub run-accepts : f ≡ 0 → (cells : ℕ) (marks′ : List ℕ) → cells ≡ cellsIn (flatten (nodeSets a table ch))
+  pub run-accepts : f ≡ 0 → (totals : Totals) (marks′ : List ℕ) → totals ≡ totalsOf table (nodeSets a table ch)
       → marks′ ≡ runMarks a table ch marks
-      → (accepted (length ch ∷ cells ∷ []) ≡ runAnswer a table ch marks) × (marks′ ≡ runExit a table ch marks)
-  unfolding runAnswer runExit
-  run-accepts h cells marks′ c m = (
-    ap (λ (n : ℕ). accepted (length ch ∷ n ∷ [])) c ∙ answer-accepted e _ h,
-    m ∙ exit-accepted e _ marks h,
+      → (accepted (length ch ∷ totals .cells ∷ []) ≡ runAnswer a table ch marks)
+      × ((marks′ ≡ runExit a table ch marks) × (totals ≡ runTotals a table ch marks before))
+  unfolding runAnswer runExit runTotals totalsOf
+  run-accepts h totals marks′ c m = (
+    ap (λ (t : Totals). accepted (length ch ∷ t .cells ∷ [])) c ∙ answer-accepted e _ h,
+    (m ∙ exit-accepted e _ marks h, c ∙ sym (rw (← e, h))),
   )

@@ -1,9 +1,9 @@
 -- What is known of a call that is not refused. A part that lists of refusals share has one record, and an operation's record is made
 -- of those of its parts and of what is its own; what 1 and 2, 3 to 5, and 10 and 11 say is in words (AcceptedAlphabet,
 -- AcceptedExpression, AcceptedTree).
-use mathlib.Core.Path.{_≡_, refl, ap, sym}
+use mathlib.Core.Path.{_≡_, refl, ap, _∙_, sym}
 use mathlib.Core.Bool.{true, false, not, _||_}
-use mathlib.Core.List.{List}
+use mathlib.Core.List.{List, [], _∷_}
 use Prim.Native.Nat.{ℕ, _*_, _≤_, _<_}
 use lib.ListN.{length}
 use lib.Dec.{ltb}
@@ -17,7 +17,8 @@ use Rattle.words.specs.Postfix.{splice}
 use Rattle.words.proofs.TestLaws.{or-false}
 use Rattle.words.proofs.LimitLaws.{Within, not-outside, is-within}
 use Rattle.words.proofs.RefusalLaws.{none, next, found-refusal, refusal-found, conditionOf, none-applies, none-refusal}
-use Rattle.words.proofs.RefusalLaws.{passes, part-passes, part-behind}
+use Rattle.words.proofs.RefusalLaws.{passes, part-passes, part-behind, refusal-none}
+use Rattle.words.proofs.RefusalLaws.{refusal-before, refusal-behind, refusal-last}
 use Rattle.words.proofs.AcceptedTree.{AcceptedTree, tree-accepted}
 use Rattle.automaton.specs.Table.{isTable, noTable}
 use Rattle.automaton.specs.Numbering.{compiled}
@@ -28,7 +29,9 @@ use Rattle.operations.specs.Run.{wrongCount, marksTooShort, tableRefusal
 use Rattle.operations.specs.Listing.{listTooShort, listRefusals, listFault}
 use Rattle.operations.specs.ExchangeCall.{ExchangeCall}
 use Rattle.operations.specs.Exchange.{wrongUsedCount, noElement, noReplacement, resultTooLong, changeRefusals}
-use Rattle.operations.specs.Exchange.{exchangeRefusals, exchangeFault, used, fault}
+use Rattle.operations.specs.Exchange.{exchangeRefusals, exchangeFault, used, wordsRefusals, wordsFault}
+use Rattle.operations.specs.Exchange.{oldTotals, newTotals, refusalsOf, fault}
+use Rattle.operations.specs.Totals.{Totals, wrongTotals}
 
 -- ---- an alphabet and a rule
 
@@ -321,7 +324,40 @@ abbrev pub CallAccepted : ExchangeCall → Type 0
 CallAccepted c =
     ExchangeAccepted (c .alphabet) (c .table) (c .count) (used c) (length (c .chapter)) (length (c .marks)) (c .element) (c .replacement)
 
-pub call-accepted : (c : ExchangeCall) → fault c ≡ 0 → CallAccepted c
-unfolding fault
-call-accepted c h =
-    exchange-accepted (c .alphabet) (c .table) (c .count) (used c) (length (c .chapter)) (length (c .marks)) (c .element) (c .replacement) h
+module _ (c : ExchangeCall) where
+  pub words-accepted : wordsFault c ≡ 0 → CallAccepted c
+  unfolding wordsFault
+  words-accepted h =
+      exchange-accepted (c .alphabet) (c .table) (c .count) (used c) (length (c .chapter)) (length (c .marks)) (c .element)
+      (c .replacement) h
+
+  -- with the record t that it is lent
+  module _ (t : Totals) where
+    pub call-words : fault c t ≡ 0 → wordsFault c ≡ 0
+    unfolding fault wordsFault
+    call-words h = part-passes (refusalsOf c t) refl h (wordsRefusals c) refl
+
+    -- 27
+    pub call-totals : fault c t ≡ 0 → wrongTotals t (oldTotals c) (newTotals c) ≡ false
+    unfolding fault
+    call-totals h = none-applies (refusalsOf c t) refl h 27
+
+    pub call-accepted : fault c t ≡ 0 → CallAccepted c
+    call-accepted h = words-accepted (call-words h)
+
+    -- where 27 does not apply, the words decide
+    pub call-fault : wrongTotals t (oldTotals c) (newTotals c) ≡ false → fault c t ≡ wordsFault c
+    unfolding fault wordsFault
+    call-fault h = refusal-last (wordsRefusals c) 27 (wrongTotals t (oldTotals c) (newTotals c)) h
+
+    -- and where they are refused
+    pub words-first : (wordsFault c ≡ 0 → ⊥) → fault c t ≡ wordsFault c
+    unfolding fault wordsFault
+    words-first h = refusal-before (wordsRefusals c) ((27, wrongTotals t (oldTotals c) (newTotals c)) ∷ []) h
+
+    -- otherwise 27 is left
+    pub totals-last : wordsFault c ≡ 0 → wrongTotals t (oldTotals c) (newTotals c) ≡ true → fault c t ≡ 27
+    unfolding fault wordsFault
+    totals-last h w =
+        refusal-behind (wordsRefusals c) ((27, wrongTotals t (oldTotals c) (newTotals c)) ∷ []) (refusal-none (wordsRefusals c) refl h)
+        ∙ rw w

@@ -2,42 +2,46 @@
 -- one table of rows, one theorem.
 use Prim.Native.Nat.{ℕ}
 use mathlib.Core.Path.{_≡_, refl}
-use mathlib.Core.List.{List, [], _∷_, _++_, map}
+use mathlib.Core.List.{List, [], _∷_, _++_, map, flatten}
 use lib.ListN.{replicate}
+use lib.Count.{ones, onesIn}
 use Rattle.words.specs.Word.{kindAt, spareBitsClear, isOf}
 use Rattle.words.specs.Alphabet.{marksHole, isEntry, rankOf, isConstant, isHole, hasHoles, mayName, constantsFrom, constantsOf}
 use Rattle.words.specs.Alphabet.{noAlphabet, wrongConstants}
 use Rattle.words.specs.Lists.{highest}
-use Rattle.words.specs.Shape.{treesBy, valueOnBy, stackAfterBy, heightOver, heightOfBy, startFromBy, spliceBy}
+use Rattle.words.specs.Shape.{treesBy, valueOnBy, valuesBy, stackAfterBy, heightOver, heightOfBy, startFromBy, isAncestorBy, spliceBy}
+use Rattle.words.specs.Shape.{stackGivenBy}
 use Rattle.words.specs.Postfix.{arity, notOneTree}
 use Rattle.words.specs.ExpressionWords.{isExpressionWord, wrongLength, notExpressionWords}
 use Rattle.words.specs.Chapter.{isNode, notNodes, tooHigh, holesIn}
 use Rattle.words.specs.Answer.{Answer, refused}
-use Rattle.automaton.specs.Transition.{automatonOf}
+use Rattle.automaton.specs.Transition.{transitionsAt, automatonOf}
 use Rattle.automaton.specs.Numbering.{hasEntries, statesOf, portOf, everySymbol, ownTransitions, portsFrom, statesAfter}
 use Rattle.automaton.specs.Numbering.{transitionsFrom, compiled}
 use Rattle.automaton.specs.Table.{tableWordCount, tableIn, isHead, isTableWord, sourcesLeft, areTransitions, isTable, noTable}
-use Rattle.automaton.specs.StateSet.{sizeFor}
+use Rattle.automaton.specs.StateSet.{sizeFor, contains, insert, allContained, symbolPass, epsilonPass, epsilonClosure, stateSet}
 use Rattle.automaton.proofs.LargestRules.{overLimit, wide, fullTable, overTable}
 use Rattle.operations.specs.Compile.{tooManyStates, tooManyWords, tableTooLong, compileAnswer}
-use Rattle.operations.specs.Marks.{sizeOf}
-use Rattle.operations.specs.Run.{wrongCount, marksTooShort, runAnswer}
-use Rattle.operations.specs.Listing.{listTooShort, listAnswer}
+use Rattle.operations.specs.Marks.{sizeOf, finalOf, nodeSet, nodeSets, storedSet, sameWords}
+use Rattle.operations.specs.Run.{wrongCount, marksTooShort, cellsIn, runAnswer}
+use Rattle.operations.specs.Listing.{listTooShort, matchesIn, listAnswer}
 use Rattle.operations.specs.ExchangeCall.{exchangeCall}
-use Rattle.operations.specs.Exchange.{wrongUsedCount, noElement, noReplacement, resultTooLong, fault, exchangeAnswer}
+use Rattle.operations.specs.Exchange.{wrongUsedCount, noElement, noReplacement, resultTooLong, propagate, rootSet}
+use Rattle.operations.specs.Exchange.{outcomesBehind, outcomesAfter, newTree, outcomes, oldTotals, newTotals, fault, exchangeAnswer}
+use Rattle.operations.specs.Totals.{Totals, totalsOf, outOfRange, wrongTotals}
 
 -- a call of an operation, with all that is lent
 pub data Called : Type 0 where
   compile : (a e slice : List ℕ) → Called
   run : (a tableSlice ch marks : List ℕ) → Called
   list : (a tableSlice : List ℕ) (n : ℕ) (marks slice : List ℕ) → Called
-  exchange : (a tableSlice ch marks : List ℕ) (n i : ℕ) (xs : List ℕ) → Called
+  exchange : (a tableSlice ch marks : List ℕ) (n i : ℕ) (xs : List ℕ) (t : Totals) → Called
 
 abbrev pub answerTo : Called → Answer
 answerTo (compile a e slice) = compileAnswer a e slice
 answerTo (run a tableSlice ch marks) = runAnswer a (tableIn tableSlice) ch marks
 answerTo (list a tableSlice n marks slice) = listAnswer a (tableIn tableSlice) n marks slice
-answerTo (exchange a tableSlice ch marks n i xs) = exchangeAnswer (exchangeCall a (tableIn tableSlice) ch marks n i xs)
+answerTo (exchange a tableSlice ch marks n i xs t) = exchangeAnswer (exchangeCall a (tableIn tableSlice) ch marks n i xs) t
 
 -- a constant 0 and a symbol 1 of rank 2; 16 constants
 abbrev two : List ℕ
@@ -73,6 +77,17 @@ pair = 0x7000_0001
 
 abbrev hole : ℕ
 hole = 0x7000_0002
+
+-- records of totals: none; as much as there may be of each, so that 27 applies wherever an exchange adds elements; of a chapter with as
+-- many elements, hits and cells
+abbrev nothing : Totals
+nothing = record { elements = 0; hits = 0; cells = 0 }
+
+abbrev full : Totals
+full = record { elements = 4194304; hits = 4194304; cells = 4194304 }
+
+abbrev of : ℕ → ℕ → ℕ → Totals
+of n m k = record { elements = n; hits = m; cells = k }
 
 -- a leaf and n nodes above it, over the alphabet `line`
 abbrev above : ℕ → List ℕ
@@ -143,34 +158,47 @@ calls =
     ∷ (9, list two longer 0 [] [])
     ∷ (12, list two one 1 [] [])
     ∷ (13, list two one 1 (0 ∷ []) [])
-    ∷ (1, exchange [] [] [] [] 0 0 [])
-    ∷ (2, exchange (0x1000_0004 ∷ []) [] [] [] 0 0 [])
-    ∷ (8, exchange two (0x8000_0401 ∷ 0xC000_0002 ∷ []) [] [] 0 0 [])
-    ∷ (9, exchange two one (0x6000_0000 ∷ []) [] 2 2 [])
-    ∷ (9, exchange two longer [] [] 0 0 [])
-    ∷ (10, exchange two one (0x6000_0000 ∷ []) [] 1 1 [])
-    ∷ (11, exchange two one (leaf ∷ leaf ∷ []) [] 2 2 [])
+    ∷ (1, exchange [] [] [] [] 0 0 [] full)
+    ∷ (2, exchange (0x1000_0004 ∷ []) [] [] [] 0 0 [] full)
+    ∷ (8, exchange two (0x8000_0401 ∷ 0xC000_0002 ∷ []) [] [] 0 0 [] full)
+    ∷ (9, exchange two one (0x6000_0000 ∷ []) [] 2 2 [] full)
+    ∷ (9, exchange two longer [] [] 0 0 [] full)
+    ∷ (10, exchange two one (0x6000_0000 ∷ []) [] 1 1 [] full)
+    ∷ (11, exchange two one (leaf ∷ leaf ∷ []) [] 2 2 [] full)
     -- a used chapter of height 513, where 12, 14 and 15 hold too, and where nothing else does: the result is a leaf
-    ∷ (24, exchange line one (above 512) [] 513 513 [])
-    ∷ (24, exchange line one (above 512) (replicate 513 0) 513 512 (leaf ∷ []))
+    ∷ (24, exchange line one (above 512) [] 513 513 [] full)
+    ∷ (24, exchange line one (above 512) (replicate 513 0) 513 512 (leaf ∷ []) full)
     -- the result is too high, too
-    ∷ (24, exchange line one (above 512 ++ 0 ∷ []) (replicate 514 0) 513 0 (above 1))
+    ∷ (24, exchange line one (above 512 ++ 0 ∷ []) (replicate 514 0) 513 0 (above 1) full)
     -- a hole in the used chapter, where 12 and 14 hold too, and where nothing else does; behind it, where it is not looked at
-    ∷ (26, exchange holed one (hole ∷ []) [] 1 1 [])
-    ∷ (26, exchange holed one (leaf ∷ hole ∷ pair ∷ []) (replicate 3 0) 3 1 (leaf ∷ []))
-    ∷ (14, exchange holed one (leaf ∷ hole ∷ []) (0 ∷ []) 1 1 (hole ∷ []))
-    ∷ (12, exchange line one (above 511) [] 512 0 (leaf ∷ []))
-    ∷ (12, exchange two one (leaf ∷ []) [] 1 1 [])
-    ∷ (14, exchange two one (leaf ∷ []) (0 ∷ []) 1 1 (leaf ∷ leaf ∷ []))
-    ∷ (15, exchange two one (leaf ∷ []) (0 ∷ []) 1 0 (leaf ∷ leaf ∷ []))
+    ∷ (26, exchange holed one (hole ∷ []) [] 1 1 [] full)
+    ∷ (26, exchange holed one (leaf ∷ hole ∷ pair ∷ []) (replicate 3 0) 3 1 (leaf ∷ []) full)
+    ∷ (14, exchange holed one (leaf ∷ hole ∷ []) (0 ∷ []) 1 1 (hole ∷ []) full)
+    ∷ (12, exchange line one (above 511) [] 512 0 (leaf ∷ []) full)
+    ∷ (12, exchange two one (leaf ∷ []) [] 1 1 [] full)
+    ∷ (14, exchange two one (leaf ∷ []) (0 ∷ []) 1 1 (leaf ∷ leaf ∷ []) full)
+    ∷ (15, exchange two one (leaf ∷ []) (0 ∷ []) 1 0 (leaf ∷ leaf ∷ []) full)
     -- a hole in the replacement, where 15 holds too; where 16 does; and where nothing else does
-    ∷ (15, exchange holed one (leaf ∷ []) (0 ∷ []) 1 0 (hole ∷ hole ∷ []))
-    ∷ (26, exchange holed one (leaf ∷ []) (0 ∷ []) 1 0 (leaf ∷ hole ∷ pair ∷ []))
-    ∷ (26, exchange holed one (leaf ∷ []) (0 ∷ []) 1 0 (hole ∷ []))
-    ∷ (16, exchange two one (leaf ∷ []) (0 ∷ []) 1 0 (leaf ∷ leaf ∷ pair ∷ []))
+    ∷ (15, exchange holed one (leaf ∷ []) (0 ∷ []) 1 0 (hole ∷ hole ∷ []) full)
+    ∷ (26, exchange holed one (leaf ∷ []) (0 ∷ []) 1 0 (leaf ∷ hole ∷ pair ∷ []) full)
+    ∷ (26, exchange holed one (leaf ∷ []) (0 ∷ []) 1 0 (hole ∷ []) full)
+    ∷ (16, exchange two one (leaf ∷ []) (0 ∷ []) 1 0 (leaf ∷ leaf ∷ pair ∷ []) full)
     -- a result of height 513 that is too long, too, and where nothing else holds
-    ∷ (16, exchange line one (above 511) (replicate 513 0) 512 0 (above 1))
-    ∷ (24, exchange line one (above 511 ++ 0 ∷ []) (replicate 513 0) 512 0 (above 1))
+    ∷ (16, exchange line one (above 511) (replicate 513 0) 512 0 (above 1) full)
+    ∷ (24, exchange line one (above 511 ++ 0 ∷ []) (replicate 513 0) 512 0 (above 1) full)
+    -- a total alone would come out of the exchange below zero, or above the figure: elements, hits, cells. A leaf with the mark of its
+    -- state, or with a stray mark beside it, gives way to a leaf that gets the state's mark; three elements give way to a leaf
+    ∷ (27, exchange two one (leaf ∷ leaf ∷ pair ∷ []) (0 ∷ 0 ∷ 0 ∷ []) 3 2 (leaf ∷ []) (of 1 0 0))
+    ∷ (27, exchange two one (leaf ∷ 0 ∷ 0 ∷ []) (1 ∷ 0 ∷ 0 ∷ []) 1 0 (leaf ∷ leaf ∷ pair ∷ []) (of 4194303 1 1))
+    ∷ (27, exchange two one (leaf ∷ leaf ∷ pair ∷ []) (1 ∷ 1 ∷ 0 ∷ []) 3 2 (leaf ∷ []) (of 3 0 2))
+    ∷ (27, exchange two one (leaf ∷ []) (0 ∷ []) 1 0 (leaf ∷ []) (of 1 4194304 0))
+    ∷ (27, exchange two one (leaf ∷ []) (3 ∷ []) 1 0 (leaf ∷ []) (of 1 1 0))
+    ∷ (27, exchange two one (leaf ∷ []) (0 ∷ []) 1 0 (leaf ∷ []) (of 1 0 4194304))
+    -- one that is above the figure, and stays there
+    ∷ (27, exchange two one (leaf ∷ []) (1 ∷ []) 1 0 (leaf ∷ []) (of 4194305 1 1))
+    -- 16, and 24 for the result, come before
+    ∷ (16, exchange two one (leaf ∷ leaf ∷ pair ∷ []) (0 ∷ 0 ∷ 0 ∷ []) 3 0 (leaf ∷ leaf ∷ pair ∷ []) nothing)
+    ∷ (24, exchange line one (above 511 ++ 0 ∷ []) (replicate 513 0) 512 0 (above 1) nothing)
     ∷ []
 
 -- each answers its number
@@ -182,5 +210,8 @@ unfolding kindAt spareBitsClear isOf marksHole isEntry rankOf isConstant isHole 
     portsFrom statesAfter transitionsFrom
     compiled tableWordCount tableIn isHead isTableWord sourcesLeft areTransitions isTable noTable sizeFor tooManyStates tooManyWords
     tableTooLong compileAnswer sizeOf wrongCount marksTooShort
-    runAnswer listTooShort listAnswer wrongUsedCount noElement noReplacement resultTooLong fault exchangeAnswer
+    runAnswer listTooShort listAnswer wrongUsedCount noElement noReplacement resultTooLong
+    flatten ones onesIn cellsIn contains insert allContained symbolPass epsilonPass epsilonClosure stateSet transitionsAt finalOf nodeSet
+    nodeSets valuesBy storedSet matchesIn isAncestorBy stackGivenBy sameWords propagate rootSet outcomesBehind outcomesAfter newTree
+    outcomes totalsOf outOfRange wrongTotals oldTotals newTotals fault exchangeAnswer
 attained = refl

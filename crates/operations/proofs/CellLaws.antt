@@ -1,21 +1,20 @@
 -- The ones in a list of words: of a list behind a list, and how many there are at most.
 use mathlib.Core.Path.{_≡_, ap, _∙_, sym}
 use mathlib.Core.List.{List, [], _∷_, _++_, flatten}
-use Prim.Native.Nat.{ℕ, _+_, _*_, _≤_}
+use Prim.Native.Nat.{ℕ, _+_, _*_, _<_, _≤_}
 use native.Mathlib.Omega.{arith}
-use native.Mathlib.Nat.{zero-add, add-assoc, suc-mul}
-use lib.ListN.{length, drop}
+use native.Mathlib.Nat.{zero-add, add-assoc}
+use lib.ListN.{length}
 use lib.Count.{ones, ones-le}
-use Rattle.words.specs.Shape.{valueOnBy, valuesBy}
-use Rattle.words.specs.Postfix.{arity, valueOn, values}
 use Rattle.words.specs.Word.{wordRange}
-use Rattle.words.specs.Lists.{AllBelow}
+use Rattle.words.specs.Lists.{All, AllBelow}
+use Rattle.words.proofs.AllLaws.{each-flatten}
 use Rattle.automaton.specs.StateSet.{StateSet}
 use Rattle.automaton.specs.Transition.{automatonOf}
 use Rattle.automaton.proofs.ClosureLaws.{words-stateSet}
 use Rattle.operations.specs.Marks.{sizeOf, nodeSet, nodeSets}
 use Rattle.operations.specs.Run.{cellsIn}
-use Rattle.operations.proofs.MarksLaws.{length-nodeSet}
+use Rattle.operations.proofs.MarksLaws.{Sized, each-nodeSets, sized-nodeSets, length-nodeSets, length-flatten}
 
 pub cells-append : (l k : List ℕ) → cellsIn (l ++ k) ≡ cellsIn l + cellsIn k
 unfolding cellsIn
@@ -31,23 +30,21 @@ cells-most (w ∷ ws) h =
     let rest = cells-most ws (h .1) in
     omega arith
 
+-- state sets of one size
+pub cells-sets : (size : ℕ) (rs : List StateSet) → Sized size rs → All (AllBelow wordRange) rs
+    → cellsIn (flatten rs) ≤ 32 * (length rs * size)
+cells-sets size rs h g =
+    let few = cells-most (flatten rs) (each-flatten (λ w. w < wordRange) rs g) in
+    omega (arith, length-flatten size rs h)
+
+pub words-nodeSet : (table : List ℕ) (w : ℕ) (rs : List StateSet) → AllBelow wordRange (nodeSet table w rs)
+unfolding nodeSet
+words-nodeSet table w rs = words-stateSet (automatonOf table) _ rs
+
 module _ (a table : List ℕ) where
-  words-nodeSet : (w : ℕ) (rs : List StateSet) → AllBelow wordRange (nodeSet table w rs)
-  unfolding nodeSet
-  words-nodeSet w rs = words-stateSet (automatonOf table) _ rs
-
-  cells-values : (ws : List ℕ) (stack : List StateSet)
-      → cellsIn (flatten (values a (nodeSet table) ws stack)) ≤ 32 * (length ws * sizeOf table)
-  unfolding valuesBy valueOnBy flatten cellsIn
-  cells-values [] stack = omega arith
-  cells-values (w ∷ ws) stack =
-      let set = valueOn a (nodeSet table) w stack in
-      let rest = cells-values ws (set ∷ drop (arity a w) stack) in
-      let here = cells-most set (words-nodeSet w _) in
-      let long : length set ≡ sizeOf table = length-nodeSet table w _ in
-      rw (cells-append set (flatten (values a (nodeSet table) ws (set ∷ drop (arity a w) stack))), suc-mul (length ws) (sizeOf table))
-      (omega arith)
-
   pub cells-nodeSets : (ch : List ℕ) → cellsIn (flatten (nodeSets a table ch)) ≤ 32 * (length ch * sizeOf table)
-  unfolding nodeSets
-  cells-nodeSets ch = cells-values ch []
+  cells-nodeSets ch =
+      let few =
+      cells-sets (sizeOf table) (nodeSets a table ch) (sized-nodeSets a table ch)
+      (each-nodeSets a table (AllBelow wordRange) (words-nodeSet table) ch) in
+      rw (← length-nodeSets a table ch) few

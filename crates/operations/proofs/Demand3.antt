@@ -9,26 +9,32 @@ use lib.ListN.{length, take}
 use lib.Dec.{eqb}
 use borrow.Author.Tests.{eqb-true}
 use Rattle.words.specs.Postfix.{splice}
-use Rattle.words.specs.Lists.{writtenOver}
-use Rattle.words.specs.Answer.{answerOf, exitOf}
+use Rattle.words.specs.Word.{wordRange}
+use Rattle.words.specs.Lists.{AllBelow, listFrom, writtenOver}
+use Rattle.words.specs.Answer.{answerOf, exitOf, refused}
 use Rattle.words.proofs.TestLaws.{Tested, holds, fails, tested}
 use Rattle.words.proofs.AcceptedTree.{tree-accepted}
-use Rattle.words.proofs.AnswerLaws.{accepted-values}
+use Rattle.words.proofs.RefusalLaws.{without-never}
+use Rattle.words.proofs.AnswerLaws.{accepted-values, refused-number}
 use Rattle.automaton.specs.StateSet.{StateSet}
 use Rattle.automaton.specs.Table.{tableIn}
 use Rattle.operations.specs.Marks.{sizeOf, nodeSets, storedSet, refit}
 use Rattle.operations.specs.Run.{runFault, runMarks, runAnswer, runExit, cellsIn}
 use Rattle.operations.specs.Listing.{matchesOf, listFault, listAnswer, listExit}
-use Rattle.operations.specs.Exchange.{setIn, outcomesAfter, exchangeFault, fault, newTree}
-use Rattle.operations.specs.Exchange.{outcomes, exchangeAnswer, exchangeChapter, exchangeMarks}
-use Rattle.operations.specs.History.{Call, Memory, callOn, exchange, exchanges, plain, plains}
+use Rattle.operations.specs.Totals.{totalsOf, movedTotals, runTotals}
+use Rattle.operations.specs.Exchange.{setIn, outcomesAfter, exchangeRefusals, exchangeFault, wordsFault, fault, newTree, storedIn}
+use Rattle.operations.specs.Exchange.{outcomes, newChapter, newMarks, oldTotals, newTotals}
+use Rattle.operations.specs.Exchange.{exchangeAnswer, exchangeChapter, exchangeMarks, exchangeTotals}
+use Rattle.operations.specs.History.{Call, Memory, callOn, answerAt, exchange, exchanges, NeverRefused, plain, plains}
 use Rattle.operations.specs.Demands.{Start, Fresh, Faithful, Demand3}
-use Rattle.operations.proofs.MarksLaws.{stored-right, take-refit, length-refit}
+use Rattle.operations.proofs.MarksLaws.{each-nodeSets, stored-nodeSets, stored-right, take-refit, length-refit}
 use Rattle.operations.proofs.RunLaws.{length-words, run-writes, run-length, run-exit, matches-nodeSets}
 use Rattle.operations.proofs.AcceptedLaws.{run-accepted, accepted-run}
 use Rattle.operations.proofs.ResultLaws.{result-accepted}
 use Rattle.operations.proofs.AcceptedLaws.{ResultFits, ExchangeAccepted, exchange-accepted}
 use Rattle.operations.proofs.OutcomeLaws.{outcomes-right}
+use Rattle.operations.proofs.CellLaws.{words-nodeSet}
+use Rattle.operations.proofs.TotalsLaws.{right-fault, right-moved}
 
 -- the memory s and the plain chapter p, over slices of these lengths
 pub record Related (a table : List ℕ) (chapterLength marksLength : ℕ) (p : List ℕ) (s : Memory) : Type 0 where
@@ -39,6 +45,8 @@ pub record Related (a table : List ℕ) (chapterLength marksLength : ℕ) (p : L
   -- Run accepts p, and the used marks are its state sets
   pub run : runFault a table p marksLength ≡ 0
   pub marks : take (length p * sizeOf table) (s .marks) ≡ flatten (nodeSets a table p)
+  -- and the record is right
+  pub totals : s .totals ≡ totalsOf table (nodeSets a table p)
 
 module _ (a table : List ℕ) (chapterLength marksLength : ℕ) where
   -- an accepted call with the plain chapter as the used elements
@@ -66,6 +74,7 @@ module _ (a table : List ℕ) (chapterLength marksLength : ℕ) where
       chapter = refit (s .count) tree (s .chapter);
       marks = refit (s .count * sizeOf table) (flatten sets) (s .marks);
       count = length tree;
+      totals = movedTotals (s .totals) (oldTotals (callOn a table s c)) (newTotals (callOn a table s c));
     }
 
     abbrev p′ : List ℕ
@@ -74,11 +83,26 @@ module _ (a table : List ℕ) (chapterLength marksLength : ℕ) where
     abbrev callFault : ℕ
     callFault = exchangeFault a table (length p) p chapterLength marksLength (c .element) (c .replacement)
 
-    -- the plain chapter is refused as the memory is
-    same-fault : fault (callOn a table s c) ≡ callFault
-    unfolding fault
+    -- the stored sets of the used elements
+    stored : listFrom (storedIn (callOn a table s c)) 0 (s .count) ≡ nodeSets a table p
+    stored = ap (listFrom (storedIn (callOn a table s c)) 0) (g .count) ∙ stored-nodeSets a table p (s .marks) (g .marks)
+
+    right : s .totals ≡ oldTotals (callOn a table s c)
+    unfolding oldTotals
+    right = g .totals ∙ sym (ap (totalsOf table) stored)
+
+    -- so 27 does not apply
+    words-decide : fault (callOn a table s c) (s .totals) ≡ wordsFault (callOn a table s c)
+    words-decide =
+        right-fault (callOn a table s c)
+        (rw stored (each-nodeSets a table (AllBelow wordRange) (words-nodeSet table) p)) (s .totals) right
+
+    -- and the plain chapter is refused as the memory is
+    same-fault : fault (callOn a table s c) (s .totals) ≡ callFault
+    unfolding wordsFault
     same-fault =
-        ap (λ (u : List ℕ). exchangeFault a table (s .count) u (length (s .chapter)) (length (s .marks)) (c .element) (c .replacement))
+        words-decide
+        ∙ ap (λ (u : List ℕ). exchangeFault a table (s .count) u (length (s .chapter)) (length (s .marks)) (c .element) (c .replacement))
         (g .elements)
         ∙ ap (λ (n : ℕ). exchangeFault a table n p (length (s .chapter)) (length (s .marks)) (c .element) (c .replacement)) (g .count)
         ∙ ap₂ (λ (n m : ℕ). exchangeFault a table (length p) p n m (c .element) (c .replacement)) (g .chapter-long) (g .marks-long)
@@ -97,6 +121,7 @@ module _ (a table : List ℕ) (chapterLength marksLength : ℕ) where
         (stored-right a table p (s .marks) (g .marks))
 
     related-exchanged : PlainAccepted p c → Related a table chapterLength marksLength p′ exchanged
+    unfolding newTotals
     related-exchanged k = record {
       count = ap length same-tree;
       elements = take-refit (s .count) tree (s .chapter) ∙ same-tree;
@@ -112,16 +137,20 @@ module _ (a table : List ℕ) (chapterLength marksLength : ℕ) where
       marks =
           ap (λ (n : ℕ). take n (refit (s .count * sizeOf table) (flatten sets) (s .marks))) (sym many)
           ∙ take-refit (s .count * sizeOf table) (flatten sets) (s .marks) ∙ ap flatten (same-sets k);
+      totals = right-moved (callOn a table s c) (s .totals) right ∙ new k;
     }
       where
         fits : ResultFits table (length p′) chapterLength marksLength
         fits = k .change .fits
 
+        new : PlainAccepted p c → newTotals (callOn a table s c) ≡ totalsOf table (nodeSets a table p′)
+        new k = ap (totalsOf table) (same-sets k)
+
         many : length (flatten sets) ≡ length p′ * sizeOf table
         many = ap (λ (l : List StateSet). length (flatten l)) (same-sets k) ∙ length-words a table p′
 
     related-call : Related a table chapterLength marksLength (plain a table chapterLength marksLength p c) (exchange a table s c)
-    unfolding plain exchange exchangeChapter exchangeMarks exchangeAnswer
+    unfolding plain exchange exchangeChapter exchangeMarks exchangeAnswer exchangeTotals newChapter newMarks
     related-call = go (tested (eqb callFault 0))
       where
         go : Tested (eqb callFault 0)
@@ -132,6 +161,13 @@ module _ (a table : List ℕ) (chapterLength marksLength : ℕ) where
             (exchange-accepted a table (length p) p chapterLength marksLength (c .element) (c .replacement) (eqb-true callFault 0 b)))
         go (fails b) = rw (same-fault, b) g
 
+    not-27 : answerAt a table s c ≡ refused 27 → ⊥
+    unfolding exchangeAnswer
+    not-27 h =
+        let q = refused-number (fault (callOn a table s c) (s .totals)) _ 27 h in
+        without-never 27 (exchangeRefusals a table (length p) p chapterLength marksLength (c .element) (c .replacement)) (omega arith)
+        (sym same-fault ∙ q .1)
+
   -- ---- all calls
 
   related-calls : (cs : List Call) (p : List ℕ) (s : Memory) → Related a table chapterLength marksLength p s
@@ -141,10 +177,15 @@ module _ (a table : List ℕ) (chapterLength marksLength : ℕ) where
   related-calls (c ∷ cs) p s g =
       related-calls cs (plain a table chapterLength marksLength p c) (exchange a table s c) (related-call p s c g)
 
+  never-27 : (cs : List Call) (p : List ℕ) (s : Memory) → Related a table chapterLength marksLength p s → NeverRefused 27 a table cs s
+  never-27 [] p s g = tt
+  never-27 (c ∷ cs) p s g =
+      (not-27 p s c g, never-27 cs (plain a table chapterLength marksLength p c) (exchange a table s c) (related-call p s c g))
+
   -- ---- what follows
 
   related-faithful : (p : List ℕ) (s : Memory) → Related a table chapterLength marksLength p s → Faithful a table p s
-  unfolding listAnswer listExit runAnswer
+  unfolding listAnswer listExit runAnswer runTotals
   related-faithful p s g = record { count = g .count; elements = g .elements; fresh = fresh }
     where
       fresh : (slice : List ℕ) → length slice ≡ length (s .marks) → Fresh a table p s slice
@@ -154,6 +195,7 @@ module _ (a table : List ℕ) (chapterLength marksLength : ℕ) where
         marks =
             ap (λ (i : ℕ). take (i * sizeOf table) (s .marks)) (g .count) ∙ g .marks ∙ sym written
             ∙ ap (λ (i : ℕ). take (i * sizeOf table) (runExit a table p slice)) (sym (g .count));
+        totals = λ t. g .totals ∙ sym (rw run refl);
         answers = λ l. ap₂ (λ (i : ℕ) (ms : List ℕ). answerOf (listFault a table (s .count) i (length l)) (length ms ∷ [])) lengths matches;
         lists =
             λ l. ap₂ (λ (i : ℕ) (ms : List ℕ). exitOf (listFault a table (s .count) i (length l)) (writtenOver ms l) l)
@@ -184,7 +226,7 @@ module _ (a table : List ℕ) (chapterLength marksLength : ℕ) where
 -- ---- an accepted Run begins it
 
 related-start : (a table ch : List ℕ) (s : Memory) → Start a table ch s → Related a table (length (s .chapter)) (length (s .marks)) ch s
-unfolding runAnswer
+unfolding runAnswer runTotals
 related-start a table ch s h = record {
   count = count;
   elements = ap (λ (i : ℕ). take i (s .chapter)) count ∙ h .begins;
@@ -192,6 +234,7 @@ related-start a table ch s h = record {
   marks-long = refl;
   run = ap (runFault a table ch) same ∙ run;
   marks = ap (take (length ch * sizeOf table)) left ∙ run-writes a table ch (h .before);
+  totals = h .totals ∙ rw run refl;
 }
   where
     facts : (runFault a table ch (length (h .before)) ≡ 0)
@@ -220,8 +263,11 @@ related-end a table ch s calls h =
 pub demand3 : Demand3
 demand3 a tableSlice ch s calls h =
     let table = tableIn tableSlice in
-    related-faithful a table (length (s .chapter)) (length (s .marks)) (plains a table (length (s .chapter)) (length (s .marks)) calls ch)
-    (exchanges a table calls s) (related-end a table ch s calls h)
+    let m = length (s .chapter) in
+    let n = length (s .marks) in (
+      related-faithful a table m n (plains a table m n calls ch) (exchanges a table calls s) (related-end a table ch s calls h),
+      never-27 a table m n calls ch s (related-start a table ch s h),
+    )
 
 -- and the two slices keep their lengths
 pub record SameLengths (s t : Memory) : Type 0 where

@@ -6,18 +6,19 @@ use mathlib.Core.Logic.{_↔_}
 use mathlib.Core.Bool.{true, false}
 use mathlib.Core.List.{List, [], _∷_, _++_, flatten, flatMap, map, List·Memᴰ}
 use lib.ListN.{length, getD, replicate, set}
+use lib.Dec.{ltb}
 use lib.Count.{ones, onesIn}
-use Rattle.words.specs.Word.{kindAt, spareBitsClear, isOf}
+use Rattle.words.specs.Word.{kindAt, spareBitsClear, isOf, wordRange}
 use Rattle.words.specs.Alphabet.{marksHole, isEntry, rankOf, isConstant, isHole, hasHoles, mayName, constantsFrom, constantsOf}
 use Rattle.words.specs.Alphabet.{noAlphabet, wrongConstants}
-use Rattle.words.specs.Lists.{highest}
+use Rattle.words.specs.Lists.{all, highest}
 use Rattle.words.specs.Shape.{treesBy, valueOnBy, valuesBy, stackAfterBy, heightOver, heightOfBy, startFromBy, isAncestorBy, spliceBy}
 use Rattle.words.specs.Shape.{stackGivenBy}
 use Rattle.words.specs.Postfix.{arity, notOneTree, spanOf}
 use Rattle.words.specs.ExpressionWords.{isExpressionWord, wrongLength, notExpressionWords}
 use Rattle.words.specs.Chapter.{symbolOf, isNode, notNodes, tooHigh, holesIn}
 use Rattle.words.specs.Tree.{Tree}
-use Rattle.words.specs.Answer.{Answer, refused, accepted, valueOr}
+use Rattle.words.specs.Answer.{Answer, refused, accepted, answerOf, exitOf, valueOr}
 use Rattle.language.specs.Expression.{Expression, empty, union, product, closure}
 use Rattle.language.specs.Membership.{constant, Member}
 use Rattle.language.proofs.MembershipExamples.{alphabet, con, fᵉ, f as fᵗ, closure-empty, by-empty, by-empty-none}
@@ -32,11 +33,12 @@ use Rattle.operations.specs.Marks.{sizeOf, finalOf, nodeSet, nodeSets, s
 use Rattle.operations.specs.Run.{wrongCount, marksTooShort, runFault, runMarks, cellsIn, runAnswer, runExit}
 use Rattle.operations.specs.Listing.{matchesIn, matchesOf}
 use Rattle.operations.specs.Demands.{ThreeCalls, AllAccepted, namesOf}
-use Rattle.operations.specs.ExchangeCall.{exchangeCall}
+use Rattle.operations.specs.ExchangeCall.{ExchangeCall, exchangeCall}
 use Rattle.operations.specs.Exchange.{wrongUsedCount, noElement, noReplacement, resultTooLong, recomputedIn}
-use Rattle.operations.specs.Exchange.{propagate, rootSet, outcomesBehind, outcomesAfter, fault, newTree}
-use Rattle.operations.specs.Exchange.{outcomes, exchangeAnswer, exchangeChapter, exchangeMarks}
+use Rattle.operations.specs.Exchange.{propagate, rootSet, outcomesBehind, outcomesAfter, wordsFault, newTree, outcomes}
+use Rattle.operations.specs.Exchange.{exchangeValues, newChapter, newMarks, oldTotals, exchangeAnswer, exchangeChapter, exchangeMarks}
 use Rattle.operations.proofs.Demand2.{demand2, demand2-without}
+use Rattle.operations.proofs.TotalsLaws.{right-fault, words-stored}
 
 -- nodes
 abbrev a : ℕ
@@ -81,12 +83,16 @@ pub record ListingRow (al e ch : List ℕ) (states words head : ℕ) (lines : Li
       (matchesOf (compiledTable al e) (length ch) (runMarks al (compiledTable al e) ch (replicate (length ch) 0)))
       ≡ lines
 
--- what an Exchange answers and leaves with the table of a rule, where these marks are stored; and what List then names
+abbrev pub with-table : List ℕ → List ℕ → List ℕ → ℕ → ℕ → List ℕ → ExchangeCall
+with-table rl slice stored n i xs = exchangeCall alphabet (compiledTable alphabet rl) slice stored n i xs
+
+-- what an Exchange answers and leaves with the table of a rule, where these marks are stored and the record of totals is right; and what
+-- List then names
 pub record ExchangeRow (rl slice stored : List ℕ) (n i : ℕ) (xs : List ℕ) (answer : Answer) (left : List ℕ) (leftMarks : List ℕ)
     (hits : List ℕ) : Type 0 where
-  pub answers : exchangeAnswer (exchangeCall alphabet (compiledTable alphabet rl) slice stored n i xs) ≡ answer
-  pub chapterLeft : exchangeChapter (exchangeCall alphabet (compiledTable alphabet rl) slice stored n i xs) ≡ left
-  pub marksLeft : exchangeMarks (exchangeCall alphabet (compiledTable alphabet rl) slice stored n i xs) ≡ leftMarks
+  pub answers : exchangeAnswer (with-table rl slice stored n i xs) (oldTotals (with-table rl slice stored n i xs)) ≡ answer
+  pub chapterLeft : exchangeChapter (with-table rl slice stored n i xs) (oldTotals (with-table rl slice stored n i xs)) ≡ left
+  pub marksLeft : exchangeMarks (with-table rl slice stored n i xs) (oldTotals (with-table rl slice stored n i xs)) ≡ leftMarks
   pub lists : matchesOf (compiledTable alphabet rl) (valueOr answer 0 n) leftMarks ≡ hits
 
 -- every call of Compile, Run and List with the alphabet and this rule, whatever the chapter: List names exactly the nodes
@@ -216,6 +222,20 @@ names-closure q ea ee h i l =
     let k = closure-empty (demand2 q h .subtrees i l .the) in
     (λ x. k .0 (m .0 x), λ x. m .1 (k .1 x))
 
+-- with a right record the words of a call decide
+right-row : {rl slice stored : List ℕ} {n i : ℕ} {xs : List ℕ} {answer : Answer} {left leftMarks hits : List ℕ}
+    → all (λ w. ltb w wordRange) stored ≡ true
+    → answerOf (wordsFault (with-table rl slice stored n i xs)) (exchangeValues (with-table rl slice stored n i xs)) ≡ answer
+    → exitOf (wordsFault (with-table rl slice stored n i xs)) (newChapter (with-table rl slice stored n i xs)) slice ≡ left
+    → exitOf (wordsFault (with-table rl slice stored n i xs)) (newMarks (with-table rl slice stored n i xs)) stored ≡ leftMarks
+    → matchesOf (compiledTable alphabet rl) (valueOr answer 0 n) leftMarks ≡ hits
+    → ExchangeRow rl slice stored n i xs answer left leftMarks hits
+unfolding exchangeAnswer exchangeChapter exchangeMarks
+right-row {rl} {slice} {stored} {n} {i} {xs} small a b c d =
+    let call = with-table rl slice stored n i xs in
+    let decide = right-fault call (words-stored call small) (oldTotals call) refl in
+    record { answers = rw decide a; chapterLeft = rw decide b; marksLeft = rw decide c; lists = d }
+
 -- the count of ones is computed for a small number alone
 one-cell : accepted (1 ∷ (ones 1 + 0) ∷ []) ≡ accepted (1 ∷ 1 ∷ [])
 unfolding ones onesIn
@@ -236,7 +256,7 @@ unfolding kindAt spareBitsClear isOf marksHole isEntry rankOf isConstant isHole 
     valueOnBy runMarks cellsIn runAnswer runExit storedSet startFromBy
     matchesIn matchesOf spliceBy isAncestorBy stackAfterBy stackGivenBy sameWords refit wrongUsedCount noElement noReplacement resultTooLong
     recomputedIn propagate rootSet highest heightOver heightOfBy tooHigh holesIn
-    outcomesBehind outcomesAfter fault newTree outcomes exchangeAnswer exchangeChapter exchangeMarks
+    outcomesBehind outcomesAfter wordsFault newTree outcomes newChapter newMarks
 examples = (
   record { compiles = refl; stateCount = refl; wordCount = refl; headIs = refl; runs = refl; hits = refl },
   (
@@ -246,9 +266,9 @@ examples = (
       (
         one-cell,
         (
-          record { answers = refl; chapterLeft = refl; marksLeft = refl; lists = refl },
+          right-row refl refl refl refl refl,
           (
-            record { answers = refl; chapterLeft = refl; marksLeft = refl; lists = refl },
+            right-row refl refl refl refl refl,
             (
               names-empty,
               (
@@ -272,24 +292,24 @@ examples = (
                                 (
                                   closure-joined,
                                   (
-                                    record { answers = refl; chapterLeft = refl; marksLeft = refl; lists = refl },
+                                    right-row refl refl refl refl refl,
                                     (
-                                      record { answers = refl; chapterLeft = refl; marksLeft = refl; lists = refl },
+                                      right-row refl refl refl refl refl,
                                       (
-                                        record { answers = refl; chapterLeft = refl; marksLeft = refl; lists = refl },
+                                        right-row refl refl refl refl refl,
                                         (
                                           refl,
                                           (
-                                            record { answers = refl; chapterLeft = refl; marksLeft = refl; lists = refl },
+                                            right-row refl refl refl refl refl,
                                             (
-                                              record { answers = refl; chapterLeft = refl; marksLeft = refl; lists = refl },
+                                              right-row refl refl refl refl refl,
                                               (
-                                                record { answers = refl; chapterLeft = refl; marksLeft = refl; lists = refl },
+                                                right-row refl refl refl refl refl,
                                                 (
-                                                  record { answers = refl; chapterLeft = refl; marksLeft = refl; lists = refl },
+                                                  right-row refl refl refl refl refl,
                                                   (
-                                                    record { answers = refl; chapterLeft = refl; marksLeft = refl; lists = refl },
-                                                    (record { answers = refl; chapterLeft = refl; marksLeft = refl; lists = refl }, tt),
+                                                    right-row refl refl refl refl refl,
+                                                    (right-row refl refl refl refl refl, tt),
                                                   ),
                                                 ),
                                               ),

@@ -43,7 +43,7 @@ heights = record {
   judged = λ a ch t m h. ap (ltb heightMost) (height-subject a ch t m h);
   run = λ a table ch marks n cells h.
       low a ch (run-accepted a table ch (length marks) (accepted-values (runFault a table ch (length marks)) _ _ h .0) .marked .low);
-  exchange = λ c n m h.
-      let k = call-accepted c (accepted-values (fault c) _ _ h .0) in
+  exchange = λ c t n m h.
+      let k = call-accepted c t (accepted-values (fault c t) _ _ h .0) in
       (low _ _ (k .marked .low), low _ _ (k .change .low));
 }

@@ -115,7 +115,7 @@ free-words : (a table ch : List ℕ) → TableAccepted a table → holesIn a ch 
 free-words a table ch t h x k = subject-holeFree a (alphabet-accepted a (t .alphabet) .counted .few) ch x k .0 h
 
 pub holes : Holes
-unfolding notExpressionWords runAnswer exchangeAnswer newTree
+unfolding notExpressionWords runAnswer fault exchangeAnswer newTree
 holes = record {
   constant = λ a s p h. hole-constant a p s h;
   named = λ a c p h. mayName-holes a p h c;
@@ -123,8 +123,8 @@ holes = record {
   run = λ a table ch marks n cells h.
       let k = run-accepted a table ch (length marks) (accepted-values (runFault a table ch (length marks)) _ _ h .0) in
       free-words a table ch (k .checked) (k .marked .free);
-  exchange = λ c n m h.
-      let k = call-accepted c (accepted-values (fault c) _ _ h .0) in
+  exchange = λ c t n m h.
+      let k = call-accepted c t (accepted-values (fault c t) _ _ h .0) in
       let free = splice-holes (c .alphabet) (used c) (c .element) (c .replacement) (k .marked .free) (k .change .free) in (
         free-words (c .alphabet) (c .table) (used c) (k .checked) (k .marked .free),
         free-words (c .alphabet) (c .table) (c .replacement) (k .checked) (k .change .free),
@@ -136,5 +136,5 @@ holes = record {
   trees = λ a t h. holeFree-without a h t;
   members = λ a E t h. ((λ k. k .1), (λ k. (holeFree-without a h t, k)));
   runs = λ a table ch marksLength h. rw (holesIn-without a h ch);
-  exchanges = λ a table n ch chapterLength marksLength i xs h. rw (holesIn-without a h ch, holesIn-without a h xs);
+  exchanges = λ c t h. rw (holesIn-without (c .alphabet) h (used c), holesIn-without (c .alphabet) h (c .replacement));
 }

@@ -12,13 +12,15 @@ use Rattle.words.proofs.ListLaws.{length-over}
 use Rattle.words.proofs.AnswerLaws.{length-exit}
 use Rattle.automaton.specs.StateSet.{StateSet}
 use Rattle.operations.specs.Compile.{compiledTable, compileFault, compileExit}
-use Rattle.operations.specs.Marks.{sizeOf, refit}
+use Rattle.operations.specs.Marks.{sizeOf}
 use Rattle.operations.specs.Run.{runFault, runMarks, runExit}
 use Rattle.operations.specs.Listing.{listFault, matchesOf, listExit}
 use Rattle.operations.specs.ExchangeCall.{ExchangeCall}
-use Rattle.operations.specs.Exchange.{setIn, used, storedIn, fault, newTree, outcomes, exchangeChapter, exchangeMarks}
+use Rattle.operations.specs.Totals.{Totals}
+use Rattle.operations.specs.Exchange.{setIn, used, storedIn, newTree, outcomes, newChapter, newMarks}
+use Rattle.operations.specs.Exchange.{fault, exchangeChapter, exchangeMarks}
 use Rattle.operations.proofs.AcceptedLaws.{compile-accepted, run-accepted, list-accepted, CallAccepted, call-accepted}
-use Rattle.operations.proofs.MarksLaws.{Sized, length-storedSet, length-flatten, length-refit}
+use Rattle.operations.proofs.MarksLaws.{Sized, length-nodeSet, length-storedSet, length-flatten, length-refit}
 use Rattle.operations.proofs.MatchLaws.{matchesOf-few}
 use Rattle.operations.proofs.RunLaws.{run-length}
 use Rattle.operations.proofs.FromChildren.{follows-length, follows-outcomes}
@@ -62,7 +64,7 @@ module _ (c : ExchangeCall) where
   unfolding outcomes
   sized-outcomes k =
       let many = length-take-le (c .count) (c .chapter) (k .count .within) in
-      whole-outcomes (c .alphabet) (c .table) (storedIn c) (c .count)
+      whole-outcomes (λ r. length r ≡ sizeOf (c .table)) (c .alphabet) (c .table) (length-nodeSet (c .table)) (storedIn c) (c .count)
       (λ i l. length-storedSet size (c .marks) i (omega (arith, mul-le-mul-right size l, k .marked .marks)))
       (used c) (c .element) (c .replacement) (there k) (omega arith)
 
@@ -77,18 +79,18 @@ module _ (c : ExchangeCall) where
       (k .change .replacement .tree .shape)))
 
   -- the new elements fit by 16
-  pub chapter-length : length (exchangeChapter c) ≡ length (c .chapter)
-  unfolding exchangeChapter newTree
-  chapter-length =
-      length-exit (fault c) (refit (c .count) (newTree c) (c .chapter)) (c .chapter)
-      (λ h. let k = call-accepted c h in
+  pub chapter-length : (t : Totals) → length (exchangeChapter c t) ≡ length (c .chapter)
+  unfolding exchangeChapter newTree newChapter
+  chapter-length t =
+      length-exit (fault c t) (newChapter c) (c .chapter)
+      (λ h. let k = call-accepted c t h in
       length-refit (c .count) (newTree c) (c .chapter) (k .count .within) (k .change .fits .elements))
 
   -- and so do their state sets
-  pub marks-length : length (exchangeMarks c) ≡ length (c .marks)
-  unfolding exchangeMarks newTree
-  marks-length =
-      length-exit (fault c) (refit (c .count * size) (flatten sets) (c .marks)) (c .marks)
-      (λ h. let k = call-accepted c h in
+  pub marks-length : (t : Totals) → length (exchangeMarks c t) ≡ length (c .marks)
+  unfolding exchangeMarks newTree newMarks
+  marks-length t =
+      length-exit (fault c t) (newMarks c) (c .marks)
+      (λ h. let k = call-accepted c t h in
       length-refit (c .count * size) (flatten sets) (c .marks) (k .marked .marks)
       (omega (arith, length-sets k, k .change .fits .marks)))

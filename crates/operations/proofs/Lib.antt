@@ -24,4 +24,6 @@ pub mod FromChildren
 pub mod OutcomeParts
 pub mod OutcomeSizes
 pub mod LengthLaws
+pub mod TotalsLaws
+pub mod TotalsOnHand
 pub mod Recomputed

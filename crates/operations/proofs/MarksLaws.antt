@@ -9,7 +9,7 @@ use lib.ListN.{length, getD, take, drop, length-append, length-drop, length-repl
 use lib.Seq.{take-at, drop-at, drop-drop, take-append-seam, length-take-le}
 use lib.Dec.{eqb}
 use borrow.Author.Tests.{eqb-true, eq-eqb}
-use Rattle.words.specs.Lists.{listFrom}
+use Rattle.words.specs.Lists.{All, listFrom}
 use Rattle.words.specs.Shape.{valueOnBy, valuesBy}
 use Rattle.words.specs.Postfix.{arity, valueOn, values}
 use Rattle.words.proofs.TestLaws.{and-true, true-and}
@@ -26,18 +26,22 @@ unfolding nodeSet sizeOf
 length-nodeSet table w rs = length-stateSet _ _ rs
 
 abbrev pub Sized : ℕ → List StateSet → Type 0
-Sized size [] = Unit {0}
-Sized size (r ∷ rs) = (length r ≡ size) × Sized size rs
+Sized size = All (λ r. length r ≡ size)
 
 module _ (a table : List ℕ) where
-  sized-values : (ws : List ℕ) (s : List StateSet) → Sized (sizeOf table) (values a (nodeSet table) ws s)
-  unfolding valuesBy valueOnBy
-  sized-values [] s = tt
-  sized-values (w ∷ ws) s = (length-nodeSet table w _, sized-values ws (valueOn a (nodeSet table) w s ∷ drop (arity a w) s))
+  -- what holds of every set that is worked out holds of a tree's
+  module _ (P : StateSet → Type 0) (rule : (w : ℕ) (rs : List StateSet) → P (nodeSet table w rs)) where
+    each-values : (ws : List ℕ) (s : List StateSet) → All P (values a (nodeSet table) ws s)
+    unfolding valuesBy valueOnBy
+    each-values [] s = tt
+    each-values (w ∷ ws) s = (rule w _, each-values ws (valueOn a (nodeSet table) w s ∷ drop (arity a w) s))
+
+    pub each-nodeSets : (ws : List ℕ) → All P (nodeSets a table ws)
+    unfolding nodeSets
+    each-nodeSets ws = each-values ws []
 
   pub sized-nodeSets : (ws : List ℕ) → Sized (sizeOf table) (nodeSets a table ws)
-  unfolding nodeSets
-  sized-nodeSets ws = sized-values ws []
+  sized-nodeSets ws = each-nodeSets (λ r. length r ≡ sizeOf table) (length-nodeSet table) ws
 
   pub length-nodeSets : (ws : List ℕ) → length (nodeSets a table ws) ≡ length ws
   unfolding nodeSets

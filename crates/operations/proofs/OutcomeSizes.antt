@@ -1,7 +1,7 @@
--- The outcomes of an exchange are whole state sets where the stored ones are: a recomputed set has the size of a state set, and
--- a kept one is a stored one.
+-- What holds of the stored sets and of every set that is worked out holds of the outcomes of an exchange: a kept set is a stored one. So
+-- they are whole state sets where the stored ones are.
 use Prim.Native.Nat.{ℕ, zero, suc, _+_, _<_, _≤_}
-use mathlib.Core.Path.{_≡_, sym, subst}
+use mathlib.Core.Path.{sym, subst}
 use mathlib.Core.Bool.{Bool, true, false, cond}
 use mathlib.Core.List.{List, [], _∷_, _++_, map}
 use native.Mathlib.Omega.{arith}
@@ -9,18 +9,21 @@ use lib.ListN.{length, take, drop, length-drop}
 use Rattle.words.specs.Shape.{valueOnBy}
 use Rattle.words.specs.Postfix.{arity, spanOf, isAncestor, valueOn, stackGiven}
 use Rattle.words.proofs.TestLaws.{Tested, holds, fails, tested}
+use Rattle.words.specs.Lists.{All}
+use Rattle.words.proofs.AllLaws.{each-append}
 use Rattle.words.proofs.ListLaws.{map-append}
 use Rattle.words.proofs.PostfixLaws.{start-le}
 use Rattle.automaton.specs.StateSet.{StateSet}
-use Rattle.operations.specs.Marks.{sizeOf, nodeSet, nodeSets, sameWords}
-use Rattle.operations.specs.Exchange.{Outcome, kept, recomputed, setIn, keptFrom, propagate, rootSet, outcomesBehind, outcomesAfter}
-use Rattle.operations.proofs.MarksLaws.{Sized, sized-append, sized-nodeSets, length-nodeSet}
+use Rattle.operations.specs.Marks.{nodeSet, nodeSets, sameWords}
+use Rattle.operations.specs.Exchange.{Outcome, recomputed, setIn, keptFrom, propagate, rootSet, outcomesBehind, outcomesAfter}
+use Rattle.operations.proofs.MarksLaws.{each-nodeSets}
 use Rattle.operations.proofs.PropagateLaws.{propagate-beside, propagate-last, propagate-onward}
 use Rattle.operations.proofs.OutcomeLaws.{sets-recomputed}
 
-module _ (a table : List ℕ) (stored : ℕ → StateSet) (n : ℕ) (whole : (i : ℕ) → i < n → length (stored i) ≡ sizeOf table) where
+module _ (P : StateSet → Type 0) (a table : List ℕ) (rule : (w : ℕ) (rs : List StateSet) → P (nodeSet table w rs))
+    (stored : ℕ → StateSet) (n : ℕ) (whole : (i : ℕ) → i < n → P (stored i)) where
   abbrev Whole : List Outcome → Type 0
-  Whole os = Sized (sizeOf table) (map setIn os)
+  Whole os = All P (map setIn os)
 
   whole-kept : (m j : ℕ) → j + m ≤ n → Whole (keptFrom stored j m)
   whole-kept zero j h = tt
@@ -46,9 +49,9 @@ module _ (a table : List ℕ) (stored : ℕ → StateSet) (n : ℕ) (whole : (i 
           subst Whole (sym (propagate-beside a table stored above j w ws s x)) (whole j (omega arith), beside)
       go (holds x) (holds y) beside onward =
           subst Whole (sym (propagate-last a table stored above j w ws s x y))
-          (length-nodeSet table w _, whole-kept (length ws) (suc j) (omega arith))
+          (rule w _, whole-kept (length ws) (suc j) (omega arith))
       go (holds x) (fails y) beside onward =
-          subst Whole (sym (propagate-onward a table stored above j w ws s x y)) (length-nodeSet table w _, onward)
+          subst Whole (sym (propagate-onward a table stored above j w ws s x y)) (rule w _, onward)
 
   whole-behind : (used : List ℕ) (element : ℕ) (xs : List ℕ) → element < length used → length used ≤ n
       → Whole (outcomesBehind a table stored used element xs)
@@ -74,12 +77,11 @@ module _ (a table : List ℕ) (stored : ℕ → StateSet) (n : ℕ) (whole : (i 
       → Whole (outcomesAfter a table stored used element xs)
   unfolding outcomesAfter
   whole-outcomes used element xs h l =
-      let size = sizeOf table in
       let start = spanOf a used element .start in
       let sets : List Outcome = map recomputed (nodeSets a table xs) in
       let behind = outcomesBehind a table stored used element xs in
       rw (map-append setIn (keptFrom stored 0 start) (sets ++ behind), map-append setIn sets behind)
-      (sized-append size (map setIn (keptFrom stored 0 start)) (map setIn sets ++ map setIn behind)
+      (each-append P (map setIn (keptFrom stored 0 start)) (map setIn sets ++ map setIn behind)
       (whole-kept start 0 (omega (arith, start-le (arity a) used element)))
-      (sized-append size (map setIn sets) (map setIn behind)
-      (rw (sets-recomputed (nodeSets a table xs)) (sized-nodeSets a table xs)) (whole-behind used element xs h l)))
+      (each-append P (map setIn sets) (map setIn behind)
+      (rw (sets-recomputed (nodeSets a table xs)) (each-nodeSets a table P rule xs)) (whole-behind used element xs h l)))

@@ -2,32 +2,33 @@
 -- and of the rule, put together.
 use mathlib.Core.Path.{_≡_, ap, _∙_, sym, subst}
 use mathlib.Core.Bool.{true}
-use mathlib.Core.List.{List, [], _∷_, map, flatten}
-use Prim.Native.Nat.{ℕ, _+_, _-_, _*_, _<_}
+use mathlib.Core.List.{List, [], _∷_, map}
+use Prim.Native.Nat.{ℕ, _+_, _-_, _<_}
 use native.Mathlib.Omega.{arith}
 use lib.ListN.{length, getD, length-map, List·getD-map}
 use lib.Seq.{length-take-le}
 use Rattle.words.specs.Chapter.{symbolOf}
 use Rattle.words.specs.Postfix.{childrenOf, oneTree}
-use Rattle.words.specs.Answer.{accepted}
 use Rattle.words.proofs.AcceptedAlphabet.{alphabet-accepted}
 use Rattle.words.proofs.AnswerLaws.{accepted-values}
 use Rattle.automaton.specs.StateSet.{StateSet}
 use Rattle.operations.specs.Marks.{sizeOf, nodeSet, ReachedSet, nodeSets, storedSet, refit}
 use Rattle.operations.specs.ExchangeCall.{ExchangeCall}
-use Rattle.operations.specs.Exchange.{kept, recomputed, setIn, recomputedIn, used, fault, newTree, storedIn, outcomes}
-use Rattle.operations.specs.Exchange.{exchangeAnswer, exchangeMarks}
+use Rattle.operations.specs.Exchange.{kept, recomputed, setIn, recomputedIn, used, newTree, storedIn, outcomes}
+use Rattle.operations.specs.Exchange.{wordsFault, newMarks, exchangeValues, fault, exchangeAnswer, exchangeMarks}
 use Rattle.operations.specs.Recomputation.{outcomeOf, setAfter, startIn}
-use Rattle.operations.specs.Demands.{RecomputesOnly, Demand3Recomputation}
+use Rattle.operations.specs.Demands.{Demand3Recomputation}
 use Rattle.operations.proofs.MarksLaws.{storedSet-flatten}
 use Rattle.operations.proofs.LengthLaws.{sized-outcomes}
-use Rattle.operations.proofs.AcceptedLaws.{CallAccepted, call-accepted}
+use Rattle.operations.proofs.AcceptedLaws.{CallAccepted, words-accepted, call-words}
 use Rattle.operations.proofs.AnyTable.{nodeSet-reached}
 use Rattle.operations.proofs.FromChildren.{Follows, follows-length, follows-outcomes, from-children}
 use Rattle.operations.proofs.OutcomeParts.{root-last, outcome-before, outcome-replaced, recomputed-parts}
 use Rattle.operations.proofs.OutcomeParts.{behindOf, outcome-rest, count-rest, recomputed-most}
 
-module _ (c : ExchangeCall) (elements workedOut : ℕ) (h : exchangeAnswer c ≡ accepted (elements ∷ workedOut ∷ [])) where
+-- ---- the outcomes of a call that is not refused but perhaps by 27
+
+module _ (c : ExchangeCall) (fine : wordsFault c ≡ 0) where
   abbrev a : List ℕ
   a = c .alphabet
 
@@ -37,64 +38,44 @@ module _ (c : ExchangeCall) (elements workedOut : ℕ) (h : exchangeAnswer c ≡
   abbrev xs : List ℕ
   xs = c .replacement
 
-  -- ---- what an accepted call answers and leaves
-
-  answered : (fault c ≡ 0) × (length (newTree c) ∷ recomputedIn (outcomes c) ∷ [] ≡ elements ∷ workedOut ∷ [])
-  unfolding exchangeAnswer
-  answered = accepted-values (fault c) _ _ h
-
-  fine : fault c ≡ 0
-  fine = answered .0
-
-  newCount : elements ≡ length (newTree c)
-  newCount = let e = answered .1 in cc
-
-  counted : workedOut ≡ recomputedIn (outcomes c)
-  counted = let e = answered .1 in cc
-
-  marks : exchangeMarks c ≡ refit (c .count * size) (flatten (map setIn (outcomes c))) (c .marks)
-  unfolding exchangeMarks
-  marks = rw fine
-
   call : CallAccepted c
-  call = call-accepted c fine
+  call = words-accepted c fine
 
-  shape : oneTree a xs ≡ true
+  pub shape : oneTree (c .alphabet) (c .replacement) ≡ true
   shape = call .change .replacement .tree .shape
 
-  some : 0 < length xs
+  pub some : 0 < length (c .replacement)
   some = call .change .replacement .counted .some
 
-  there : c .element < length (used c)
+  pub there : c .element < length (used c)
   there = rw (length-take-le (c .count) (c .chapter) (call .count .within)) (call .change .element)
-
-  -- ---- the outcomes
 
   follows : Follows a (c .table) (newTree c) [] (outcomes c)
   unfolding newTree outcomes
   follows = follows-outcomes a (c .table) (storedIn c) (used c) (c .element) xs there shape
 
-  nodes : length (outcomes c) ≡ length (newTree c)
+  pub nodes : length (outcomes c) ≡ length (newTree c)
   nodes = follows-length a (c .table) (newTree c) [] (outcomes c) follows
 
-  written : (j : ℕ) → j < length (newTree c) → storedSet size (exchangeMarks c) j ≡ setAfter c j
-  unfolding outcomes refit
+  -- an accepted call leaves these marks
+  pub written : (j : ℕ) → j < length (newTree c) → storedSet (sizeOf (c .table)) (newMarks c) j ≡ setAfter c j
+  unfolding outcomes refit newMarks
   written j l =
-      ap (λ (m : List ℕ). storedSet size m j) marks
-      ∙ storedSet-flatten size (map setIn (outcomes c)) _ j
+      storedSet-flatten size (map setIn (outcomes c)) _ j
       (sized-outcomes c call) (rw (length-map (outcomes c) setIn, nodes) l)
       ∙ List·getD-map setIn (outcomes c) j (kept [])
 
-  before : (j : ℕ) → j < startIn c → outcomeOf c j ≡ kept (storedIn c j)
+  pub before : (j : ℕ) → j < startIn c → outcomeOf c j ≡ kept (storedIn c j)
   unfolding outcomes
   before = outcome-before a (c .table) (storedIn c) (used c) (c .element) xs
 
-  replaced : (k : ℕ) → k < length xs → outcomeOf c (startIn c + k) ≡ recomputed (getD (nodeSets a (c .table) xs) k [])
+  pub replaced : (k : ℕ) → k < length (c .replacement)
+      → outcomeOf c (startIn c + k) ≡ recomputed (getD (nodeSets (c .alphabet) (c .table) (c .replacement)) k [])
   unfolding outcomes
   replaced = outcome-replaced a (c .table) (storedIn c) (used c) (c .element) xs
 
-  recomputed-from : (j : ℕ) (r : StateSet) → j < length (newTree c) → outcomeOf c j ≡ recomputed r
-      → r ≡ nodeSet (c .table) (getD (newTree c) j 0) (map (setAfter c) (childrenOf a (newTree c) j))
+  pub recomputed-from : (j : ℕ) (r : StateSet) → j < length (newTree c) → outcomeOf c j ≡ recomputed r
+      → r ≡ nodeSet (c .table) (getD (newTree c) j 0) (map (setAfter c) (childrenOf (c .alphabet) (newTree c) j))
   recomputed-from = from-children a (c .table) (newTree c) (outcomes c) follows
 
   reached : (j : ℕ) (r : StateSet) → j < length (newTree c) → outcomeOf c j ≡ recomputed r
@@ -105,26 +86,32 @@ module _ (c : ExchangeCall) (elements workedOut : ℕ) (h : exchangeAnswer c ≡
       (nodeSet-reached a (c .table) (alphabet-accepted a (call .checked .alphabet) .counted .few) (call .checked .automaton)
       (getD (newTree c) j 0) rs)
 
-  parts : workedOut ≡ length xs + recomputedIn (behindOf c)
+  parts : recomputedIn (outcomes c) ≡ length xs + recomputedIn (behindOf c)
   unfolding outcomes
-  parts = counted ∙ recomputed-parts a (c .table) (storedIn c) (used c) (c .element) xs
+  parts = recomputed-parts a (c .table) (storedIn c) (used c) (c .element) xs
 
-  recomputes-only : RecomputesOnly c elements workedOut
-  recomputes-only = record {
-    newCount = newCount;
-    counted = counted;
-    nodes = nodes;
-    written = written;
-    before = before;
-    replacement = replaced;
-    root = ap setIn (replaced (length xs - 1) (omega (arith, some))) ∙ root-last a (c .table) xs shape some;
-    rest = outcome-rest c there shape;
-    fromChildren = recomputed-from;
-    reached = reached;
-    exact = parts ∙ ap (λ (i : ℕ). length xs + i) (count-rest c there shape);
-    most = rw parts (omega (arith, recomputed-most c there shape));
-  }
+-- ---- every accepted call
 
--- every accepted call
 pub recomputation : Demand3Recomputation
-recomputation c elements workedOut h = recomputes-only c elements workedOut h
+unfolding exchangeAnswer exchangeMarks
+recomputation c t elements workedOut h =
+    let answered : (fault c t ≡ 0) × (exchangeValues c ≡ elements ∷ workedOut ∷ []) = accepted-values (fault c t) _ _ h in
+    let e = answered .1 in
+    let fine = call-words c t (answered .0) in
+    let xs = c .replacement in
+    let counted : workedOut ≡ recomputedIn (outcomes c) = cc in
+    let last = replaced c fine (length xs - 1) (omega (arith, some c fine)) in
+    record {
+      newCount = cc;
+      counted = counted;
+      nodes = nodes c fine;
+      written = λ j l. rw (answered .0) (written c fine j l);
+      before = before c fine;
+      replacement = replaced c fine;
+      root = ap setIn last ∙ root-last (c .alphabet) (c .table) xs (shape c fine) (some c fine);
+      rest = outcome-rest c (there c fine) (shape c fine);
+      fromChildren = recomputed-from c fine;
+      reached = reached c fine;
+      exact = counted ∙ parts c fine ∙ ap (λ (i : ℕ). length xs + i) (count-rest c (there c fine) (shape c fine));
+      most = rw (counted, parts c fine) (omega (arith, recomputed-most c (there c fine) (shape c fine)));
+    }

@@ -18,7 +18,8 @@ use Rattle.automaton.proofs.TableLaws.{length-once}
 use Rattle.operations.specs.Run.{runAnswer, runExit}
 use Rattle.operations.specs.Listing.{listAnswer, listExit}
 use Rattle.operations.specs.ExchangeCall.{exchangeCall}
-use Rattle.operations.specs.Exchange.{exchangeAnswer, exchangeChapter, exchangeMarks}
+use Rattle.operations.specs.Totals.{runTotals}
+use Rattle.operations.specs.Exchange.{exchangeAnswer, exchangeChapter, exchangeMarks, exchangeTotals}
 use Rattle.operations.specs.Demands.{CalledAlike, TableSlices}
 use Rattle.operations.proofs.AcceptedLaws.{rule-accepted}
 use Rattle.operations.proofs.CompileLaws.{compile-result}
@@ -48,12 +49,13 @@ none-once a slice i l inside h = go (tested (isTable a (tableIn slice)))
 -- the same table is the same call
 alike : (a : List ℕ) {table table′ : List ℕ} → table ≡ table′ → CalledAlike a table table′
 alike a {table} {table′} e = record {
-  run = λ ch marks. (ap (λ t. runAnswer a t ch marks) e, ap (λ t. runExit a t ch marks) e);
+  run = λ ch marks r. (ap (λ t. runAnswer a t ch marks) e, ap (λ t. runExit a t ch marks) e, ap (λ t. runTotals a t ch marks r) e);
   list = λ n marks l. (ap (λ t. listAnswer a t n marks l) e, ap (λ t. listExit a t n marks l) e);
-  exchange = λ ch marks n i xs. (
-    ap (λ t. exchangeAnswer (exchangeCall a t ch marks n i xs)) e,
-    ap (λ t. exchangeChapter (exchangeCall a t ch marks n i xs)) e,
-    ap (λ t. exchangeMarks (exchangeCall a t ch marks n i xs)) e,
+  exchange = λ ch marks n i xs r. (
+    ap (λ t. exchangeAnswer (exchangeCall a t ch marks n i xs) r) e,
+    ap (λ t. exchangeChapter (exchangeCall a t ch marks n i xs) r) e,
+    ap (λ t. exchangeMarks (exchangeCall a t ch marks n i xs) r) e,
+    ap (λ t. exchangeTotals (exchangeCall a t ch marks n i xs) r) e,
   );
 }
 

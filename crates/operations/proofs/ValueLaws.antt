@@ -15,6 +15,7 @@ use Rattle.operations.specs.Compile.{compileAnswer}
 use Rattle.operations.specs.Marks.{sizeOf, nodeSets}
 use Rattle.operations.specs.Run.{runFault, cellsIn, runAnswer}
 use Rattle.operations.specs.Listing.{matchesOf, listFault, listAnswer}
+use Rattle.operations.specs.Totals.{Totals}
 use Rattle.operations.specs.Exchange.{Outcome, kept, recomputed, recomputedIn, fault, newTree, outcomes, exchangeAnswer}
 use Rattle.operations.specs.ExchangeCall.{ExchangeCall}
 use Rattle.operations.proofs.AcceptedLaws.{run-accepted, list-accepted, call-accepted}
@@ -71,12 +72,12 @@ recomputed-few (kept r ∷ os) = let i = recomputed-few os in omega arith
 recomputed-few (recomputed r ∷ os) = let i = recomputed-few os in omega arith
 
 -- Exchange: at most 4,096 elements, and at most as many recomputed
-pub exchange-values : (c : ExchangeCall) {count worked : ℕ} → accepted (count ∷ worked ∷ []) ≡ exchangeAnswer c
+pub exchange-values : (c : ExchangeCall) (t : Totals) {count worked : ℕ} → accepted (count ∷ worked ∷ []) ≡ exchangeAnswer c t
     → (count < wordRange) × (worked < wordRange)
 unfolding exchangeAnswer newTree
-exchange-values c {count} {worked} h =
-    let v = accepted-values (fault c) _ (count ∷ worked ∷ []) (sym h) in
-    let few = call-accepted c (v .0) .change .fits .few in
-    let done = recomputation c count worked (sym h) in
+exchange-values c t {count} {worked} h =
+    let v = accepted-values (fault c t) _ (count ∷ worked ∷ []) (sym h) in
+    let few = call-accepted c t (v .0) .change .fits .few in
+    let done = recomputation c t count worked (sym h) in
     let most = recomputed-few (outcomes c) in
     (omega arith, omega arith)

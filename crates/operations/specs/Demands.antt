@@ -1,5 +1,5 @@
--- The claims: what the three demands, and document 02's U1, U6, U7 and U8, say of the four operations, over the definitions that their
--- contracts cite. Each is proved in the file of proofs/ that is named with it.
+-- The claims: what the three demands, and document 02's U1, U6, U7, U8 and U10, say of the four operations, over the definitions that
+-- their contracts cite. Each is proved in the file of proofs/ that is named with it.
 use Prim.Native.Nat.{ℕ, _+_, _-_, _*_, _<_, _≤_}
 use mathlib.Core.Path.{_≡_}
 use mathlib.Core.Logic.{_↔_}
@@ -7,10 +7,10 @@ use mathlib.Core.Bool.{Bool, true, false, not, cond, _&&_, _||_}
 use mathlib.Core.List.{List, [], _∷_, _++_, map, flatten, List·Memᴰ}
 use lib.ListN.{length, getD, take, drop}
 use lib.Dec.{ltb, leb}
-use Rattle.words.specs.Lists.{all, count, listFrom}
-use Rattle.words.specs.Limits.{outside, alphabetMost, rankMost, tableMost, compiledMost, heightMost}
+use Rattle.words.specs.Lists.{all, count, listFrom, All, AllBelow}
+use Rattle.words.specs.Limits.{outside, alphabetMost, rankMost, tableMost, compiledMost, heightMost, cellsMost}
 use Rattle.words.specs.Word.{entryKind, productKind, closureKind, lengthKind, anythingKind, hasKind, bodyOf, symbolRange}
-use Rattle.words.specs.Word.{spareBitsClear, wordOf, lowByte}
+use Rattle.words.specs.Word.{spareBitsClear, wordOf, lowByte, wordRange}
 use Rattle.words.specs.Alphabet.{entryRank, isConstant, isHole, hasHoles, mayName, constantsOf, noAlphabet, alphabetRefusals}
 use Rattle.words.specs.ExpressionWords.{isExpressionWord, hasAnything, wrongLength}
 use Rattle.words.specs.Refusal.{Refusals, refusal, without, First, NoneHolds}
@@ -33,10 +33,12 @@ use Rattle.operations.specs.Marks.{sizeOf, nodeSet, ReachedSet, nodeSets
 use Rattle.operations.specs.Run.{runRefusals, runFault, runAnswer, runExit, cellsIn}
 use Rattle.operations.specs.Listing.{listRefusals, listAnswer, listExit, matchesOf}
 use Rattle.operations.specs.ExchangeCall.{ExchangeCall, exchangeCall}
-use Rattle.operations.specs.Exchange.{kept, recomputed, recomputedIn, rootSet, used, refusalsOf, newTree, storedIn, outcomes}
-use Rattle.operations.specs.Exchange.{exchangeRefusals, exchangeFault, exchangeAnswer, exchangeChapter, exchangeMarks}
+use Rattle.operations.specs.Totals.{Totals, totalsWords, totalsOf, runTotals}
+use Rattle.operations.specs.Exchange.{kept, recomputed, recomputedIn, rootSet, used, refusalsOf, fault, newTree, storedIn, outcomes}
+use Rattle.operations.specs.Exchange.{exchangeValues, oldTotals, newTotals}
+use Rattle.operations.specs.Exchange.{exchangeAnswer, exchangeChapter, exchangeMarks, exchangeTotals}
 use Rattle.operations.specs.Recomputation.{outcomeOf, setAfter, startIn, behindIn, oldNumber, newNumber, recomputes}
-use Rattle.operations.specs.History.{Call, Memory, exchanges, plains}
+use Rattle.operations.specs.History.{Call, Memory, exchanges, NeverRefused, plains}
 
 -- ---- Demand 1 (Demand1): "Every accepted call ends with the one result that the written rules give, inside the memory lent to
 -- it. Every refused call returns the first applicable number of document 01 and changes no lent word."
@@ -61,17 +63,19 @@ pub record Demand1 : Type 0 where
   pub compile : (alphabet rule slice : List ℕ)
       → Judged (compileRefusals alphabet rule (length slice)) (compileAnswer alphabet rule slice)
       (length (compiledTable alphabet rule) ∷ []) ((slice, compileExit alphabet rule slice) ∷ [])
-  pub run : (alphabet tableSlice chapter marks : List ℕ)
+  -- the record of totals (document 02, U10) is lent as its three words
+  pub run : (alphabet tableSlice chapter marks : List ℕ) (t : Totals)
       → Judged (runRefusals alphabet (tableIn tableSlice) chapter (length marks)) (runAnswer alphabet (tableIn tableSlice) chapter marks)
       (length chapter ∷ cellsIn (flatten (nodeSets alphabet (tableIn tableSlice) chapter)) ∷ [])
-      ((marks, runExit alphabet (tableIn tableSlice) chapter marks) ∷ [])
+      ((marks, runExit alphabet (tableIn tableSlice) chapter marks)
+      ∷ (totalsWords t, totalsWords (runTotals alphabet (tableIn tableSlice) chapter marks t)) ∷ [])
   pub list : (alphabet tableSlice : List ℕ) (elements : ℕ) (marks slice : List ℕ)
       → Judged (listRefusals alphabet (tableIn tableSlice) elements (length marks) (length slice))
       (listAnswer alphabet (tableIn tableSlice) elements marks slice) (length (matchesOf (tableIn tableSlice) elements marks) ∷ [])
       ((slice, listExit alphabet (tableIn tableSlice) elements marks slice) ∷ [])
-  pub exchange : (c : ExchangeCall)
-      → Judged (refusalsOf c) (exchangeAnswer c) (length (newTree c) ∷ recomputedIn (outcomes c) ∷ [])
-      ((c .chapter, exchangeChapter c) ∷ (c .marks, exchangeMarks c) ∷ [])
+  pub exchange : (c : ExchangeCall) (t : Totals)
+      → Judged (refusalsOf c t) (exchangeAnswer c t) (exchangeValues c)
+      ((c .chapter, exchangeChapter c t) ∷ (c .marks, exchangeMarks c t) ∷ (totalsWords t, totalsWords (exchangeTotals c t)) ∷ [])
 
 -- ---- Demand 2 (Demand2): "A rule that Compile accepts becomes exactly the numbered Thompson tree automaton of the rules.
 -- After an accepted Run with that table and its alphabet, an accepted List, given both, the element count and the marks Run
@@ -130,12 +134,14 @@ Demand2 = (c : ThreeCalls) → AllAccepted c → Named c
 -- elements and with whatever replacements."
 
 -- "At the start the chapter slice begins with the elements that an accepted Run was given, and the marks slice is as that
--- Run left it"; the count is the one that Run answered
+-- Run left it"; the count is the one that Run answered, and the record is as Run left it (document 02, U10)
 pub record Start (alphabet table chapter : List ℕ) (s : Memory) : Type 0 where
   pub before : List ℕ
+  pub totalsBefore : Totals
   pub cells : ℕ
   pub answer : runAnswer alphabet table chapter before ≡ accepted (s .count ∷ cells ∷ [])
   pub marks : s .marks ≡ runExit alphabet table chapter before
+  pub totals : s .totals ≡ runTotals alphabet table chapter before totalsBefore
   pub begins : take (length chapter) (s .chapter) ≡ chapter
 
 -- a fresh Run on the plain chapter, on a marks slice of the same length
@@ -145,6 +151,8 @@ pub record Fresh (alphabet table plain : List ℕ) (s : Memory) (slice : List �
   pub answer : runAnswer alphabet table plain slice ≡ accepted (s .count ∷ cells ∷ [])
   -- "the used marks (count × S words from the first) are those it writes"
   pub marks : take (s .count * sizeOf table) (s .marks) ≡ take (s .count * sizeOf table) (runExit alphabet table plain slice)
+  -- and so is the record, whatever stood in the one that is lent to that Run (document 02, U10)
+  pub totals : (t : Totals) → s .totals ≡ runTotals alphabet table plain slice t
   -- "List .. answers and writes what it would with that Run's marks"
   pub answers : (l : List ℕ)
       → listAnswer alphabet table (s .count) (s .marks) l ≡ listAnswer alphabet table (s .count) (runExit alphabet table plain slice) l
@@ -158,27 +166,29 @@ pub record Faithful (alphabet table plain : List ℕ) (s : Memory) : Type 0 wher
   pub elements : take (s .count) (s .chapter) ≡ plain
   pub fresh : (slice : List ℕ) → length slice ≡ length (s .marks) → Fresh alphabet table plain s slice
 
--- "This is one claim about the whole list and not one for each call." Run and each call are lent the same table slice.
+-- "This is one claim about the whole list and not one for each call." Run and each call are lent the same table slice. "In demand 3 each
+-- call also gets the record as Run or the call before left it, and so never 27" (document 02, U10).
 abbrev pub Demand3 : Type 0
 Demand3 =
     (alphabet tableSlice chapter : List ℕ) (s : Memory) (calls : List Call) → Start alphabet (tableIn tableSlice) chapter s
     → Faithful alphabet (tableIn tableSlice)
     (plains alphabet (tableIn tableSlice) (length (s .chapter)) (length (s .marks)) calls chapter)
     (exchanges alphabet (tableIn tableSlice) calls s)
+    × NeverRefused 27 alphabet (tableIn tableSlice) calls s
 
 -- ---- Demand 3's second half (Recomputed): "Whatever marks it is lent, true or false, each accepted Exchange works out, by
 -- document 01's rule from the parts' marks as they stand, only the new subtree and, unless its root gets the old one's marks,
 -- the ancestors upwards to the first whose marks come out unchanged, or to the root; its reported count is exactly the new
 -- subtree's elements plus those ancestors, and every other element's marks are carried over."
 
--- a call that answers these two numbers
-pub record RecomputesOnly (c : ExchangeCall) (elements workedOut : ℕ) : Type 0 where
+-- a call that answers these two numbers, with the record t
+pub record RecomputesOnly (c : ExchangeCall) (t : Totals) (elements workedOut : ℕ) : Type 0 where
   -- "The answer is the new element count and the number worked out"
   pub newCount : elements ≡ length (newTree c)
   pub counted : workedOut ≡ recomputedIn (outcomes c)
   -- each node of the new tree has one outcome, and its words at exit are the outcome's
   pub nodes : length (outcomes c) ≡ length (newTree c)
-  pub written : (j : ℕ) → j < length (newTree c) → storedSet (sizeOf (c .table)) (exchangeMarks c) j ≡ setAfter c j
+  pub written : (j : ℕ) → j < length (newTree c) → storedSet (sizeOf (c .table)) (exchangeMarks c t) j ≡ setAfter c j
   -- the nodes before the replaced subtree keep their stored sets
   pub before : (j : ℕ) → j < startIn c → outcomeOf c j ≡ kept (storedIn c j)
   -- "Replacement elements are worked out"
@@ -203,8 +213,8 @@ pub record RecomputesOnly (c : ExchangeCall) (elements workedOut : ℕ) : Type 0
 
 abbrev pub Demand3Recomputation : Type 0
 Demand3Recomputation =
-    (c : ExchangeCall) (elements workedOut : ℕ) → exchangeAnswer c ≡ accepted (elements ∷ workedOut ∷ [])
-    → RecomputesOnly c elements workedOut
+    (c : ExchangeCall) (t : Totals) (elements workedOut : ℕ) → exchangeAnswer c t ≡ accepted (elements ∷ workedOut ∷ [])
+    → RecomputesOnly c t elements workedOut
 
 -- ---- Tables end to end (document 02, U1; TableSlices): a table carries its own length.
 
@@ -214,19 +224,20 @@ plainTable alphabet rule = headWord (compiled alphabet rule) ∷ transitionsWord
 
 -- what each of the three answers and leaves is the same with either table
 pub record CalledAlike (alphabet table table′ : List ℕ) : Type 0 where
-  pub run : (chapter marks : List ℕ)
+  pub run : (chapter marks : List ℕ) (t : Totals)
       → (runAnswer alphabet table chapter marks ≡ runAnswer alphabet table′ chapter marks)
       × (runExit alphabet table chapter marks ≡ runExit alphabet table′ chapter marks)
+      × (runTotals alphabet table chapter marks t ≡ runTotals alphabet table′ chapter marks t)
   pub list : (elements : ℕ) (marks slice : List ℕ)
       → (listAnswer alphabet table elements marks slice ≡ listAnswer alphabet table′ elements marks slice)
       × (listExit alphabet table elements marks slice ≡ listExit alphabet table′ elements marks slice)
-  pub exchange : (chapter marks : List ℕ) (count element : ℕ) (replacement : List ℕ)
-      → (exchangeAnswer (exchangeCall alphabet table chapter marks count element replacement)
-      ≡ exchangeAnswer (exchangeCall alphabet table′ chapter marks count element replacement))
-      × (exchangeChapter (exchangeCall alphabet table chapter marks count element replacement)
-      ≡ exchangeChapter (exchangeCall alphabet table′ chapter marks count element replacement))
-      × (exchangeMarks (exchangeCall alphabet table chapter marks count element replacement)
-      ≡ exchangeMarks (exchangeCall alphabet table′ chapter marks count element replacement))
+  pub exchange : (chapter marks : List ℕ) (count element : ℕ) (replacement : List ℕ) (t : Totals)
+      → let c = exchangeCall alphabet table chapter marks count element replacement in
+      let c′ = exchangeCall alphabet table′ chapter marks count element replacement in
+      (exchangeAnswer c t ≡ exchangeAnswer c′ t)
+      × (exchangeChapter c t ≡ exchangeChapter c′ t)
+      × (exchangeMarks c t ≡ exchangeMarks c′ t)
+      × (exchangeTotals c t ≡ exchangeTotals c′ t)
 
 pub record TableSlices : Type 0 where
   -- "Compile is compared with document 01's words plus this one", which becomes the second word
@@ -273,7 +284,7 @@ pub record Heights : Type 0 where
   -- "chapters of height 512 are marked, 513 refused, in Exchange both the old and the resulting chapter": where a call is accepted
   pub run : (alphabet table chapter marks : List ℕ) (elements cells : ℕ)
       → runAnswer alphabet table chapter marks ≡ accepted (elements ∷ cells ∷ []) → heightOf alphabet chapter ≤ heightMost
-  pub exchange : (c : ExchangeCall) (elements workedOut : ℕ) → exchangeAnswer c ≡ accepted (elements ∷ workedOut ∷ [])
+  pub exchange : (c : ExchangeCall) (t : Totals) (elements workedOut : ℕ) → exchangeAnswer c t ≡ accepted (elements ∷ workedOut ∷ [])
       → (heightOf (c .alphabet) (used c) ≤ heightMost) × (heightOf (c .alphabet) (newTree c) ≤ heightMost)
 
 -- ---- Holes (document 02, U8; Holes): "Bit 8 of a constant's alphabet word now marks a hole".
@@ -312,7 +323,7 @@ pub record Holes : Type 0 where
   -- "Chapters and replacements must then hold none": where a call is accepted
   pub run : (alphabet table chapter marks : List ℕ) (elements cells : ℕ)
       → runAnswer alphabet table chapter marks ≡ accepted (elements ∷ cells ∷ []) → HoleFreeWords alphabet chapter
-  pub exchange : (c : ExchangeCall) (elements workedOut : ℕ) → exchangeAnswer c ≡ accepted (elements ∷ workedOut ∷ [])
+  pub exchange : (c : ExchangeCall) (t : Totals) (elements workedOut : ℕ) → exchangeAnswer c t ≡ accepted (elements ∷ workedOut ∷ [])
       → HoleFreeWords (c .alphabet) (used c) × HoleFreeWords (c .alphabet) (c .replacement) × HoleFreeWords (c .alphabet) (newTree c)
   -- "Without holes all reads as before": document 01's alphabets are those without a hole that 1 lets pass
   pub alphabets : (alphabet : List ℕ) → noPlainAlphabet alphabet ≡ noAlphabet alphabet || hasHoles alphabet
@@ -327,10 +338,8 @@ pub record Holes : Type 0 where
   -- and 26, which the lists of Run and Exchange have beside document 01's numbers and U6's, refuses nothing: it can be left out
   pub runs : (alphabet table chapter : List ℕ) (marksLength : ℕ) → hasHoles alphabet ≡ false
       → runFault alphabet table chapter marksLength ≡ refusal (without 26 (runRefusals alphabet table chapter marksLength))
-  pub exchanges : (alphabet table : List ℕ) (n : ℕ) (elements : List ℕ) (chapterLength marksLength i : ℕ) (replacement : List ℕ)
-      → hasHoles alphabet ≡ false
-      → exchangeFault alphabet table n elements chapterLength marksLength i replacement
-      ≡ refusal (without 26 (exchangeRefusals alphabet table n elements chapterLength marksLength i replacement))
+  pub exchanges : (c : ExchangeCall) (t : Totals) → hasHoles (c .alphabet) ≡ false
+      → fault c t ≡ refusal (without 26 (refusalsOf c t))
 
 -- ---- Anything (document 02, U7; Anything): "a rule word that holds for every tree over the alphabet". Its language is a clause of
 -- `Member`, its moves are those of `anythingTransitions`; demand 2 speaks of rules with it and without.
@@ -349,3 +358,40 @@ pub record Anything : Type 0 where
   -- a rule without it is judged as before: 25 refuses none, and can be left out
   pub without-it : (alphabet rule : List ℕ) (tableLength : ℕ) → hasAnything rule ≡ false
       → compileFault alphabet rule tableLength ≡ refusal (without 25 (compileRefusals alphabet rule tableLength))
+
+-- ---- Totals on hand (document 02, U10; TotalsOnHand): "the chapter's record of three totals is lent to Run, which sets it, and changed by
+-- each exchange". Demand 3 speaks of the record too.
+
+-- the record is right: it has the totals of the used elements and their stored marks
+abbrev pub RightTotals : List ℕ → ℕ → List ℕ → Totals → Type 0
+RightTotals table elements marks t = t ≡ totalsOf table (listFrom (storedSet (sizeOf table) marks) 0 elements)
+
+-- a total before, that of the used elements before and behind the exchange, and the total behind it
+pub record Difference (t old new after : ℕ) : Type 0 where
+  pub moves : after + old ≡ t + new
+  pub most : after ≤ cellsMost
+
+pub record TotalsOnHand : Type 0 where
+  -- an accepted Run sets it: the element count and the cells are those that it answers, and it is right
+  pub run : (alphabet table chapter marks : List ℕ) (t : Totals) (elements cells : ℕ)
+      → runAnswer alphabet table chapter marks ≡ accepted (elements ∷ cells ∷ [])
+      → (runTotals alphabet table chapter marks t .elements ≡ elements) × (runTotals alphabet table chapter marks t .cells ≡ cells)
+      × RightTotals table elements (runExit alphabet table chapter marks) (runTotals alphabet table chapter marks t)
+  -- the hits of a right record are as many as List answers
+  pub list : (alphabet table : List ℕ) (elements : ℕ) (marks slice : List ℕ) (t : Totals) (found : ℕ)
+      → listAnswer alphabet table elements marks slice ≡ accepted (found ∷ []) → RightTotals table elements marks t → t .hits ≡ found
+  -- an accepted Exchange changes "every total by the difference that the exchange makes in the used elements and their stored marks",
+  -- whatever stands in the record
+  pub exchange : (c : ExchangeCall) (t : Totals) (elements workedOut : ℕ) → exchangeAnswer c t ≡ accepted (elements ∷ workedOut ∷ [])
+      → Difference (t .elements) (oldTotals c .elements) (newTotals c .elements) (exchangeTotals c t .elements)
+      × Difference (t .hits) (oldTotals c .hits) (newTotals c .hits) (exchangeTotals c t .hits)
+      × Difference (t .cells) (oldTotals c .cells) (newTotals c .cells) (exchangeTotals c t .cells)
+  -- and these are the totals of the used elements before the call and behind it
+  pub used : (c : ExchangeCall) (t : Totals) (elements workedOut : ℕ) → exchangeAnswer c t ≡ accepted (elements ∷ workedOut ∷ [])
+      → RightTotals (c .table) (c .count) (c .marks) (oldTotals c) × RightTotals (c .table) elements (exchangeMarks c t) (newTotals c)
+  -- "If it was right before, it is right after", whether the stored marks are true or false
+  pub right : (c : ExchangeCall) (t : Totals) (elements workedOut : ℕ) → exchangeAnswer c t ≡ accepted (elements ∷ workedOut ∷ [])
+      → RightTotals (c .table) (c .count) (c .marks) t → RightTotals (c .table) elements (exchangeMarks c t) (exchangeTotals c t)
+  -- and then never 27; the stored marks are words
+  pub never : (c : ExchangeCall) (t : Totals) → All (AllBelow wordRange) (listFrom (storedIn c) 0 (c .count))
+      → RightTotals (c .table) (c .count) (c .marks) t → exchangeAnswer c t ≡ refused 27 → ⊥

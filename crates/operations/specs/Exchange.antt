@@ -1,5 +1,5 @@
--- Exchange: its refusals (`exchangeRefusals`), which nodes are recomputed (document 01's worked out) and from what, the answer,
--- and both slices at exit. Nothing is assumed of the stored marks.
+-- Exchange: its refusals (`exchangeRefusals`, and 27), which nodes are recomputed (document 01's worked out) and from what, the answer,
+-- both slices and the record of totals at exit. Nothing is assumed of the stored marks, nor of the record.
 use Prim.Native.Nat.{ℕ, suc, _+_, _*_}
 use mathlib.Core.List.{List, [], _∷_, _++_, flatten, map}
 use mathlib.Core.Bool.{Bool, not, cond, _||_}
@@ -15,6 +15,7 @@ use Rattle.automaton.specs.StateSet.{StateSet}
 use Rattle.operations.specs.Marks.{sizeOf, nodeSet, nodeSets, storedSet, sameWords, refit}
 use Rattle.operations.specs.ExchangeCall.{ExchangeCall}
 use Rattle.operations.specs.Run.{wrongCount, marksTooShort, tableRefusals, markedRefusals}
+use Rattle.operations.specs.Totals.{Totals, totalsOf, totalsExit, movedTotals, wrongTotals}
 
 -- 9: "also if the used count exceeds the chapter slice"
 unfoldable pub wrongUsedCount : ℕ → ℕ → Bool
@@ -40,7 +41,8 @@ changeRefusals a table n used chapterLength marksLength i xs =
     ∷ (16, resultTooLong table (length (splice a used i xs)) chapterLength marksLength)
     ∷ (24, tooHigh a (splice a used i xs)) ∷ []
 
--- of a call with this used count n and these used elements, slices of these lengths, an element and a replacement
+-- of a call with this used count n and these used elements, slices of these lengths, an element and a replacement: all but 27, which
+-- asks for marks and the record (below)
 abbrev pub exchangeRefusals : List ℕ → List ℕ → ℕ → List ℕ → ℕ → ℕ → ℕ → List ℕ → Refusals
 exchangeRefusals a table n used chapterLength marksLength i xs =
     tableRefusals a table
@@ -107,12 +109,13 @@ module _ (c : ExchangeCall) where
   abbrev pub used : List ℕ
   used = take (c .count) (c .chapter)
 
-  abbrev pub refusalsOf : Refusals
-  refusalsOf =
+  -- what the words of a call are refused for, whatever the record holds: all but 27
+  abbrev pub wordsRefusals : Refusals
+  wordsRefusals =
       exchangeRefusals (c .alphabet) (c .table) (c .count) used (length (c .chapter)) (length (c .marks)) (c .element) (c .replacement)
 
-  unfoldable pub fault : ℕ
-  fault = refusal refusalsOf
+  unfoldable pub wordsFault : ℕ
+  wordsFault = refusal wordsRefusals
 
   unfoldable pub newTree : List ℕ
   newTree = splice (c .alphabet) used (c .element) (c .replacement)
@@ -125,13 +128,43 @@ module _ (c : ExchangeCall) where
   outcomes = outcomesAfter (c .alphabet) (c .table) storedIn used (c .element) (c .replacement)
 
   -- "The answer is the new element count and the number worked out"
-  unfoldable pub exchangeAnswer : Answer
-  exchangeAnswer = answerOf fault (length newTree ∷ recomputedIn outcomes ∷ [])
+  abbrev pub exchangeValues : List ℕ
+  exchangeValues = length newTree ∷ recomputedIn outcomes ∷ []
 
-  -- the chapter slice at exit
-  unfoldable pub exchangeChapter : List ℕ
-  exchangeChapter = exitOf fault (refit (c .count) newTree (c .chapter)) (c .chapter)
+  -- the two slices behind an accepted call
+  unfoldable pub newChapter : List ℕ
+  newChapter = refit (c .count) newTree (c .chapter)
 
-  -- the marks slice at exit
-  unfoldable pub exchangeMarks : List ℕ
-  exchangeMarks = exitOf fault (refit (c .count * sizeOf (c .table)) (flatten (map setIn outcomes)) (c .marks)) (c .marks)
+  unfoldable pub newMarks : List ℕ
+  newMarks = refit (c .count * sizeOf (c .table)) (flatten (map setIn outcomes)) (c .marks)
+
+  -- the totals of "the used elements and their stored marks" (document 02, U10), before the exchange and behind it
+  unfoldable pub oldTotals : Totals
+  oldTotals = totalsOf (c .table) (listFrom storedIn 0 (c .count))
+
+  unfoldable pub newTotals : Totals
+  newTotals = totalsOf (c .table) (map setIn outcomes)
+
+  -- with the record t that it is lent
+  module _ (t : Totals) where
+    -- "27 any of the three would come out of an exchange below zero or above that figure, last of all" (document 02, U10)
+    abbrev pub refusalsOf : Refusals
+    refusalsOf = wordsRefusals ++ ((27, wrongTotals t oldTotals newTotals) ∷ [])
+
+    unfoldable pub fault : ℕ
+    fault = refusal refusalsOf
+
+    unfoldable pub exchangeAnswer : Answer
+    exchangeAnswer = answerOf fault exchangeValues
+
+    -- the chapter slice at exit
+    unfoldable pub exchangeChapter : List ℕ
+    exchangeChapter = exitOf fault newChapter (c .chapter)
+
+    -- the marks slice at exit
+    unfoldable pub exchangeMarks : List ℕ
+    exchangeMarks = exitOf fault newMarks (c .marks)
+
+    -- the record at exit: it is "changed by each exchange, every total by the difference that the exchange makes"
+    unfoldable pub exchangeTotals : Totals
+    exchangeTotals = totalsExit fault (movedTotals t oldTotals newTotals) t

@@ -1,4 +1,4 @@
--- A call of Exchange: all that it is given, as one record.
+-- A call of Exchange: all that it is given but the record of totals, as one record.
 use Prim.Native.Nat.{ℕ}
 use mathlib.Core.List.{List}
 

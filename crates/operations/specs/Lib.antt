@@ -2,6 +2,7 @@ pub mod Compile
 pub mod Marks
 pub mod Run
 pub mod Listing
+pub mod Totals
 pub mod ExchangeCall
 pub mod Exchange
 pub mod Recomputation

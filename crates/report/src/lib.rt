@@ -13,9 +13,10 @@ use lines::write_refused;
 use matcher::Listed;
 use matcher::Ran;
 use matcher::list;
-use matcher::run;
+use matcher::run_counted;
 use sets::state::SET_MOST;
 use tables::head::state_count;
+use totals::Totals;
 use words::limits::TABLE_MOST;
 
 pub mod input;
@@ -63,7 +64,13 @@ fn report_chapter(alphabet: &[u32], table: &[u32], chapter: &[u32], out: &mut [u
         return write_refused(out, 9);
     }
     let mut marks = [0u32; MARKS_LENGTH];
-    match run(alphabet, table, chapter, &mut marks) {
+    let before = Totals {
+        elements: 0,
+        hits: 0,
+        cells: 0,
+    };
+    let ran = run_counted(alphabet, table, chapter, &mut marks, before).ran;
+    match ran {
         Ran::Marked(_, _) => report_hits(alphabet, table, chapter, &marks, out),
         Ran::Refused(number) => write_refused(out, number),
     }

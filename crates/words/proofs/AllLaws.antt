@@ -1,11 +1,12 @@
 -- A property of every member of a list, and lists of numbers below a bound.
 use mathlib.Core.Path.{_≡_, refl, ap₂, sym, subst}
-use mathlib.Core.List.{List, [], _∷_, _++_, map, reverse, reverseAux, List·Memᴰ, List·Memᴰ·head, List·Memᴰ·tail}
-use Prim.Native.Nat.{ℕ, zero, suc, _<_, _≤_}
+use mathlib.Core.List.{List, [], _∷_, _++_, map, flatten, reverse, reverseAux, List·Memᴰ, List·Memᴰ·head, List·Memᴰ·tail}
+use Prim.Native.Nat.{ℕ, zero, suc, _+_, _<_, _≤_}
 use native.Mathlib.Omega.{arith}
+use native.Mathlib.Nat.{add-zero, add-suc, suc-add}
 use lib.ListN.{length, getD, take, drop, set}
 use lib.Seq.{getD-set-other}
-use Rattle.words.specs.Lists.{All, AllBelow}
+use Rattle.words.specs.Lists.{All, AllBelow, listFrom}
 
 module _ {A : Type 0} (P : A → Type 0) where
   pub each-append : (xs ys : List A) → All P xs → All P ys → All P (xs ++ ys)
@@ -56,6 +57,20 @@ module _ {A : Type 0} (P : A → Type 0) where
   pub each-at : {x : A} (xs : List A) → All P xs → List·Memᴰ x xs → P x
   each-at (y ∷ ys) p (List·Memᴰ·head e) = subst P (sym e) (p .0)
   each-at (y ∷ ys) p (List·Memᴰ·tail m) = each-at ys (p .1) m
+
+  pub each-listFrom : (f : ℕ → A) (n j : ℕ) → ((i : ℕ) → i < j + n → P (f i)) → All P (listFrom f j n)
+  each-listFrom f zero j h = tt
+  each-listFrom f (suc n) j h = (h j (omega arith), each-listFrom f n (suc j) (λ i l. h i (omega arith)))
+
+  pub listFrom-each : (f : ℕ → A) (n j i : ℕ) → All P (listFrom f j n) → i < n → P (f (j + i))
+  listFrom-each f zero j i h l = absurd (omega arith)
+  listFrom-each f (suc n) j zero h l = rw (add-zero j) (h .0)
+  listFrom-each f (suc n) j (suc i) h l = rw (add-suc j i, ← suc-add j i) (listFrom-each f n (suc j) i (h .1) (omega arith))
+
+  pub each-flatten : (xss : List (List A)) → All (All P) xss → All P (flatten xss)
+  unfolding flatten
+  each-flatten [] p = tt
+  each-flatten (xs ∷ xss) p = each-append xs (flatten xss) (p .0) (each-flatten xss (p .1))
 
 module _ {A : Type 0} (P Q : A → Type 0) where
   pub each-map : ((x : A) → P x → Q x) → (xs : List A) → All P xs → All Q xs

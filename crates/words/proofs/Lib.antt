@@ -27,9 +27,11 @@ pub mod SubtreeLaws
 pub mod SubtreeMeaning
 pub mod HighestLaws
 pub mod HeightLaws
+pub mod PendingRoots
 pub mod HeightExamples
 pub mod CountLaws
 pub mod HoldingLaws
 pub mod WordLaws
 pub mod RelabelLaws
 pub mod ScanLaws
+pub mod Facts

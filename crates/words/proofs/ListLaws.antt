@@ -69,6 +69,11 @@ module _ {A : Type 0} (f : ℕ → A) where
   listFrom-shift g zero j h = refl
   listFrom-shift g (suc n) j h = ap₂ (λ (x : A) (y : List A). x ∷ y) (h j) (listFrom-shift g n (suc j) h)
 
+  pub listFrom-below : (g : ℕ → A) (n j : ℕ) → ((i : ℕ) → i < j + n → f i ≡ g i) → listFrom f j n ≡ listFrom g j n
+  listFrom-below g zero j h = refl
+  listFrom-below g (suc n) j h =
+      ap₂ (λ (x : A) (y : List A). x ∷ y) (h j (omega arith)) (listFrom-below g n (suc j) (λ i l. h i (omega arith)))
+
   pub listFrom-offset : (j n i : ℕ) → listFrom (λ k. f (j + k)) i n ≡ listFrom f (j + i) n
   listFrom-offset j zero i = refl
   listFrom-offset j (suc n) i =

@@ -1,6 +1,6 @@
 -- Laws of refusals: the number is that of the first condition that holds, and a call that is not refused has none that does.
 -- The evidence is `First` and `NoneHolds`, of which the claims speak; `Found` is one or the other.
-use mathlib.Core.Path.{_≡_, refl, _∙_, sym, subst}
+use mathlib.Core.Path.{_≡_, refl, ap, _∙_, sym, subst}
 use mathlib.Core.Bool.{Bool, true, false, not, cond, _&&_}
 use mathlib.Core.List.{[], _∷_, _++_}
 use Prim.Native.Nat.{ℕ, zero, suc, _<_, _≤_}
@@ -186,6 +186,28 @@ module _ (whole : Refusals) (p : positive whole ≡ true) (h : refusal whole ≡
   part-behind n rs e =
       let rest = none-behind-number n whole (refusal-none whole p h) in
       none-refusal rs (subst NoneHolds e (none-taken (length rs) (behindNumber n whole) rest))
+
+-- ---- refusals behind others
+
+-- where one before applies, those behind do not count
+pub refusal-before : (rs more : Refusals) → (refusal rs ≡ 0 → ⊥) → refusal (rs ++ more) ≡ refusal rs
+refusal-before [] more h = absurd (h refl)
+refusal-before (r ∷ rs) more h = go (r .1) h (λ k. refusal-before rs more k)
+  where
+    go : (b : Bool) → (cond b (r .0) (refusal rs) ≡ 0 → ⊥) → ((refusal rs ≡ 0 → ⊥) → refusal (rs ++ more) ≡ refusal rs)
+        → cond b (r .0) (refusal (rs ++ more)) ≡ cond b (r .0) (refusal rs)
+    go true k ih = refl
+    go false k ih = ih k
+
+-- where none before applies, they do
+pub refusal-behind : (rs more : Refusals) → NoneHolds rs → refusal (rs ++ more) ≡ refusal more
+refusal-behind [] more h = refl
+refusal-behind (r ∷ rs) more h = rw (first-fails r rs h) (refusal-behind rs more (rest-fails r rs h))
+
+-- a last one whose condition does not hold
+pub refusal-last : (rs : Refusals) (n : ℕ) (b : Bool) → b ≡ false → refusal (rs ++ (n, b) ∷ []) ≡ refusal rs
+refusal-last [] n b h = rw h
+refusal-last (r ∷ rs) n b h = ap (cond (r .1) (r .0)) (refusal-last rs n b h)
 
 -- a list without the number n does not refuse by it
 pub without-never : (n : ℕ) (rs : Refusals) → 0 < n → refusal (without n rs) ≡ n → ⊥

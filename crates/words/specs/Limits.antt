@@ -40,3 +40,7 @@ nodesMost = 4096
 -- "chapters of height 512 are marked, 513 refused" (document 02, U6)
 abbrev pub heightMost : ℕ
 heightMost = 512
+
+-- "Cells are still the ones in the marks, at most 4,194,304" (document 02, U10): so many elements, each with so many states
+abbrev pub cellsMost : ℕ
+cellsMost = 4194304

@@ -26,6 +26,9 @@ pub const NODES_MOST: usize = 4096;
 // The height of the highest chapter (document 02, U6).
 pub const HEIGHT_MOST: usize = 512;
 
+// The most cells of a chapter (document 02, U10).
+pub const CELLS_MOST: usize = 4194304;
+
 // Whether a number is 0 or over the most.
 pub fn is_outside(most: usize, n: usize) -> bool
     ensures { λ r. ⌜ r ≡ outside most n ⌝ }

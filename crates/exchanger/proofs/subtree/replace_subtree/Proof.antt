@@ -8,7 +8,6 @@ use borrow.Author.Needs.{needs}
 use Rattle.words.specs.Answer.{accepted}
 use Rattle.operations.specs.ExchangeCall.{ExchangeCall, exchangeCall}
 use Rattle.exchanger.proofs.CallNumberLaws.{CallNumbers, call-numbers, chapter-movable, marks-movable}
-use Rattle.exchanger.proofs.ExchangeAnswerLaws.{call-replaced}
 use Rattle.exchanger.proofs.ReplaceLaws.{chapter-exit, chapter-count, call-updatable, marks-exit}
 use Rattle.exchanger.proofs.subtree.replace_subtree.Statement.{statement}
 use Rattle.exchanger.proofs.subtree.replace_subtree.Tie as tie
@@ -126,11 +125,10 @@ returns c =
     let qz = p .set-size .ensures in
     let left =
     marks-exit q pre _ qs _ qz _ _ (t .move-tail .ensures) (f .copy-words .ensures) _ (w .move-tail2 .ensures) (w .move-tail2 .kept .0)
-    _ _ (k .update-marks .ensures) in
-    call-replaced q pre _ _ _
-    (ap₂ (λ (i j : ℕ). accepted (i ∷ j ∷ [])) (facts p .total) (left .count-is))
-    (chapter-exit q pre _ qs _ qz _ _ (t .move-tail .ensures) (f .copy-words .ensures))
-    (left .words)
+    _ _ (k .update-marks .ensures) in (
+      ap₂ (λ (i j : ℕ). accepted (i ∷ j ∷ [])) (facts p .total) (left .count-is),
+      (chapter-exit q pre _ qs _ qz _ _ (t .move-tail .ensures) (f .copy-words .ensures), left .words),
+    )
 
 pub replace-subtree-spec : {M : Type 1} → statement M
 replace-subtree-spec =

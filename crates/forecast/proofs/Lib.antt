@@ -1,0 +1,11 @@
+pub mod StackInLaws
+pub mod StepSetLaws
+pub mod SumLaws
+pub mod TreeLaws
+pub mod RunFacts
+pub mod StackSetsLaws
+pub mod PassLaws
+pub mod PassingLaws
+pub mod BehindLaws
+pub mod AddedLaws
+pub mod ForecastLaws

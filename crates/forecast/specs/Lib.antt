@@ -1,0 +1,4 @@
+pub mod Pile
+pub mod Sum
+pub mod Tree
+pub mod Behind
