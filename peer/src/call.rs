@@ -1,6 +1,7 @@
 //! One call of an operation: all that is given to it, and what it answers and leaves. Every matcher takes calls in this
 //! form, so that they differ in what they do and in nothing else.
 
+use crate::totals::{self, Totals};
 use crate::words::Hex;
 use std::fmt;
 
@@ -34,6 +35,7 @@ pub struct Call {
     pub node: usize,
     pub replacement: Vec<u32>,
     pub list: Vec<u32>,
+    pub totals: Totals,
 }
 
 /// What a call answers and leaves.
@@ -53,6 +55,9 @@ pub struct Answer {
 
 /// What stands behind an out-parameter before a call.
 const UNWRITTEN: [u32; 2] = [0xcafe_0001, 0xcafe_0002];
+
+/// What stands in the record before a Run that is given no other.
+const UNSET: Totals = [0xcafe_0003, 0xcafe_0004, 0xcafe_0005];
 
 pub trait Matcher {
     /// Performs the call on copies of its slices.
@@ -79,6 +84,7 @@ impl Call {
             node: 0,
             replacement: Vec::new(),
             list: Vec::new(),
+            totals: [0; 3],
         }
     }
 
@@ -95,6 +101,7 @@ impl Call {
             table: table.to_vec(),
             tree: tree.to_vec(),
             sets,
+            totals: UNSET,
             ..Call::empty(Operation::Run, alphabet)
         }
     }
@@ -109,6 +116,7 @@ impl Call {
         }
     }
 
+    /// The record is right for the used nodes.
     pub fn exchange(
         alphabet: &[u32],
         table: &[u32],
@@ -118,7 +126,7 @@ impl Call {
         node: usize,
         replacement: &[u32],
     ) -> Call {
-        Call {
+        let mut call = Call {
             table: table.to_vec(),
             tree,
             count,
@@ -126,11 +134,21 @@ impl Call {
             node,
             replacement: replacement.to_vec(),
             ..Call::empty(Operation::Exchange, alphabet)
+        };
+        call.totals = totals::right(&call);
+        call
+    }
+
+    /// How many words of the record are lent: it is lent as a whole, or not at all.
+    fn lent_totals(&self) -> usize {
+        match self.operation {
+            Operation::Run | Operation::Exchange => self.totals.len(),
+            Operation::Compile | Operation::List => 0,
         }
     }
 
-    /// The slices with document 01's names, in its order.
-    pub fn slices(&self) -> [(&'static str, &Vec<u32>); 7] {
+    /// The slices with document 01's names, in its order, and then the record.
+    pub fn slices(&self) -> [(&'static str, &[u32]); 8] {
         [
             ("alphabet", &self.alphabet),
             ("rule", &self.expression),
@@ -139,11 +157,13 @@ impl Call {
             ("marks", &self.sets),
             ("replacement", &self.replacement),
             ("list", &self.list),
+            ("totals", &self.totals[..self.lent_totals()]),
         ]
     }
 
     /// The same slices to be lent.
-    pub fn slices_mut(&mut self) -> [&mut Vec<u32>; 7] {
+    pub fn slices_mut(&mut self) -> [&mut [u32]; 8] {
+        let lent_totals = self.lent_totals();
         [
             &mut self.alphabet,
             &mut self.expression,
@@ -152,6 +172,7 @@ impl Call {
             &mut self.sets,
             &mut self.replacement,
             &mut self.list,
+            &mut self.totals[..lent_totals],
         ]
     }
 }

@@ -1,8 +1,10 @@
 //! Document 01's Exchange on a tree whose stored state sets may be true or false: the subtree gives way to the
 //! replacement, the replacement is worked out, and then ancestors from the nearest upwards until one is unchanged.
 
+use crate::call::Call;
 use crate::marks::{StateSet, Table};
 use crate::postfix;
+use crate::words;
 
 /// A tree of symbols with the stored words of each node's state set.
 #[derive(Clone)]
@@ -21,6 +23,24 @@ pub struct Exchanged {
 pub fn splice<T: Clone>(all: &[T], node: usize, size: usize, replacement: &[T]) -> Vec<T> {
     let end = node + 1;
     [&all[..end - size], replacement, &all[end..]].concat()
+}
+
+/// The exchange that a call with this table asks for; its used nodes and its replacement are trees, and there are stored
+/// words of each used node.
+pub fn exchange_of(call: &Call, table: &Table) -> Exchanged {
+    let rows = call.sets.chunks(table.width()).take(call.count);
+    let old = MarkedTree {
+        symbols: words::symbols(&call.tree[..call.count]),
+        rows: rows.map(<[u32]>::to_vec).collect(),
+    };
+    let replacement = words::symbols(&call.replacement);
+    exchange(
+        table,
+        &words::arities(&call.alphabet),
+        &old,
+        call.node,
+        &replacement,
+    )
 }
 
 pub fn exchange(

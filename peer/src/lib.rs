@@ -1,11 +1,11 @@
 //! An unrelated matcher for document 01's trees, and its comparison with the proved library.
 //!
-//! The model is written from document 01 and document 02's U1, U6, U7 and U8 alone: `limits` and `kinds` have
+//! The model is written from document 01 and document 02's U1, U6, U7, U8 and U10 alone: `limits` and `kinds` have
 //! their numbers, and `refusals` every refusal in order; `language` decides membership by substitution,
 //! without an automaton; `automaton`, `marks` and `exchange` recompute the words that the operations write,
-//! `length_word` says where a table in a slice ends, and `marklist` has the text that the program prints.
-//! `compare` makes each call of the model and of the library, `driver` runs the program, and `cases` has the
-//! inputs. `guard` and `mapping` show what a call does outside its slices.
+//! `totals` counts for the record, `length_word` says where a table in a slice ends, and `marklist` has the
+//! text that the program prints. `compare` makes each call of the model and of the library, `driver` runs the
+//! program, and `cases` has the inputs. `guard` and `mapping` show what a call does outside its slices.
 
 pub mod automaton;
 pub mod call;
@@ -28,4 +28,5 @@ pub mod marks;
 pub mod model;
 pub mod postfix;
 pub mod refusals;
+pub mod totals;
 pub mod words;

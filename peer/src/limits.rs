@@ -31,5 +31,9 @@ pub const HEIGHT_LIMIT: usize = 512;
 /// Nodes of a tree that the program `marklist` takes. It is below the greatest height, so the program never says 24.
 pub const PROGRAM_LIMIT: usize = 256;
 
+/// Each of a chapter's totals after an exchange (document 02, U10). The largest chapter with the most states, all of them
+/// marked everywhere, has as many cells.
+pub const TOTAL_LIMIT: u32 = 4_194_304;
+
 /// Words of a state set.
 pub const SET_LIMIT: usize = STATE_LIMIT.div_ceil(32);

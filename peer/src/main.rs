@@ -8,7 +8,7 @@ use peer::cases::{
     anything, anything_histories, anything_members, anything_random, anything_shapes, anything_tables,
     anything_users, behind, damage, examples, faults, heights, high_chapters, high_histories, histories,
     hole_histories, hole_members, hole_places, hole_random, hole_rules, holes, largest, length_words,
-    lengths, limits, packed, program, raised, random,
+    lengths, limits, packed, program, raised, random, total_histories, total_orders, total_places, totals,
 };
 use peer::compare::{said, Comparison, Tally};
 use peer::library;
@@ -70,6 +70,9 @@ fn main() -> ExitCode {
     });
     section("tables over the most words", &mut anything_tables::compare);
     section("long tables in use", &mut anything_users::compare);
+    section("records of totals", &mut totals::compare);
+    section("records before other numbers", &mut total_orders::compare);
+    section("records of exchanges of all sizes", &mut total_places::compare);
     section("two faults at once", &mut faults::compare);
     section("damaged words", &mut |all| damage::compare(all, seed, cases / 4));
     section("random rules and chapters", &mut |all| {
@@ -95,6 +98,9 @@ fn main() -> ExitCode {
     });
     section("lists of exchanges on high chapters", &mut |all| {
         high_histories::compare(all, seed, 1 + cases / 100)
+    });
+    section("lists of exchanges with records", &mut |all| {
+        total_histories::compare(all, seed, cases / 4)
     });
     let path = program::path();
     if let Some(path) = &path {

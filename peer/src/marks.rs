@@ -119,6 +119,6 @@ impl Table {
 
     /// Whether stored words mark the final state (document 01: a hit).
     pub fn is_match(&self, words: &[u32]) -> bool {
-        self.stored_set(words)[self.accepting]
+        words[self.accepting / 32] >> (self.accepting % 32) & 1 == 1
     }
 }

@@ -1,10 +1,11 @@
-//! The four operations as document 01 gives them: the first fault, or else what the definitions write.
+//! The four operations as documents 01 and 02 give them: the first fault, or else what the definitions write.
 
 use crate::automaton;
 use crate::call::{Answer, Call, Matcher, Operation};
-use crate::exchange::{exchange, MarkedTree};
+use crate::exchange::exchange_of;
 use crate::marks::Table;
 use crate::refusals::{self, Condition};
+use crate::totals;
 use crate::words;
 
 pub struct Model;
@@ -52,6 +53,7 @@ fn write_sets(answer: &mut Answer) {
     let sets = state_sets(&call.alphabet, &table, &call.tree);
     call.sets[..sets.len()].copy_from_slice(&sets);
     answer.values = [call.tree.len() as u32, words::count_ones(&sets)];
+    call.totals = totals::counted(&table, &sets);
 }
 
 fn write_matches(answer: &mut Answer) {
@@ -71,21 +73,13 @@ fn write_exchange(answer: &mut Answer) {
     let call = &mut answer.after;
     let table = Table::read(&call.alphabet, &call.table).expect("a table");
     let (used, used_sets) = (call.count, call.count * table.width());
-    let rows = call.sets[..used_sets].chunks(table.width());
-    let old = MarkedTree {
-        symbols: words::symbols(&call.tree[..used]),
-        rows: rows.map(<[u32]>::to_vec).collect(),
-    };
-    let replacement = words::symbols(&call.replacement);
-    let new = exchange(
-        &table,
-        &words::arities(&call.alphabet),
-        &old,
-        call.node,
-        &replacement,
-    );
+    let new = exchange_of(call, &table);
+    let sets = new.tree.rows.concat();
+    let before = totals::counted(&table, &call.sets[..used_sets]);
+    let after = totals::counted(&table, &sets);
+    call.totals = totals::moved(call.totals, before, after).map(|total| total as u32);
     overwrite(&mut call.tree, used, &words::node_words(&new.tree.symbols));
-    overwrite(&mut call.sets, used_sets, &new.tree.rows.concat());
+    overwrite(&mut call.sets, used_sets, &sets);
     answer.values = [new.tree.symbols.len() as u32, new.recomputed as u32];
 }
 

@@ -1,19 +1,22 @@
-//! Document 01's "Refused calls", with document 02's U1, U6, U7 and U8. Every condition is judged by itself, so
+//! Document 01's "Refused calls", with document 02's U1, U6, U7, U8 and U10. Every condition is judged by itself, so
 //! that a call has a list of faults in the documents' order; the first of them is its refusal, and a call
 //! without a fault is accepted. A condition that rests on something missing (the table of a rule that is
 //! none, say) is judged by what holds of every such thing: a table has two words, a state set has a word, a
 //! result has the replacement's nodes. What is no tree has no height, so it is not too high. A hole is looked
-//! for in any words; those that are no nodes with a known symbol are none.
+//! for in any words; those that are no nodes with a known symbol are none. An exchange that cannot be worked out
+//! moves no total by more than the totals of any chapter.
 
 use crate::automaton;
 use crate::call::{Call, Operation};
-use crate::exchange::splice;
+use crate::exchange::{exchange_of, splice};
 use crate::length_word::LEAST_WORDS;
 use crate::limits::{
     CONSTANT_LIMIT, EXPRESSION_LIMIT, HEIGHT_LIMIT, NODE_LIMIT, STATE_LIMIT, SYMBOL_LIMIT, TABLE_LIMIT,
+    TOTAL_LIMIT,
 };
 use crate::marks::Table;
 use crate::postfix;
+use crate::totals;
 use crate::words::{self, Entry, Operator};
 use std::fmt;
 
@@ -198,6 +201,7 @@ fn change(own: &Marked) -> Judged {
         (26, has_hole(alphabet, replacement)),
         (16, nodes > NODE_LIMIT || is_over_slice),
         (24, is_too_high(postfix::children(&result))),
+        (27, own.totals_come_out_outside(nodes, !is_no_replacement)),
     ]
 }
 
@@ -205,6 +209,39 @@ impl Marked<'_> {
     /// The state set words of so many nodes.
     fn set_words(&self, nodes: usize) -> usize {
         nodes.saturating_mul(self.table.as_ref().map_or(1, Table::width))
+    }
+
+    /// Whether a total comes out of an exchange with so many nodes below zero or above the figure. Where there is no exchange,
+    /// a total does that is so far above the figure that none brings it back.
+    fn totals_come_out_outside(&self, nodes: usize, is_replacement: bool) -> bool {
+        let (call, record) = (self.call, self.call.totals);
+        let used_sets = self.set_words(call.count);
+        if let (Some(table), Some(sets)) = (&self.table, call.sets.get(..used_sets)) {
+            let before = totals::counted(table, sets);
+            // Most records come out within the bounds whatever the exchange makes of the marks: it is not worked out then.
+            let most = totals::most(nodes, table);
+            let ends = [[0; 3], most].map(|after| totals::moved(record, before, after));
+            if !ends.into_iter().any(totals::is_outside) {
+                return false;
+            }
+            if is_replacement && self.has_node() {
+                let after = totals::counted(table, &exchange_of(call, table).tree.rows.concat());
+                return totals::is_outside(totals::moved(record, before, after));
+            }
+        }
+        let most = [NODE_LIMIT as u32, NODE_LIMIT as u32, TOTAL_LIMIT];
+        let least = totals::moved(record, most, [0; 3]);
+        totals::is_outside(least.map(|total| total.max(0)))
+    }
+
+    /// Whether the used words are a tree over an alphabet, and the node is one of it.
+    fn has_node(&self) -> bool {
+        let Call { alphabet, node, .. } = self.call;
+        *node < self.tree.len()
+            && self.count == self.tree.len()
+            && alphabet.iter().all(|word| Entry::read(*word).is_some())
+            && !has_no_node(alphabet, self.tree)
+            && postfix::children(&node_arities(alphabet, self.tree)).is_some()
     }
 }
 

@@ -29,6 +29,7 @@ fn a_limit_of_the_header_is_not_the_documents() {
         ("MOST_COMPILED_WORDS", limits::COMPILED_LIMIT),
         ("MOST_ELEMENTS", limits::NODE_LIMIT),
         ("MOST_HEIGHT", limits::HEIGHT_LIMIT),
+        ("MOST_CELLS", limits::TOTAL_LIMIT as usize),
     ];
     let mut stated = constants();
     stated.retain(|name, _| name.starts_with("MOST_"));

@@ -67,7 +67,7 @@ fn the_numbers_stand_in_another_order() {
     assert_eq!(numbers(Operation::List), [1, 2, 8, 9, 12, 13]);
     assert_eq!(
         numbers(Operation::Exchange),
-        [1, 2, 8, 9, 10, 11, 24, 26, 12, 14, 15, 26, 16, 24]
+        [1, 2, 8, 9, 10, 11, 24, 26, 12, 14, 15, 26, 16, 24, 27]
     );
 }
 

@@ -54,11 +54,12 @@ pub fn compare(comparison: &mut Comparison, seed: u64, cases: u64) {
     });
 }
 
-/// The slices that a call reads or may read, the empty ones left out: all but Compile's table and the list.
-fn arguments(call: &mut Call) -> Vec<&mut Vec<u32>> {
+/// The slices that a call reads or may read, the record among them and the empty ones left out: all but Compile's table and
+/// the list.
+fn arguments(call: &mut Call) -> Vec<&mut [u32]> {
     let is_compile = call.operation == Operation::Compile;
-    let [alphabet, expression, table, tree, sets, replacement, _] = call.slices_mut();
-    let mut all = vec![alphabet, expression, tree, sets, replacement];
+    let [alphabet, expression, table, tree, sets, replacement, _, totals] = call.slices_mut();
+    let mut all = vec![alphabet, expression, tree, sets, replacement, totals];
     if !is_compile {
         all.insert(2, table);
     }

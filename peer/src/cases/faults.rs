@@ -10,12 +10,14 @@ use crate::cases::heights::{RESULT_TOO_HIGH, TOO_HIGH};
 use crate::cases::hole_faults;
 use crate::cases::holes::HOLE_IN_REPLACEMENT;
 use crate::cases::shapes::{chain, comb, low, source_words};
+use crate::cases::total_faults;
 use crate::compare::Comparison;
 use crate::length_word::{say, table_in};
 use crate::limits::{
     ARITY_LIMIT, CONSTANT_LIMIT, EXPRESSION_LIMIT, HEIGHT_LIMIT, NODE_LIMIT, SYMBOL_LIMIT, TABLE_LIMIT,
 };
 use crate::refusals::{self, Condition};
+use crate::totals;
 use crate::words::{self, entry_word, node_word, Operator, TableWord};
 use std::collections::BTreeSet;
 
@@ -74,6 +76,8 @@ fn pairs(comparison: &mut Comparison, accepted: &Call) -> BTreeSet<Vec<Condition
     for (condition, change) in &faults {
         let mut call = accepted.clone();
         change(&mut call);
+        let changed = call.clone();
+        settle(&mut call, accepted);
         let answer = comparison.call("a single fault has another number", &call);
         let found = refusals::faults(&call);
         comparison.check(
@@ -83,8 +87,9 @@ fn pairs(comparison: &mut Comparison, accepted: &Call) -> BTreeSet<Vec<Condition
         );
         met.insert(found);
         for (_, change_more) in &faults {
-            let mut both = call.clone();
+            let mut both = changed.clone();
             change_more(&mut both);
+            settle(&mut both, accepted);
             comparison.call("two faults have another number", &both);
             met.insert(refusals::faults(&both));
         }
@@ -92,12 +97,28 @@ fn pairs(comparison: &mut Comparison, accepted: &Call) -> BTreeSet<Vec<Condition
     met
 }
 
+/// The record is right for what an Exchange was changed to, unless it was changed itself.
+fn settle(call: &mut Call, accepted: &Call) {
+    if call.operation == Operation::Exchange && call.totals == accepted.totals {
+        call.totals = totals::right(call);
+    }
+}
+
 fn faults(operation: Operation) -> Vec<(Condition, Change)> {
     let parts: &[fn() -> Vec<Fault>] = match operation {
         Operation::Compile => &[alphabet, compile, hole_faults::rule, anything_faults::rule],
         Operation::Run => &[alphabet, table, nodes, hole_faults::tree, sets, run],
         Operation::List => &[alphabet, table, count, sets, list],
-        Operation::Exchange => &[alphabet, table, count, nodes, hole_faults::tree, sets, exchange],
+        Operation::Exchange => &[
+            alphabet,
+            table,
+            count,
+            nodes,
+            hole_faults::tree,
+            sets,
+            exchange,
+            total_faults::record,
+        ],
     };
     let faults = parts.iter().flat_map(|part| part());
     let mut faults: Vec<_> = faults

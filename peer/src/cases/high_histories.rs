@@ -3,7 +3,7 @@
 use crate::call::{Call, Operation};
 use crate::cases::heights::RESULT_TOO_HIGH;
 use crate::cases::high_chapters::{small_table, width};
-use crate::cases::histories::demand_3;
+use crate::cases::histories::{after_run, demand_3};
 use crate::cases::shapes::{deepest, depth};
 use crate::chance::Random;
 use crate::compare::Comparison;
@@ -37,7 +37,7 @@ fn start(comparison: &mut Comparison, random: &mut Random) -> Call {
         &Call::run(&alphabet, &table, &tree, lent),
     );
     tree.extend(random.words(NODE_LIMIT - count));
-    Call::exchange(&alphabet, &table, tree, count, marked.after.sets, 0, &[])
+    after_run(&marked, tree)
 }
 
 /// Draws an element, at the deepest place or anywhere, and a replacement that is as high as fits there, or a little higher,

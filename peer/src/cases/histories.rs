@@ -3,8 +3,9 @@
 //! the exact count decide, which the model states.
 
 use crate::automaton;
-use crate::call::Call;
+use crate::call::{Answer, Call};
 use crate::cases::patterns::{Pattern, Patterns};
+use crate::cases::totals::TOTALS_OUTSIDE;
 use crate::chance::Random;
 use crate::compare::Comparison;
 use crate::draw;
@@ -14,6 +15,7 @@ use crate::language::{Expression, Tree};
 use crate::marks::Table;
 use crate::postfix;
 use crate::refusals;
+use crate::totals;
 use crate::words::{self, Hex};
 
 /// The Exchange whose slices and count stay through a list of calls, and the expression of its table, if it has one.
@@ -61,9 +63,27 @@ pub fn start(comparison: &mut Comparison, random: &mut Random, budget: usize, pa
         &Call::run(&alphabet, &table, &tree[..count], lent),
     );
     History {
-        call: Call::exchange(&alphabet, &table, tree, count, marked.after.sets, 0, &[]),
+        call: after_run(&marked, tree),
         expression,
     }
+}
+
+/// An Exchange on the chapter that a Run was given, which this slice begins with, with the marks and the record that it left.
+/// Where it refused, the record is right for the marks as they stand.
+pub fn after_run(marked: &Answer, tree: Vec<u32>) -> Call {
+    let Call {
+        alphabet,
+        table,
+        tree: chapter,
+        sets,
+        totals,
+        ..
+    } = &marked.after;
+    let mut call = Call::exchange(alphabet, table, tree, chapter.len(), sets.clone(), 0, &[]);
+    if marked.number == 0 {
+        call.totals = *totals;
+    }
+    call
 }
 
 fn draw_tree(random: &mut Random, alphabet: &[u32], expression: &Option<Expression>, budget: usize) -> Tree {
@@ -100,13 +120,14 @@ pub fn draw(random: &mut Random, call: &mut Call, expression: &Option<Expression
     }
 }
 
-/// Compares the call, and keeps what it leaves for the next one.
-fn step(comparison: &mut Comparison, wrong: &str, call: &mut Call) {
+/// Compares the call, and keeps what it leaves for the next one. Answers its number.
+pub fn step(comparison: &mut Comparison, wrong: &str, call: &mut Call) -> u32 {
     let answer = comparison.call(wrong, call);
     *call = answer.after;
     if answer.number == 0 {
         call.count = answer.values[0] as usize;
     }
+    answer.number
 }
 
 /// A list of up to so many calls on a tree of at most `budget` nodes.
@@ -124,8 +145,9 @@ pub fn true_marks(
     });
 }
 
-/// Demand 3: after a list of so many calls, the used words are the plain chapter's and a fresh Run's. Each call is the one
-/// before, as it was left, with the element and the replacement that are drawn for its place in the list.
+/// Demand 3: after a list of so many calls, the used words are the plain chapter's and a fresh Run's, and so is the record,
+/// for which none of the calls is refused. Each call is the one before, as it was left, with the element and the replacement
+/// that are drawn for its place in the list.
 pub fn demand_3(
     comparison: &mut Comparison,
     random: &mut Random,
@@ -137,7 +159,12 @@ pub fn demand_3(
     for place in 0..calls {
         draw(comparison, random, &mut call, place);
         plain = plain_exchange(&call, &plain);
-        step(comparison, "an exchange on true marks differs", &mut call);
+        let number = step(comparison, "an exchange on true marks differs", &mut call);
+        comparison.check(
+            "a right record is wrong afterwards, or refused",
+            number != TOTALS_OUTSIDE.number && call.totals == totals::right(&call),
+            || call.to_string(),
+        );
     }
     let Call {
         alphabet,
@@ -145,6 +172,7 @@ pub fn demand_3(
         tree,
         count,
         sets,
+        totals,
         ..
     } = &call;
     comparison.check(
@@ -160,6 +188,8 @@ pub fn demand_3(
     let used = count * Table::read(alphabet, table).expect("a table").width();
     let equal = fresh.number == 0 && fresh.after.sets[..used] == sets[..used];
     comparison.check("the used marks are not a fresh Run's", equal, input);
+    let equal = fresh.after.totals == *totals;
+    comparison.check("the record is not a fresh Run's", equal, input);
     let lent = random.words(*count);
     let list = |sets: &[u32]| Call::list(alphabet, table, *count, sets, lent.clone());
     let kept = comparison.call("a list after exchanges differs", &list(sets));
@@ -170,7 +200,7 @@ pub fn demand_3(
 }
 
 /// The plain chapter after a call. It knows the lengths of the two slices and no answer: a call that is refused with it
-/// as the used elements leaves it, and in any other the subtree's words give way to the replacement's.
+/// as the used elements and a right record leaves it, and in any other the subtree's words give way to the replacement's.
 fn plain_exchange(call: &Call, plain: &[u32]) -> Vec<u32> {
     let mut tree = plain.to_vec();
     tree.resize(call.tree.len(), 0);
@@ -190,7 +220,8 @@ fn plain_exchange(call: &Call, plain: &[u32]) -> Vec<u32> {
     splice(plain, *node, postfix::sizes(&children)[*node], replacement)
 }
 
-/// Stored marks count as they stand: some or all of them are changed before and between the calls.
+/// Stored marks count as they stand: some or all of them are changed before and between the calls, where the record is left
+/// as it was or is made right again.
 pub fn false_marks(comparison: &mut Comparison, random: &mut Random, patterns: Patterns) {
     let History { mut call, expression } = start(comparison, random, 40, patterns);
     if random.once_in(3) {
@@ -199,6 +230,9 @@ pub fn false_marks(comparison: &mut Comparison, random: &mut Random, patterns: P
     for _ in 0..random.between(1, 8) {
         for _ in 0..random.below(6) {
             generate::flip(random, &mut call.sets);
+        }
+        if random.once_in(2) {
+            call.totals = totals::right(&call);
         }
         draw(random, &mut call, &expression);
         step(comparison, "an exchange on false marks differs", &mut call);

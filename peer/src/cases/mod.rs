@@ -38,3 +38,8 @@ pub mod program;
 pub mod raised;
 pub mod random;
 pub mod shapes;
+pub mod total_faults;
+pub mod total_histories;
+pub mod total_orders;
+pub mod total_places;
+pub mod totals;

@@ -15,6 +15,7 @@ use crate::marks::Table;
 use crate::model;
 use crate::postfix;
 use crate::refusals::Condition;
+use crate::totals;
 use std::collections::BTreeSet;
 
 const MOST: usize = HEIGHT_LIMIT;
@@ -32,6 +33,7 @@ fn marked_exchange(shape: &[usize], node: usize, replacement: &[usize]) -> Call 
     let table = Table::read(&call.alphabet, &call.table).expect("a table");
     let sets = model::state_sets(&call.alphabet, &table, &call.tree[..call.count]);
     call.sets[..sets.len()].copy_from_slice(&sets);
+    call.totals = totals::right(&call);
     call
 }
 

@@ -3,6 +3,8 @@
 use crate::call::{Answer, Call, Matcher, Operation};
 use crate::guard::Guarded;
 use crate::mapping::{comes_to_its_end, Mapped};
+use crate::totals::Totals;
+use std::mem::size_of;
 use std::ptr;
 
 pub struct Library;
@@ -21,7 +23,7 @@ impl Matcher for Library {
         );
         answer.surroundings_kept = guarded.iter().all(Guarded::surroundings_kept);
         for (slice, guarded) in answer.after.slices_mut().into_iter().zip(&guarded) {
-            *slice = guarded.content();
+            slice.copy_from_slice(&guarded.content());
         }
         answer
     }
@@ -54,7 +56,7 @@ impl Matcher for Library {
         answer.number = number;
         answer.values = [first, second];
         for (slice, mapped) in answer.after.slices_mut().into_iter().zip(&mapped) {
-            *slice = mapped.content();
+            slice.copy_from_slice(&mapped.content());
         }
         answer
     }
@@ -63,14 +65,13 @@ impl Matcher for Library {
 /// Performs a call on its own slices and answers its number: for timing, since nothing is copied.
 pub fn perform(call: &mut Call, values: &mut [u32; 2]) -> u32 {
     let (operation, count, node) = (call.operation, call.count, call.node);
-    let slices = call.slices_mut().map(Vec::as_mut_slice);
-    call_on(operation, slices, count, node, values)
+    call_on(operation, call.slices_mut(), count, node, values)
 }
 
 /// Calls the exported function of an operation with the slices of a call.
 fn call_on(
     operation: Operation,
-    slices: [&mut [u32]; 7],
+    slices: [&mut [u32]; 8],
     count: usize,
     element: usize,
     values: &mut [u32; 2],
@@ -115,6 +116,7 @@ extern "C" {
         marks_length: usize,
         elements: *mut u32,
         cells: *mut u32,
+        totals: *mut Record,
     ) -> u32;
 
     fn haqbylur_list(
@@ -145,8 +147,19 @@ extern "C" {
         replacement_length: usize,
         elements: *mut u32,
         worked_out: *mut u32,
+        totals: *mut Record,
     ) -> u32;
 }
+
+/// The record as the exported functions take it.
+#[repr(C)]
+struct Record {
+    elements: u32,
+    hits: u32,
+    cells: u32,
+}
+
+const _: () = assert!(size_of::<Record>() == size_of::<Totals>());
 
 /// A slice as the exported functions take it.
 #[derive(Clone, Copy)]
@@ -159,15 +172,16 @@ struct Lent {
 const TABLE: usize = 2;
 
 /// Calls the exported function of an operation with slices in the order of `Call::slices`. The pointers are aligned, what
-/// the call touches is there, and no two slices overlap.
+/// the call touches is there, and no two slices overlap. The record is a slice of its three words, where it is lent.
 unsafe fn call_exported(
     operation: Operation,
-    slices: [Lent; 7],
+    slices: [Lent; 8],
     count: usize,
     element: usize,
     [first, second]: [*mut u32; 2],
 ) -> u32 {
-    let [alphabet, rule, table, chapter, marks, replacement, list] = slices;
+    let [alphabet, rule, table, chapter, marks, replacement, list, totals] = slices;
+    let record = totals.first.cast::<Record>();
     match operation {
         Operation::Compile => haqbylur_compile(
             alphabet.first,
@@ -189,6 +203,7 @@ unsafe fn call_exported(
             marks.length,
             first,
             second,
+            record,
         ),
         Operation::List => haqbylur_list(
             alphabet.first,
@@ -217,6 +232,7 @@ unsafe fn call_exported(
             replacement.length,
             first,
             second,
+            record,
         ),
     }
 }
