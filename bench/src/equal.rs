@@ -8,7 +8,7 @@ use crate::runs::SIMULATIONS;
 use crate::workloads::{self, Workload};
 use peer::call::{Answer, Call};
 use peer::cases::{anything_histories, hole_histories, hole_places, holes};
-use peer::cases::{damage, faults, heights, histories, length_words, lengths, packed, raised};
+use peer::cases::{damage, faults, heights, histories, length_words, lengths, packed, raised, totals};
 use peer::compare::Comparison;
 use peer::library;
 use peer::model;
@@ -59,8 +59,8 @@ pub fn with_holes(pairs: &[[Workload; 2]]) -> bool {
 }
 
 /// Every pair of faults, changed bits, lists of exchanges, slices of all lengths, tables in longer slices, chapters and results
-/// around the greatest height, alphabets with holes, holes at all places, and tables of rules with anything; every number is
-/// answered.
+/// around the greatest height, alphabets with holes, holes at all places, tables of rules with anything, and records at the bounds
+/// of the totals; every number is answered.
 fn untimed(comparison: &mut Comparison) {
     faults::compare(comparison);
     damage::compare(comparison, SEED, CASES);
@@ -74,6 +74,7 @@ fn untimed(comparison: &mut Comparison) {
     hole_places::compare(comparison);
     hole_histories::compare(comparison, SEED, CASES);
     anything_histories::compare(comparison, SEED, CASES);
+    totals::compare(comparison);
     comparison.check_numbers();
 }
 

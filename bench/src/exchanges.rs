@@ -1,12 +1,13 @@
 //! Exchange beside the incremental one and a fresh Run: a leaf for another leaf and back, at places spread over the
-//! chapter, and a subtree of about 100 elements for another and back. After each pair the chapter and its marks are as
-//! before.
+//! chapter, and a subtree of about 100 elements for another and back. After each pair the chapter, its marks and its totals are
+//! as before.
 
 use crate::equal::accepted;
 use crate::incremental;
 use crate::measure::Measure;
 use crate::runs::library_run;
 use crate::targets::Target;
+use crate::totals;
 use crate::workloads::Workload;
 use peer::call::Call;
 use peer::chance::Random;
@@ -18,9 +19,15 @@ use peer::postfix;
 use peer::words;
 
 /// Two exchanges of which the second takes back the first: the element and the replacement of each.
-struct Pair {
+pub struct Pair {
     there: (usize, Vec<u32>),
     back: (usize, Vec<u32>),
+}
+
+impl Pair {
+    pub fn steps(&self) -> [&(usize, Vec<u32>); 2] {
+        [&self.there, &self.back]
+    }
 }
 
 fn sizes(work: &Workload) -> Vec<usize> {
@@ -37,7 +44,7 @@ fn pair(work: &Workload, sizes: &[usize], node: usize, replacement: Vec<u32>) ->
 }
 
 /// Sixteen leaves spread over the chapter, or as many as there are, each for another constant that is no hole.
-fn leaves(work: &Workload) -> Vec<Pair> {
+pub fn leaves(work: &Workload) -> Vec<Pair> {
     let sizes = sizes(work);
     let all: Vec<usize> = (0..work.tree.len()).filter(|node| sizes[*node] == 1).collect();
     let constants = words::leaves(&work.replacements);
@@ -55,7 +62,7 @@ fn leaves(work: &Workload) -> Vec<Pair> {
 }
 
 /// The subtree whose size is nearest to 100, for a random one of no more elements.
-fn subtree(work: &Workload) -> Vec<Pair> {
+pub fn subtree(work: &Workload) -> Vec<Pair> {
     let sizes = sizes(work);
     let node = (0..sizes.len())
         .min_by_key(|node| sizes[*node].abs_diff(100))
@@ -64,7 +71,7 @@ fn subtree(work: &Workload) -> Vec<Pair> {
     vec![pair(work, &sizes, node, words::node_words(&replacement))]
 }
 
-/// An Exchange on the chapter as Run leaves it; the element and the replacement are to be set.
+/// An Exchange on the chapter and with the record as Run leaves them; the element and the replacement are to be set.
 pub fn exchange(work: &Workload) -> Call {
     let read = work.read_table();
     let sets = model::state_sets(&work.alphabet, &read, &work.tree);
@@ -72,7 +79,7 @@ pub fn exchange(work: &Workload) -> Call {
     Call::exchange(&work.alphabet, &work.table, tree, work.tree.len(), sets, 0, &[])
 }
 
-/// Compares both exchanges of every pair, and that the second takes back the first.
+/// Compares both exchanges of every pair, with a right record and near the limit, and that the second takes back the first.
 pub fn compare(comparison: &mut Comparison, work: &Workload) {
     let start = exchange(work);
     for pair in leaves(work).into_iter().chain(subtree(work)) {
@@ -81,10 +88,11 @@ pub fn compare(comparison: &mut Comparison, work: &Workload) {
             call.node = node;
             call.replacement = replacement;
             let answer = accepted(comparison, work, &call);
+            totals::compare(comparison, work, &call, &answer);
             call = answer.after;
             call.count = answer.values[0] as usize;
         }
-        let as_before = call.tree == start.tree && call.sets == start.sets;
+        let as_before = call.tree == start.tree && call.sets == start.sets && call.totals == start.totals;
         comparison.check("a timed exchange is not taken back", as_before, || {
             call.to_string()
         });
@@ -119,7 +127,7 @@ pub fn library_exchanges(measure: &Measure, work: &Workload) -> [f64; 2] {
 /// Makes both exchanges of every pair; answers how many elements were worked out in all.
 fn recomputed(call: &mut Call, pairs: &[Pair], exchange_by: Exchange) -> u32 {
     let mut sum = 0;
-    for (node, replacement) in pairs.iter().flat_map(|pair| [&pair.there, &pair.back]) {
+    for (node, replacement) in pairs.iter().flat_map(Pair::steps) {
         call.node = *node;
         call.replacement.clear();
         call.replacement.extend_from_slice(replacement);

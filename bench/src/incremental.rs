@@ -1,16 +1,19 @@
-//! Exchange as it would be written for speed without a proof: the refusals of documents 01 and 02 in order, then the
-//! splice, and the replacement's nodes and the ancestors worked out by the textbook node step. Nothing is kept between
-//! calls. The words of the chapter are read once for their shape and once for their height, and where the alphabet has
-//! holes, once for these; of the result no height is worked out, but at most the place's ancestors are counted.
+//! Exchange as it would be written for speed without a proof: the refusals of documents 01 and 02 in order, the last of them
+//! where the replacement's nodes and the ancestors are worked out, by the textbook node step, and counted; then the splice. The
+//! totals are moved by what is counted at the place, and no other marks are read. Nothing is kept between calls. The words of the
+//! chapter are read once for their shape and once for their height, and where the alphabet has holes, once for these; of the
+//! result no height is worked out, but at most the place's ancestors are counted.
 
 mod moves;
+mod renewal;
 mod shape;
 
 use moves::Moves;
 use peer::call::{Answer, Call, Matcher, Operation};
-use peer::limits::{ARITY_LIMIT, HEIGHT_LIMIT, NODE_LIMIT};
+use peer::limits::{HEIGHT_LIMIT, NODE_LIMIT};
 use peer::model::Model;
-use shape::{symbol, Alphabet, Fault, Shape, Subtree};
+use renewal::{Old, Renewal};
+use shape::{Alphabet, Fault, Shape, Subtree};
 
 /// Performs an Exchange on its own slices, and answers the new element count and the number worked out, or the number
 /// of the refusal.
@@ -18,21 +21,18 @@ pub fn perform(call: &mut Call) -> Result<[u32; 2], u32> {
     let alphabet = Alphabet::check(&call.alphabet)?;
     let moves = Moves::check(&alphabet, &call.table).ok_or(8_u32)?;
     let place = check(&alphabet, &moves, call)?;
+    let old = Old {
+        alphabet: &alphabet,
+        moves: &moves,
+        tree: &call.tree,
+        sets: &call.sets,
+    };
+    let renewal = Renewal::of(&old, &place.shape, &place.old, &call.replacement);
+    call.totals = renewal.moved(call.totals).ok_or(27_u32)?;
     place.splice(&mut call.tree, 1);
     place.splice(&mut call.sets, moves.width);
-    call.tree[place.old.start..=place.root].copy_from_slice(&call.replacement);
-    let mut work = Work {
-        front: Vec::new(),
-        fresh: vec![0; moves.width],
-        alphabet,
-        moves,
-        tree: &call.tree,
-        sets: &mut call.sets,
-    };
-    let mut recomputed = call.replacement.len();
-    if work.renew_replacement(&place) {
-        recomputed += work.renew_ancestors(place.shape, place.old, place.root);
-    }
+    place.write(call, &renewal, moves.width);
+    let recomputed = call.replacement.len() + renewal.ancestors.len();
     Ok([place.result as u32, recomputed as u32])
 }
 
@@ -110,7 +110,7 @@ fn is_too_high(shape: &Shape, height: usize, node: usize, replacement: &Shape) -
 
 impl Place {
     /// Moves what stands from the old element on to where it stands from the replacement's root on, and clears what falls
-    /// out of use. So the old element's own words come to the root's place.
+    /// out of use.
     fn splice(&self, words: &mut [u32], width: usize) {
         if self.root == self.old.node {
             return;
@@ -120,69 +120,16 @@ impl Place {
             words[self.result * width..self.count * width].fill(0);
         }
     }
-}
 
-/// What working out a node needs: the new tree, the state sets as they stand, and buffers.
-struct Work<'a> {
-    alphabet: Alphabet,
-    moves: Moves,
-    tree: &'a [u32],
-    sets: &'a mut [u32],
-    front: Vec<u16>,
-    fresh: Vec<u32>,
-}
-
-impl Work<'_> {
-    /// Works out the replacement; answers whether the words at its root changed.
-    fn renew_replacement(&mut self, place: &Place) -> bool {
-        let mut roots = Vec::new();
-        let mut changed = false;
-        for node in place.old.start..=place.root {
-            let arity = self.alphabet.arity(symbol(self.tree[node]));
-            let first = roots.len() - arity;
-            changed = self.renew(node, &roots[first..]);
-            roots.truncate(first);
-            roots.push(node);
+    /// Writes what was worked out: all ancestors stand behind the old element.
+    fn write(&self, call: &mut Call, renewal: &Renewal, width: usize) {
+        let start = self.old.start;
+        call.tree[start..=self.root].copy_from_slice(&call.replacement);
+        call.sets[start * width..(self.root + 1) * width].copy_from_slice(&renewal.replacement);
+        for (node, set) in renewal.ancestors.iter().zip(renewal.ancestor_sets(width)) {
+            let moved = node - self.old.node + self.root;
+            call.sets[moved * width..][..width].copy_from_slice(set);
         }
-        changed
-    }
-
-    /// Works out ancestors up to the first that is unchanged; answers how many. `below` was the old element, in the old
-    /// tree, and `root` stands in its place.
-    fn renew_ancestors(&mut self, shape: Shape, mut below: Subtree, root: usize) -> usize {
-        let (start, element) = (below.start, below.node);
-        let moved = |node: usize| if node < start { node } else { node + root - element };
-        let mut children = Vec::with_capacity(ARITY_LIMIT);
-        let mut recomputed = 0;
-        let mut changed = true;
-        while changed {
-            let Some(parent) = shape.parent(&below, &mut children) else {
-                break;
-            };
-            for child in &mut children {
-                *child = moved(*child);
-            }
-            changed = self.renew(moved(parent.node), &children);
-            recomputed += 1;
-            below = parent;
-        }
-        recomputed
-    }
-
-    /// Works out one node over these children; answers whether its words changed.
-    fn renew(&mut self, node: usize, children: &[usize]) -> bool {
-        let width = self.moves.width;
-        let mut below: [&[u32]; ARITY_LIMIT] = [&[]; ARITY_LIMIT];
-        for (set, child) in below.iter_mut().zip(children) {
-            *set = &self.sets[child * width..][..width];
-        }
-        let symbol = symbol(self.tree[node]);
-        let below = &below[..children.len()];
-        self.moves.step(symbol, below, &mut self.fresh, &mut self.front);
-        let stored = &mut self.sets[node * width..][..width];
-        let changed = *stored != *self.fresh;
-        stored.copy_from_slice(&self.fresh);
-        changed
     }
 }
 

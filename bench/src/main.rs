@@ -1,9 +1,9 @@
 //! Times Run, Exchange and Compile of the library beside two other simulations and an incremental Exchange on the same
 //! inputs, after checking that all results are equal: `bench [MILLISECONDS]`, the length of one batch. Prints tables of
 //! times and ratios, and what the ratios are held to. `bench anything` prints the same tables for rules with anything.
-//! `bench holes` times the library over an alphabet with holes beside the same without their marks. `bench beside OTHER` times
-//! the library beside that of another build of this program; both are started as `bench batch`, which prints the time of one
-//! batch of each call.
+//! `bench holes` times the library over an alphabet with holes beside the same without their marks. `bench totals` times
+//! Exchange with a record near the limit beside the same with a right one. `bench beside OTHER` times the library beside that
+//! of another build of this program; both are started as `bench batch`, which prints the time of one batch of each call.
 //! HAQBYLUR_LIB_DIR names the folder of the static library when this is built.
 
 mod anything;
@@ -21,6 +21,7 @@ mod measure;
 mod runs;
 mod targets;
 mod textbook;
+mod totals;
 mod workloads;
 
 use measure::{Measure, BATCHES};
@@ -33,7 +34,7 @@ use workloads::Workload;
 /// The length of a batch where none is given.
 const MILLISECONDS: u64 = 5;
 
-const USAGE: &str = "the arguments are [MILLISECONDS], anything, holes, beside OTHER or batch";
+const USAGE: &str = "the arguments are [MILLISECONDS], anything, holes, totals, beside OTHER or batch";
 
 fn main() -> ExitCode {
     if !library::LINKED {
@@ -48,6 +49,7 @@ fn main() -> ExitCode {
         }
         ["anything"] => print_anything(),
         ["holes"] => print_holes(),
+        ["totals"] => print_totals(),
         ["beside", other] => match beside::print(Path::new(other)) {
             Ok(()) => ExitCode::SUCCESS,
             Err(error) => failed(&error),
@@ -87,6 +89,16 @@ fn print_holes() -> ExitCode {
         return ExitCode::FAILURE;
     }
     holes::print(&measure(MILLISECONDS, 1), &pairs);
+    ExitCode::SUCCESS
+}
+
+fn print_totals() -> ExitCode {
+    let mut workloads = workloads::all();
+    workloads.extend(workloads::with_anything());
+    if !equal::each(&workloads) {
+        return ExitCode::FAILURE;
+    }
+    totals::print(&measure(MILLISECONDS, 1), &workloads);
     ExitCode::SUCCESS
 }
 

@@ -8,6 +8,8 @@ use peer::limits::{STATE_LIMIT, SYMBOL_LIMIT, TABLE_LIMIT};
 
 pub struct Moves {
     pub width: usize,
+    /// The final state.
+    pub last: u16,
     /// Where each symbol's transitions begin, one place more for the end. A transition is its target and then its
     /// children's states.
     by_symbol: [u16; SYMBOL_LIMIT + 1],
@@ -45,6 +47,7 @@ impl Moves {
         }
         let mut moves = Moves {
             width: (states as usize).div_ceil(32),
+            last: low(head) as u16,
             by_symbol: [0; SYMBOL_LIMIT + 1],
             transitions: Vec::new(),
             by_state: vec![0; states as usize + 1],
@@ -147,7 +150,7 @@ fn ends(counts: &mut [u16]) -> usize {
     end.into()
 }
 
-fn has(set: &[u32], state: u16) -> bool {
+pub fn has(set: &[u32], state: u16) -> bool {
     set[usize::from(state / 32)] >> (state % 32) & 1 == 1
 }
 
