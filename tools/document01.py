@@ -1,5 +1,6 @@
-"""Document 01's words and limits and document 02's length word (U1), height (U6), rule word for every tree (U7) and holes (U8), each
-number once, for words.py and ./judge. A word has its kind in bits 31..28 and the kind's fields below; every other bit is zero."""
+"""Document 01's words and limits and document 02's length word (U1), height (U6), rule word for every tree (U7), holes (U8) and totals
+(U10), each number once, for words.py and ./judge. A word has its kind in bits 31..28 and the kind's fields below; every other bit is
+zero."""
 
 # ---- kinds
 
@@ -46,6 +47,8 @@ MOST_TABLE_WORDS = 2048
 MOST_ELEMENTS = 4096
 # How many elements of a chapter stand one above the other: "chapters of height 512 are marked, 513 refused" (document 02, U6).
 MOST_HEIGHT = 512
+# What no total may exceed: the ones in the marks of the most elements, with a table of the most states (document 02, U10).
+MOST_CELLS = 4_194_304
 # Those of marklist.
 MARKLIST_MOST = 256
 

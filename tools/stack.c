@@ -1,7 +1,8 @@
 /* How much stack each C function takes: it is called on a painted stack with the largest rule (1,024 states, 2,048 table
- * words) and a chapter of 4,081 elements, 512 high, and with the source's rule. Printed are the bytes below the caller's frame that
- * were written, the return address included; the lowest may lie in the red zone (docs/FIRMWARE.md). What is measured is this
- * build on this machine: no theorem bounds a stack.
+ * words) and a chapter of 4,081 elements, 512 high, and with the source's rule. Exchange is called with a right record of totals, and
+ * with one near the limit, for which it has to work out the new totals before it writes. Printed are the bytes below the caller's frame
+ * that were written, the return address included; the lowest may lie in the red zone (docs/FIRMWARE.md). What is measured is this build
+ * on this machine: no theorem bounds a stack.
  *
  *   rt staticlib haqbylur
  *   gcc -O2 -static -Iinclude tools/stack.c target/staticlib/libhaqbylur.a -lpthread -o target/stack && target/stack */
@@ -23,8 +24,9 @@ static uint32_t chapter[HAQBYLUR_MOST_ELEMENTS], list[HAQBYLUR_MOST_ELEMENTS];
 static uint32_t marks[HAQBYLUR_MARK_WORDS(HAQBYLUR_MOST_ELEMENTS, HAQBYLUR_MOST_STATES)];
 static size_t symbols, rule_words, chapter_words;
 static uint32_t words, elements, cells, hits, worked_out, status;
+static haqbylur_totals totals;
 static size_t exchanged;
-static uint32_t replacement[5];
+static uint32_t replacement[HAQBYLUR_MOST_ELEMENTS];
 static size_t replacement_words;
 
 static void compile(void)
@@ -35,7 +37,7 @@ static void compile(void)
 static void run(void)
 {
     status = haqbylur_run(alphabet, symbols, table, words, chapter, chapter_words, marks,
-                          sizeof marks / sizeof marks[0], &elements, &cells);
+                          sizeof marks / sizeof marks[0], &elements, &cells, &totals);
 }
 
 static void list_hits(void)
@@ -48,7 +50,7 @@ static void exchange(void)
 {
     status = haqbylur_exchange(alphabet, symbols, table, words, chapter, HAQBYLUR_MOST_ELEMENTS, elements, marks,
                                sizeof marks / sizeof marks[0], exchanged, replacement, replacement_words, &elements,
-                               &worked_out);
+                               &worked_out, &totals);
 }
 
 static unsigned char *stack;
@@ -78,20 +80,39 @@ static void measure(const char *name, void (*function)(void))
     while (stack + lowest < caller && stack[lowest] == PAINT)
         lowest++;
     size_t used = (size_t)(caller - stack) - lowest;
-    printf("  %-8s %s%zu bytes\n", name, used <= GAP ? "at most " : "", used);
+    printf("  %-24s %s%zu bytes\n", name, used <= GAP ? "at most " : "", used);
     if (status != HAQBYLUR_ACCEPTED)
         exit(1);
 }
 
-static void measure_all(const char *name)
+/* The exchange that `take` sets up, with the record that run left, and then again with one whose cells come out at the most that they
+ * may be. */
+static void measure_exchange(void (*take)(void))
+{
+    haqbylur_totals before, after;
+    take();
+    printf("  %zu elements, replacement of %zu\n", chapter_words, replacement_words);
+    run();
+    before = totals;
+    measure("exchange", exchange);
+    after = totals;
+    take();
+    run();
+    totals.cells = HAQBYLUR_MOST_CELLS + before.cells - after.cells;
+    measure("exchange near the limit", exchange);
+    if (totals.cells != HAQBYLUR_MOST_CELLS)
+        exit(1);
+}
+
+static void measure_all(const char *name, void (*take)(void))
 {
     printf("%s\n", name);
+    take();
     measure("compile", compile);
+    printf("  %u states, %u table words\n", (unsigned)HAQBYLUR_STATE_COUNT(table[0]), (unsigned)words);
     measure("run", run);
     measure("list", list_hits);
-    measure("exchange", exchange);
-    printf("  states %u, table words %u, elements %zu, after the exchange %u\n", (unsigned)HAQBYLUR_STATE_COUNT(table[0]),
-           (unsigned)words, chapter_words, (unsigned)elements);
+    measure_exchange(take);
 }
 
 /* A symbol of rank 4 over 4 constants, in a union with four times anything, under 51 closures, over 16 constants, 42 symbols of rank 4
@@ -134,6 +155,19 @@ static void take_largest(void)
     replacement[4] = HAQBYLUR_ELEMENT(16);
 }
 
+/* The same, and the root for a tree as high as one may be, in which each element stands behind three constants and the one below it:
+ * no tree leaves more elements without their parent at one time. */
+static void take_high(void)
+{
+    take_largest();
+    exchanged = chapter_words - 1;
+    replacement_words = 0;
+    for (uint32_t i = 0; i < 3 * (HAQBYLUR_MOST_HEIGHT - 1) + 1; i++)
+        replacement[replacement_words++] = HAQBYLUR_ELEMENT(i % 4);
+    for (uint32_t i = 0; i < HAQBYLUR_MOST_HEIGHT - 1; i++)
+        replacement[replacement_words++] = HAQBYLUR_ELEMENT(16);
+}
+
 static void take_source(void)
 {
     static const uint32_t ranks[] = {0, 0, 0, 0, 2, 1, 1};
@@ -159,9 +193,8 @@ int main(void)
     stack = mmap(NULL, STACK_BYTES, PROT_READ | PROT_WRITE, MAP_PRIVATE | MAP_ANONYMOUS, -1, 0);
     if (stack == MAP_FAILED)
         return 2;
-    take_largest();
-    measure_all("largest rule");
-    take_source();
-    measure_all("the source's rule");
+    measure_all("largest rule", take_largest);
+    measure_exchange(take_high);
+    measure_all("the source's rule", take_source);
     return 0;
 }

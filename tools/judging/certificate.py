@@ -30,9 +30,9 @@ def digest(book):
     return hashlib.sha256(b''.join(word.to_bytes(4, 'little') for word in words)).hexdigest()
 
 
-def with_laws():
-    """The `use` lines of a certificate, and the laws that stand in each."""
-    laws = (Path(__file__).parent / 'laws.txt').read_text(encoding='utf-8')
+def with_laws(file):
+    """The `use` lines of a certificate with the laws of a file, and these laws."""
+    laws = (Path(__file__).parent / file).read_text(encoding='utf-8')
     used = {}
     for module, names in re.findall(r'^use (\S+)\.\{(.*)\}\n', laws, re.MULTILINE):
         used[module] = used.get(module, []) + names.split(', ')
@@ -83,7 +83,7 @@ def proved(book, refused):
 def text_of(book, answer):
     lines = [line + b'\n' for line in answer.split(b'\n')[:-1]]
     header = HEADER.format(digest=digest(book), what='input' if isinstance(book, Truncated) else 'book')
-    uses, laws = with_laws()
+    uses, laws = with_laws('laws.txt')
     numbers = '-- ==== The book and the answer\n\n' + '\n'.join(stated(book, lines))
     proof = '-- ==== Proof\n\n' + '\n'.join(proved(book, matcher.refusal(book) is not None))
     return '\n'.join([header + uses, laws, numbers, proof])

@@ -11,7 +11,10 @@ from .notation import NoCertificate
 USAGE = '''\
 usage: ./judge [--certificate FILE] INPUT [CLAIM..]
        ./judge [--certificate FILE] --exchange CALL [CLAIM..]
-       ./judge --check CERTIFICATE'''
+       ./judge --check CERTIFICATE
+A CALL has lines of a name and its numbers: alphabet, table, chapter, marks, count, element, replacement, and totals, the record before
+the call (elements, hits, cells). Without totals it is judged with a right record. A CLAIM on it has accepted with two numbers or refused
+with one, and chapter, marks and totals after the call; totals may be missing where the CALL has none (docs/BENCH.md).'''
 
 AGREES, DIFFERS, BAD_USAGE, COULD_NOT_TELL = 0, 1, 2, 3
 
@@ -75,8 +78,11 @@ def judge(place, input_file, claim_files):
 
 
 def judge_exchange(place, call_file, claim_files):
-    call = exchange.read_call(content_of(call_file), call_file)
-    claims = [(file, exchange.read_left(content_of(file), file)) for file in claim_files]
+    lent = exchange.read_call(content_of(call_file), call_file)
+    claims = [(file, exchange.read_left(content_of(file), file, lent)) for file in claim_files]
+    call = exchange.with_totals(lent)
+    if not lent.totals:
+        print(f'{call_file}: no line `totals`: judged with a right record, which is never refused with 27')
     right = exchange.left_by(call)
     if not certify(exchange_certificate.text_of(call, right), place or Path(call_file).name + '.certificate'):
         return COULD_NOT_TELL

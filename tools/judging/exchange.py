@@ -13,6 +13,9 @@ from .postfix import pop, spans_of, splice
 # More numbers than this in one list are written into no certificate.
 MOST_NUMBERS = 131_072
 
+# The numbers of the record, in its order.
+TOTALS = ('elements', 'hits', 'cells')
+
 
 class Call(NamedTuple):
     alphabet: list
@@ -22,13 +25,29 @@ class Call(NamedTuple):
     count: list
     element: list
     replacement: list
+    # elements, hits and cells; none in a call that does not have the record
+    totals: list = []
 
 
 class Left(NamedTuple):
-    """What a call answers, and the slices that it leaves."""
+    """What a call answers, and the slices and the record that it leaves."""
     answer: list
     chapter: list
     marks: list
+    # none in a claim on a call that does not have the record
+    totals: list = []
+
+
+# An element behind an Exchange, by what its marks are.
+KEPT, RECOMPUTED = 'kept', 'recomputed'
+
+
+class Work(NamedTuple):
+    """The new elements, the outcome of each, and the totals of the used elements' marks before and after."""
+    tree: list
+    outcomes: list
+    old: list
+    new: list
 
 
 def numbers_in(content, file, names):
@@ -51,31 +70,39 @@ def numbers_in(content, file, names):
     return found
 
 
-def read_call(content, file):
-    found = numbers_in(content, file, Call._fields)
-    missing = [name for name in Call._fields if name not in found]
+def check_names(found, file, names):
+    missing = [name for name in names if name not in found]
     if missing:
         raise BadForm(f'{file}: no line `{missing[0]}`')
+    if len(found.get('totals', TOTALS)) != len(TOTALS):
+        raise BadForm(f'{file}: `totals` takes three numbers: {", ".join(TOTALS)}')
+
+
+def read_call(content, file):
+    """A call; its record may be missing."""
+    found = numbers_in(content, file, Call._fields)
+    check_names(found, file, [name for name in Call._fields if name not in Call._field_defaults])
     call = Call(**found)
     if len(call.count) != 1 or len(call.element) != 1:
         raise BadForm(f'{file}: `count` and `element` take one number each')
     return call
 
 
-def read_left(content, file):
-    """A claim: `accepted` and two numbers or `refused` and one, and the two slices."""
-    found = numbers_in(content, file, ('accepted', 'refused', 'chapter', 'marks'))
-    answers = [[name, *found[name]] for name in ('accepted', 'refused') if name in found]
+def read_left(content, file, call):
+    """A claim on a call: `accepted` and two numbers or `refused` and one, the two slices, and the record where the call has it."""
+    slices = ('chapter', 'marks')
+    found = numbers_in(content, file, ('accepted', 'refused', *slices, 'totals'))
+    answers = [[name, *found.pop(name)] for name in ('accepted', 'refused') if name in found]
     if len(answers) != 1 or len(answers[0]) != {'accepted': 3, 'refused': 2}[answers[0][0]]:
         raise BadForm(f'{file}: it takes one line `accepted`, with two numbers, or `refused`, with one')
-    if 'chapter' not in found or 'marks' not in found:
-        raise BadForm(f'{file}: no line `chapter` or no line `marks`')
-    return Left(answers[0], found['chapter'], found['marks'])
+    check_names(found, file, (*slices, 'totals') if call.totals else slices)
+    return Left(answers[0], **found)
 
 
 def left_text(left):
     words = ' '.join(f'0x{word:x}' for word in left.chapter)
-    return f'{" ".join(map(str, left.answer))}\nchapter {words}\nmarks {" ".join(map(str, left.marks))}\n'
+    marks, totals = (' '.join(map(str, numbers)) for numbers in (left.marks, left.totals))
+    return f'{" ".join(map(str, left.answer))}\nchapter {words}\nmarks {marks}\ntotals {totals}\n'
 
 
 def first_difference(claim, right):
@@ -87,30 +114,74 @@ def first_difference(claim, right):
             pair = [hex(words[index]) if index < len(words) else 'no word' for words in (claimed, given)]
             if pair[0] != pair[1]:
                 return f'{name}, word {index}', *pair
+    for name, claimed, given in zip(TOTALS, claim.totals, right.totals):
+        if claimed != given:
+            return f'the total of {name}', claimed, given
     return None
 
 
 # ---- the answer
 
 
-def recompute(call, steps, start):
-    """The state sets of the new elements, and how many of them were worked out."""
+def stored_sets(call, steps):
+    """The marks of the used elements, as they stand."""
+    return [tuple(call.marks[i * steps.size:(i + 1) * steps.size]) for i in range(call.count[0])]
+
+
+def totals_of(steps, sets):
+    """The totals of elements with these marks."""
+    hits = sum(steps.contains(words, steps.final) for words in sets)
+    return [len(sets), hits, sum(bin(word).count('1') for words in sets for word in words)]
+
+
+def with_totals(call):
+    """The call with a record: where it has none, the one that is right for its used elements and their marks. In a call that is refused
+    before, no record plays a part."""
+    if call.totals:
+        return call
+    if refusals.first(refusals.of_exchange(call)):
+        return call._replace(totals=[0] * len(TOTALS))
+    steps = Steps(refusals.table_in(call.table))
+    return call._replace(totals=totals_of(steps, stored_sets(call, steps)))
+
+
+def recompute(call, steps, stored, start):
+    """The outcome of each new element: whether its marks are kept or recomputed, and these marks."""
     count, element = call.count[0], call.element[0]
-    stored = [tuple(call.marks[i * steps.size:(i + 1) * steps.size]) for i in range(count)]
     fresh = state_sets(call.alphabet, steps, call.replacement)
-    behind, worked_out, active = [], len(fresh), fresh[-1] != stored[element]
+    behind, active = [], fresh[-1] != stored[element]
     spans = spans_of(call.alphabet, call.chapter[:count])
     stack = []
     for index, word in enumerate(call.chapter[:count]):
         children = pop(stack, arity(call.alphabet, word))
         words = fresh[-1] if index == element else stored[index]
         if index > element:
-            if active and spans[index].start <= element:
-                words, worked_out = steps.step(word, children), worked_out + 1
+            recomputed = active and spans[index].start <= element
+            if recomputed:
+                words = steps.step(word, children)
                 active = words != stored[index]
-            behind.append(words)
+            behind.append((RECOMPUTED if recomputed else KEPT, words))
         stack.append(words)
-    return stored[:start] + fresh + behind, worked_out
+    return [(KEPT, words) for words in stored[:start]] + [(RECOMPUTED, words) for words in fresh] + behind
+
+
+def work_of(call):
+    """What a call comes to where none of its words is refused."""
+    steps = Steps(refusals.table_in(call.table))
+    tree, start = splice(call.alphabet, call.chapter[:call.count[0]], call.element[0], call.replacement)
+    stored = stored_sets(call, steps)
+    outcomes = recompute(call, steps, stored, start)
+    return Work(tree, outcomes, totals_of(steps, stored), totals_of(steps, [words for _, words in outcomes]))
+
+
+def totals_after(call, work):
+    return [total + new - old for total, old, new in zip(call.totals, work.old, work.new)]
+
+
+def refusal(call):
+    """The first number whose condition holds, or 0."""
+    number = refusals.first(refusals.of_exchange(call))
+    return number or refusals.first(refusals.of_totals(totals_after(call, work_of(call))))
 
 
 def refit(old, words, lent):
@@ -118,12 +189,12 @@ def refit(old, words, lent):
 
 
 def left_by(call):
-    number = refusals.first(refusals.of_exchange(call))
+    """What a call with a record leaves."""
+    number = refusal(call)
     if number:
-        return Left(['refused', number], call.chapter, call.marks)
-    steps = Steps(refusals.table_in(call.table))
-    count = call.count[0]
-    tree, start = splice(call.alphabet, call.chapter[:count], call.element[0], call.replacement)
-    sets, worked_out = recompute(call, steps, start)
-    return Left(['accepted', len(tree), worked_out], refit(count, tree, call.chapter),
-                refit(count * steps.size, [word for words in sets for word in words], call.marks))
+        return Left(['refused', number], call.chapter, call.marks, call.totals)
+    work, count = work_of(call), call.count[0]
+    worked_out = sum(how == RECOMPUTED for how, _ in work.outcomes)
+    marks = [word for _, words in work.outcomes for word in words]
+    return Left(['accepted', len(work.tree), worked_out], refit(count, work.tree, call.chapter),
+                refit(count * refusals.set_size(call.table), marks, call.marks), totals_after(call, work))

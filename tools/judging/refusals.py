@@ -1,10 +1,10 @@
-"""The refusals of documents 01 and 02 (U1, U6, U7, U8): lists of a number and whether its condition holds, in the order in which they
+"""The refusals of documents 01 and 02 (U1, U6, U7, U8, U10): lists of a number and whether its condition holds, in the order in which they
 are judged. A condition is worked out only where none before it holds. Nothing here is trusted: the checker computes the
 definition."""
 
-from document01 import (EMPTY_MOVE, HEAD, LENGTH, MOST_CONSTANTS, MOST_ELEMENTS, MOST_HEIGHT, MOST_RULE_WORDS, MOST_STATES,
-                        MOST_SYMBOLS, MOST_TABLE_WORDS, PART, SYMBOL_MOVE, constants, has_hole, is_element, is_entry, is_of,
-                        is_rule_word, length_in, low_byte, state_in, upper_in)
+from document01 import (EMPTY_MOVE, HEAD, LENGTH, MOST_CELLS, MOST_CONSTANTS, MOST_ELEMENTS, MOST_HEIGHT, MOST_RULE_WORDS,
+                        MOST_STATES, MOST_SYMBOLS, MOST_TABLE_WORDS, PART, SYMBOL_MOVE, constants, has_hole, is_element, is_entry,
+                        is_of, is_rule_word, length_in, low_byte, state_in, upper_in)
 from .automaton import Automaton
 from .postfix import one_tree, spans_of, splice
 
@@ -22,6 +22,7 @@ def of_book(book):
 
 
 def of_exchange(call):
+    """All but that of the totals, which is the last."""
     yield from of_alphabet(call.alphabet)
     yield from of_table(call.alphabet, call.table)
     yield from of_chapter(call.alphabet, call.chapter, call.count[0])
@@ -68,6 +69,11 @@ def of_change(call):
     result, _ = splice(call.alphabet, call.chapter[:count], element, call.replacement)
     yield 16, len(result) > min(MOST_ELEMENTS, len(call.chapter)) or len(result) * set_size(call.table) > len(call.marks)
     yield 24, is_too_high(call.alphabet, result)
+
+
+def of_totals(totals):
+    """Of the totals that an Exchange would leave."""
+    yield 27, any(not 0 <= total <= MOST_CELLS for total in totals)
 
 
 # ---- conditions
