@@ -32,6 +32,13 @@ HOLDS(has_hole, HAQBYLUR_HAS_HOLE == 26 && sizeof HAQBYLUR_HAS_HOLE == sizeof HA
 HOLDS(anything, HAQBYLUR_ANYTHING == 0xe0000000 && HAQBYLUR_ANYTHING / 2 == 0x70000000 && sizeof HAQBYLUR_ANYTHING == 4);
 HOLDS(too_many_words, HAQBYLUR_TOO_MANY_WORDS == 25 && sizeof HAQBYLUR_TOO_MANY_WORDS == sizeof HAQBYLUR_ACCEPTED);
 HOLDS(compiled_below_table_words, HAQBYLUR_MOST_COMPILED_WORDS < HAQBYLUR_MOST_TABLE_WORDS);
+/* document 02's record of totals: three words in this order with nothing between or behind them; the figure that none may exceed, which
+ * is the ones in the most marks; the refusal */
+HOLDS(totals_size, sizeof(haqbylur_totals) == 12 && sizeof(((haqbylur_totals *)0)->elements) == 4);
+HOLDS(totals_order, offsetof(haqbylur_totals, elements) == 0 && offsetof(haqbylur_totals, hits) == 4);
+HOLDS(totals_last, offsetof(haqbylur_totals, cells) == 8 && sizeof(struct haqbylur_totals) == sizeof(haqbylur_totals));
+HOLDS(most_cells, HAQBYLUR_MOST_CELLS == 32 * HAQBYLUR_MARK_WORDS(HAQBYLUR_MOST_ELEMENTS, HAQBYLUR_MOST_STATES));
+HOLDS(wrong_totals, HAQBYLUR_WRONG_TOTALS == 27 && sizeof HAQBYLUR_WRONG_TOTALS == sizeof HAQBYLUR_ACCEPTED);
 /* the words of document 01's kinds 1 to 7 */
 HOLDS(entry, HAQBYLUR_ENTRY(4) == 0x10000004 && HAQBYLUR_ENTRY(HAQBYLUR_MOST_RANK) / 2 == 0x08000002);
 HOLDS(symbol, HAQBYLUR_SYMBOL(63) == 0x2000003f && HAQBYLUR_SYMBOL(1 ? 2 : 3) == 0x20000002);

@@ -1,6 +1,6 @@
 /* A library that is wrong in all four functions, to see the comparison fail (docs/SUPPLIER.md): one table for all rules, a Run
- * that leaves the marks alone, a List that always names none, and an Exchange that changes nothing. None refuses a call but
- * for a table slice of under two words. */
+ * that leaves the marks and the record of totals alone, a List that always names none, and an Exchange that changes nothing. None
+ * refuses a call but for a table slice of under two words. */
 #include "haqbylur.h"
 
 uint32_t haqbylur_compile(
@@ -24,9 +24,11 @@ uint32_t haqbylur_run(
     const uint32_t *chapter, size_t chapter_length,
     uint32_t *marks, size_t marks_length,
     uint32_t *elements,
-    uint32_t *cells)
+    uint32_t *cells,
+    haqbylur_totals *totals)
 {
     (void)alphabet, (void)alphabet_length, (void)table, (void)table_length, (void)chapter, (void)marks, (void)marks_length;
+    (void)totals;
     *elements = (uint32_t)chapter_length;
     *cells = 0;
     return HAQBYLUR_ACCEPTED;
@@ -55,10 +57,11 @@ uint32_t haqbylur_exchange(
     size_t element,
     const uint32_t *replacement, size_t replacement_length,
     uint32_t *elements,
-    uint32_t *worked_out)
+    uint32_t *worked_out,
+    haqbylur_totals *totals)
 {
     (void)alphabet, (void)alphabet_length, (void)table, (void)table_length, (void)chapter, (void)chapter_length;
-    (void)marks, (void)marks_length, (void)element, (void)replacement;
+    (void)marks, (void)marks_length, (void)element, (void)replacement, (void)totals;
     *elements = (uint32_t)count;
     *worked_out = (uint32_t)replacement_length;
     return HAQBYLUR_ACCEPTED;

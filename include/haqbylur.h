@@ -1,11 +1,11 @@
 /* The C interface of the chapter matcher (documents 01 and 02): Compile, Run, List and Exchange.
  *
- * All data is 32-bit words. A slice is a pointer and then its length in words; the pointer is aligned, and not null even
- * where the length is 0. Each function returns 0 where the call is accepted, and otherwise the documents' number of the
- * refusal; then no lent word changes, and no out-parameter either. Of several faults the one is told that stands first among the
- * function's refusals below. What a call may write (slices and out-parameters that are not const) overlaps with no other argument
- * of that call. Any thread may call while no other uses the same memory: the library keeps nothing between calls. It allocates
- * nothing and calls memcpy, memmove and memset alone. It uses the red zone below the stack pointer and SSE2 registers:
+ * All data is 32-bit words. A slice is a pointer and then its length in words; the pointer is aligned, and not null even where the
+ * length is 0. Each function returns 0 where the call is accepted, and otherwise the documents' number of the refusal; then no
+ * lent word changes, no out-parameter and no record either. Of several faults the one is told that stands first among the
+ * function's refusals below. What a call may write (slices, out-parameters and records that are not const) overlaps with no other
+ * argument of that call. Any thread may call while no other uses the same memory: the library keeps nothing between calls. It
+ * allocates nothing and calls memcpy, memmove and memset alone. It uses the red zone below the stack pointer and SSE2 registers:
  * docs/FIRMWARE.md says what that asks of interrupts on a board without an operating system. */
 #ifndef HAQBYLUR_H
 #define HAQBYLUR_H
@@ -26,6 +26,7 @@
 #define HAQBYLUR_MOST_COMPILED_WORDS 1148u
 #define HAQBYLUR_MOST_ELEMENTS 4096u
 #define HAQBYLUR_MOST_HEIGHT 512u
+#define HAQBYLUR_MOST_CELLS 4194304u
 
 /* What the functions return: accepted, or the documents' number of a refusal. */
 #define HAQBYLUR_ACCEPTED 0u
@@ -48,6 +49,7 @@
 #define HAQBYLUR_TOO_HIGH 24u        /* the chapter, or the result of an exchange, is over 512 high */
 #define HAQBYLUR_TOO_MANY_WORDS 25u  /* over 2,048 table words, the length word among them */
 #define HAQBYLUR_HAS_HOLE 26u        /* a hole in the chapter or in the replacement */
+#define HAQBYLUR_WRONG_TOTALS 27u    /* a total would come out below 0 or above HAQBYLUR_MOST_CELLS */
 
 /* The words of an alphabet and of a chapter: a symbol with so many parts (its rank); an element with this symbol. A symbol's
  * number is its position in the alphabet, from 0. A chapter is one tree, each element behind its parts, which stand from left to
@@ -86,6 +88,15 @@
  * state count divided by 32, rounded up. For HAQBYLUR_MOST_ELEMENTS and HAQBYLUR_MOST_STATES it is 131,072. */
 #define HAQBYLUR_MARK_WORDS(elements, states) ((size_t)(elements) * (((size_t)(states) + 31u) / 32u))
 
+/* A marked chapter's record of totals: its elements; its hits, as haqbylur_list names them; the ones in its marks (cells), at most
+ * HAQBYLUR_MOST_CELLS. It belongs to the chapter and to the table that marked it: haqbylur_run sets it, each haqbylur_exchange changes
+ * it, and between them it is kept as the last call left it. */
+typedef struct haqbylur_totals {
+    uint32_t elements;
+    uint32_t hits;
+    uint32_t cells;
+} haqbylur_totals;
+
 #ifdef __cplusplus
 extern "C" {
 #endif
@@ -101,14 +112,16 @@ uint32_t haqbylur_compile(
     uint32_t *words);
 
 /* Marks a chapter with the states that each subtree reaches, by the table with which the table slice begins. elements: the element
- * count; cells: the number of ones in all marks of the chapter. Refusals 1, 2, 8 to 11, 24, 26, 12. */
+ * count; cells: the number of ones in all marks of the chapter. totals: set to the chapter's totals, whatever it held; its elements and
+ * cells are the same two numbers. Refusals 1, 2, 8 to 11, 24, 26, 12. */
 uint32_t haqbylur_run(
     const uint32_t *alphabet, size_t alphabet_length,
     const uint32_t *table, size_t table_length,
     const uint32_t *chapter, size_t chapter_length,
     uint32_t *marks, size_t marks_length,
     uint32_t *elements,
-    uint32_t *cells);
+    uint32_t *cells,
+    haqbylur_totals *totals);
 
 /* Names the hits of a marked chapter of `count` elements, in ascending order: the elements whose whole subtree belongs to the rule's
  * language (no marked chapter holds a hole). The table slice begins with the table that marked it. hits: how many there are.
@@ -122,8 +135,12 @@ uint32_t haqbylur_list(
     uint32_t *hits);
 
 /* Replaces the subtree of an element in a marked chapter of `count` used elements. The table slice begins with the table that marked
- * it. elements: the new element count; worked_out: the number of elements worked out. Refusals 1, 2, 8 to 11, 24 and 26 (the used
- * elements), 12, 14, 15, 26 (the replacement), 16, 24 (the result). A replacement has no limit of height but the result's. */
+ * it. elements: the new element count; worked_out: the number of elements worked out. totals: each total changes by the difference that
+ * the call makes in the used elements and their stored marks, whatever the record held. So a record that was right before is right
+ * after, and a wrong one stays wrong by as much. Bits of a mark behind the last state, which no call sets, count as cells where they
+ * are stored.
+ * Refusals 1, 2, 8 to 11, 24 and 26 (the used elements), 12, 14, 15, 26 (the replacement), 16, 24 (the result), 27. A replacement has no
+ * limit of height but the result's. 27 is judged of all three totals at exit, changed or not; a right record is never refused with it. */
 uint32_t haqbylur_exchange(
     const uint32_t *alphabet, size_t alphabet_length,
     const uint32_t *table, size_t table_length,
@@ -133,7 +150,8 @@ uint32_t haqbylur_exchange(
     size_t element,
     const uint32_t *replacement, size_t replacement_length,
     uint32_t *elements,
-    uint32_t *worked_out);
+    uint32_t *worked_out,
+    haqbylur_totals *totals);
 
 #ifdef __cplusplus
 }
