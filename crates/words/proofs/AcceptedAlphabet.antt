@@ -8,7 +8,7 @@ use lib.ListN.{length}
 use lib.Dec.{leb}
 use borrow.Author.Tests.{leb-true, not-false}
 use Rattle.words.specs.Lists.{all}
-use Rattle.words.specs.Limits.{outside, alphabet_most, constants_most, rank-most}
+use Rattle.words.specs.Limits.{outside, alphabet_most, constants_most, rank_most}
 use Rattle.words.specs.Word.{entry_kind, kind_of, is_of, low_byte}
 use Rattle.words.specs.Alphabet.{entry_rank, marks_hole, is_entry, rank_of, is_hole, constants_of, no_alphabet, wrong_constants}
 use Rattle.words.specs.Alphabet.{alphabet_refusals, alphabet_fault}
@@ -21,24 +21,24 @@ use Rattle.words.proofs.WordLaws.{arity_at-most}
 pub record AcceptedAlphabet (a : List ℕ) : Type 0 where
   -- 1
   pub counted : Within alphabet_most (length a)
-  pub ranks : (s : ℕ) → rank_of a s ≤ rank-most
+  pub ranks : (s : ℕ) → rank_of a s ≤ rank_most
   -- 2
   pub constants : Within constants_most (length (constants_of a))
 
 -- the rank in an entry, by whether it marks a hole
-entry-rank : (w : ℕ) → is_entry w ≡ true → entry_rank w ≤ cond (marks_hole w) 0 rank-most
+entry-rank : (w : ℕ) → is_entry w ≡ true → entry_rank w ≤ cond (marks_hole w) 0 rank_most
 unfolding is_entry
 entry-rank w h =
-    let most = cond (marks_hole w) 0 rank-most in
+    let most = cond (marks_hole w) 0 rank_most in
     leb-true (entry_rank w) most (and-true (is_of entry_kind w) (leb (entry_rank w) most) h).1
 
 -- "rank, 0 to 4"
-rank-most : (a : List ℕ) → all is_entry a ≡ true → (s : ℕ) → rank_of a s ≤ rank-most
+rank-most : (a : List ℕ) → all is_entry a ≡ true → (s : ℕ) → rank_of a s ≤ rank_most
 unfolding rank_of
 rank-most [] h s = omega arith
 rank-most (w ∷ ws) h zero = go (marks_hole w) (entry-rank w (and-true (is_entry w) (all is_entry ws) h).0)
   where
-    go : (b : Bool) → entry_rank w ≤ cond b 0 rank-most → entry_rank w ≤ rank-most
+    go : (b : Bool) → entry_rank w ≤ cond b 0 rank_most → entry_rank w ≤ rank_most
     go true l = omega arith
     go false l = l
 rank-most (w ∷ ws) h (suc s) = rank-most ws (and-true (is_entry w) (all is_entry ws) h).1 s
@@ -67,6 +67,6 @@ alphabet-accepted a h =
     }
 
 -- no word takes more children than the highest rank
-pub arity-most : {a : List ℕ} → AcceptedAlphabet a → (w : ℕ) → arity a w ≤ rank-most
+pub arity-most : {a : List ℕ} → AcceptedAlphabet a → (w : ℕ) → arity a w ≤ rank_most
 unfolding arity
-arity-most {a} h w = arity_at-most rank-most (rank_of a (low_byte w)) (kind_of w) (omega arith) (h.ranks (low_byte w))
+arity-most {a} h w = arity_at-most rank_most (rank_of a (low_byte w)) (kind_of w) (omega arith) (h.ranks (low_byte w))

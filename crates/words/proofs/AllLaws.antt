@@ -55,6 +55,7 @@ module _ {A : Type 0} (P : A → Type 0) where
   each_set h (x ∷ xs) (suc k) p = (p.0, each_set h xs k p.1)
 
   pub each_at : {x : A} (xs : List A) → All P xs → Memᴰ x xs → P x
+  each_at [] p m = elim m [ ]
   each_at (y ∷ ys) p (Memᴰ.head e) = subst P (sym e) p.0
   each_at (y ∷ ys) p (Memᴰ.tail m) = each_at ys p.1 m
 

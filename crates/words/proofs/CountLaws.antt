@@ -19,6 +19,7 @@ module _ (f : ℕ → Bool) where
 
   -- where every number is counted, each of them passes
   pub count-all : (l : List ℕ) → length l ≤ count f l → {x : ℕ} → Memᴰ x l → f x ≡ true
+  count-all [] h m = elim m [ ]
   count-all (y ∷ l) h (Memᴰ.head e) = ap f e ∙ go (f y) h (count_most l)
     where
       go : (b : Bool) → suc (length l) ≤ cond b 1 0 + count f l → count f l ≤ length l → b ≡ true
@@ -43,6 +44,7 @@ module _ (f : ℕ → Bool) where
         go false false i h = omega arith
 
     pub count-more : (l : List ℕ) {x : ℕ} → Memᴰ x l → f x ≡ false → g x ≡ true → count f l < count g l
+    count-more [] m n p = elim m [ ]
     count-more (y ∷ l) {x} (Memᴰ.head e) n p = go (f y) (g y) (sym (ap f e) ∙ n) (sym (ap g e) ∙ p) (count-wider l)
       where
         go : (b c : Bool) → b ≡ false → c ≡ true → count f l ≤ count g l → cond b 1 0 + count f l < cond c 1 0 + count g l

@@ -1,6 +1,5 @@
 -- The end of a walk of a function that has several `ensures`, which are joined by ∗: that several facts hold, from their proofs, and
 -- the kit's `ends_at` with what the clauses say shown first, so that the tokens, the parameters and the result are left.
-use Prim.Native.Nat.{ℕ}
 use seplogic.Ra.Ura.{Ura}
 use mir.Val.{Val}
 use base.Logic.{SProp, ent, sep, emp, via, mono_l, mono∗, comm∗, emp∗}

@@ -38,7 +38,7 @@ next e (applies x) = applies (later e x)
 next {b = b} {rs = rs} e (nothing_applies h) = nothing_applies (false-or b (some_holds rs) e h)
 
 -- the law, and back
-pub first-is-refusal : {rs : Refusals} {n : ℕ} → First n rs → refusal rs ≡ n
+pub first-is-refusal : {n : ℕ} {rs : Refusals} → First n rs → refusal rs ≡ n
 first-is-refusal (first-here e) = rw e
 first-is-refusal (later e x) = rw e (first-is-refusal x)
 
@@ -82,8 +82,9 @@ refusal-most m ((n, true) ∷ rs) h = leb-true n m (and-true (leb n m) (at_most 
 refusal-most m ((n, false) ∷ rs) h = refusal-most m rs (and-true (leb n m) (at_most m rs) h).1
 
 -- the number of the first that applies is one of them
-pub first-positive : {rs : Refusals} {n : ℕ} → positive rs ≡ true → First n rs → 0 < n
-first-positive {rs = (m, b) ∷ rs} {n = n} p (first-here e) = first_above n rs p
+pub first-positive : {n : ℕ} {rs : Refusals} → positive rs ≡ true → First n rs → 0 < n
+first-positive {rs = []} p m = elim m [ ]
+first-positive {n = n} {rs = (m, b) ∷ rs} p (first-here e) = first_above n rs p
 first-positive {rs = (m, b) ∷ rs} p (later e x) = first-positive (rest-above m rs p) x
 
 -- ---- a call that is not refused: no condition holds
@@ -122,7 +123,7 @@ refused-some rs p e = rw e (go rs p)
 
 -- ---- a part of the list that is judged as a whole, with number f
 
-first-append : {rs : Refusals} {n : ℕ} → First n rs → (ks : Refusals) → First n (rs ++ ks)
+first-append : {n : ℕ} {rs : Refusals} → First n rs → (ks : Refusals) → First n (rs ++ ks)
 first-append (first-here e) ks = first-here e
 first-append (later e x) ks = later e (first-append x ks)
 

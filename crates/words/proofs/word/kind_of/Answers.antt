@@ -1,0 +1,60 @@
+-- `words::word::kind_of` meets its contract: each number has the kind of its case, and any other number has none.
+use Rattle.std.proofs.Common.{arith}
+use Rattle.words.specs.Word.{kind_at}
+use Rattle.words.proofs.word.kind_of.Goals as goal
+
+pub returns-in-1 : goal.returns-in-1
+unfolding kind_at
+returns-in-1 c = rw c.in-1.is
+
+pub returns-in-2 : goal.returns-in-2
+unfolding kind_at
+returns-in-2 c = rw c.in-2.is
+
+pub returns-in-3 : goal.returns-in-3
+unfolding kind_at
+returns-in-3 c = rw c.in-3.is
+
+pub returns-in-4 : goal.returns-in-4
+unfolding kind_at
+returns-in-4 c = rw c.in-4.is
+
+pub returns-in-5 : goal.returns-in-5
+unfolding kind_at
+returns-in-5 c = rw c.in-5.is
+
+pub returns-in-6 : goal.returns-in-6
+unfolding kind_at
+returns-in-6 c = rw c.in-6.is
+
+pub returns-in-7 : goal.returns-in-7
+unfolding kind_at
+returns-in-7 c = rw c.in-7.is
+
+pub returns-in-8 : goal.returns-in-8
+unfolding kind_at
+returns-in-8 c = rw c.in-8.is
+
+pub returns-in-9 : goal.returns-in-9
+unfolding kind_at
+returns-in-9 c = rw c.in-9.is
+
+pub returns-in-10 : goal.returns-in-10
+unfolding kind_at
+returns-in-10 c = rw c.in-10.is
+
+pub returns-in-11 : goal.returns-in-11
+unfolding kind_at
+returns-in-11 c = rw c.in-11.is
+
+pub returns-in-12 : goal.returns-in-12
+unfolding kind_at
+returns-in-12 c = rw c.in-12.is
+
+pub returns-in-14 : goal.returns-in-14
+unfolding kind_at
+returns-in-14 c = rw c.in-14.is
+
+pub returns-in_default : goal.returns-in_default
+unfolding kind_at
+returns-in_default c = grind arith
