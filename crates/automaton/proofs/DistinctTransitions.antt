@@ -60,6 +60,7 @@ constants-of (e ∷ es) = (refl, constants-of es)
 
 constants-behind : {lo hi f q : ℕ} {ps : List ℕ} (es : List (ℕ × ℕ)) → Ascending lo hi (states_in es)
     → Memᴰ (on_symbol f ps q) (constant_transitions es) → lo ≤ q
+constants-behind [] _ m = elim m [ ]
 constants-behind {q} (e ∷ es) (next h s) (Memᴰ.head g) = let k : q ≡ e.1 = cc in omega arith
 constants-behind (e ∷ es) (next h s) (Memᴰ.tail m) = let k = constants-behind es s m in omega arith
 

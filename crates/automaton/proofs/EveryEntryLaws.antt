@@ -42,6 +42,7 @@ module _ (P : ℕ → ℕ → Type 0) where
 
   -- a listed constant has an entry among the numbered
   pub every-numbered : (c n : ℕ) (cs : List ℕ) → Memᴰ c cs → EveryEntry (numbered n cs) → (q : ℕ) × P c q
+  every-numbered c n [] x'' h = elim x'' [ ]
   every-numbered c n (d ∷ cs) (Memᴰ.head e) h = (n, subst (λ x. P x n) (sym e) h.0)
   every-numbered c n (d ∷ cs) (Memᴰ.tail m) h = every-numbered c (suc n) cs m h.1
 

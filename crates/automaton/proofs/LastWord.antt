@@ -25,8 +25,8 @@ use Rattle.automaton.specs.Numbering.{Port, entries_at, has_entries, states_of, 
 use Rattle.automaton.proofs.EntryStates.{entries-kind, port-full, port-leaf, states-full, states-leaf, own-kind}
 use Rattle.automaton.proofs.TreeNumbering.{next, exit_state, port, ports, own}
 
-abbrev pub last-word : Expression → ℕ
-last-word E = label (syntax_tree E)
+abbrev pub last_word : Expression → ℕ
+last_word E = label (syntax_tree E)
 
 abbrev pub parts : Expression → Expressions
 parts (symbol f es) = es
@@ -61,10 +61,10 @@ module _ (a : List ℕ) where
 
   -- the last word of E, where E's states begin at n
   pub record LastWord (E : Expression) (n : ℕ) : Type 0 where
-    pub arity-is : arity a (last-word E) ≡ numberᵉ (parts E)
-    pub port-is : port_of a (exit_state a E n) (last-word E) ≡ port a E n
-    pub states-are : exit_state a E n + states_of a (last-word E) ≡ next a E n
-    pub own-are : own_transitions a (last-word E) (port a E n) (ports a (parts E) n) ≡ own a E n
+    pub arity-is : arity a (last_word E) ≡ numberᵉ (parts E)
+    pub port-is : port_of a (exit_state a E n) (last_word E) ≡ port a E n
+    pub states-are : exit_state a E n + states_of a (last_word E) ≡ next a E n
+    pub own-are : own_transitions a (last_word E) (port a E n) (ports a (parts E) n) ≡ own a E n
 
   pub last-word : length a ≤ alphabet_most → (E : Expression) (n : ℕ) → ExpressionOver a E → LastWord E n
   last-word l (symbol c noneᵉ) n o =

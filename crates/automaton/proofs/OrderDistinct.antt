@@ -9,6 +9,7 @@ use Rattle.automaton.specs.Transition.{Transition, on_symbol, epsilon}
 use Rattle.automaton.proofs.TransitionOrder.{OrderedFrom, none, from_later, to_later, InOrderFrom, InOrder, with_symbol, without_symbol}
 
 ordered-behind : {p q p' q' : ℕ} {ts : List Transition} → OrderedFrom p q ts → Memᴰ (epsilon p' q') ts → (p ≤ p') × (p' ≤ p → q ≤ q')
+ordered-behind none m = elim m [ ]
 ordered-behind {p'} (from_later {p' = r} h o) (Memᴰ.head e) = let f : p' ≡ r = cc in (omega arith, λ k. absurd (omega arith))
 ordered-behind (from_later h o) (Memᴰ.tail m) = let b = ordered-behind o m in (omega (arith, b.0), λ k. absurd (omega (arith, b.0)))
 ordered-behind {p'} {q'} (to_later {p} {q' = s} h o) (Memᴰ.head e) =
@@ -18,6 +19,7 @@ ordered-behind {p'} {q'} (to_later {p} {q' = s} h o) (Memᴰ.head e) =
 ordered-behind (to_later h o) (Memᴰ.tail m) = let b = ordered-behind o m in (b.0, λ k. omega (arith, b.1 k))
 
 ordered-symbol : {p q f r : ℕ} {ps : List ℕ} {ts : List Transition} → OrderedFrom p q ts → Memᴰ (on_symbol f ps r) ts → ⊥
+ordered-symbol none m = elim m [ ]
 ordered-symbol (from_later h o) (Memᴰ.head e) = let z : ◌≡◌ {A = ℕ} 0 1 = cc in omega arith
 ordered-symbol (from_later h o) (Memᴰ.tail m) = ordered-symbol o m
 ordered-symbol (to_later h o) (Memᴰ.head e) = let z : ◌≡◌ {A = ℕ} 0 1 = cc in omega arith

@@ -56,6 +56,7 @@ added b r q l e = rw e (insert-same r q l)
 epsilon_pass-adds : (ts : List Transition) (r : StateSet) (p q : ℕ) → Memᴰ (epsilon p q) ts → q / 32 < length r → In r p
     → In (epsilon_pass ts r) q
 unfolding epsilon_pass
+epsilon_pass-adds [] r p q x3 l h = elim x3 [ ]
 epsilon_pass-adds (t ∷ ts) r p q (Memᴰ.head e) l h =
     epsilon_pass-grows ts (epsilon_step t r) q (rw (sym e) (added (contains r p) r q l h))
 epsilon_pass-adds (t ∷ ts) r p q (Memᴰ.tail m) l h =
@@ -64,6 +65,7 @@ epsilon_pass-adds (t ∷ ts) r p q (Memᴰ.tail m) l h =
 pub symbol_pass-adds : (f : ℕ) (rs : List StateSet) (ts : List Transition) (r : StateSet) (ps : List ℕ) (q : ℕ)
     → Memᴰ (on_symbol f ps q) ts → q / 32 < length r → all_contained ps rs ≡ true → In (symbol_pass f rs ts r) q
 unfolding symbol_pass
+symbol_pass-adds f rs [] r ps q x3 l h = elim x3 [ ]
 symbol_pass-adds f rs (t ∷ ts) r ps q (Memᴰ.head e) l h =
     symbol_pass-grows f rs ts (symbol_step f rs t r) q
     (rw (sym e) (added (eqb f f && all_contained ps rs) r q l (true-and (eqb f f) (all_contained ps rs) (eq-eqb f f refl) h)))
@@ -127,6 +129,7 @@ under : (p q : ℕ) (r : StateSet) → closed_under (epsilon p q) r ≡ true →
 under p q r h i = rw i at h
 
 pub closed-test : (ts : List Transition) (r : StateSet) → is_closed ts r ≡ true → ClosedUnder ts (In r)
+closed-test [] r h p q x3 i = elim x3 [ ]
 closed-test (t ∷ ts) r h p q (Memᴰ.head e) i =
     under p q r (subst⁻¹ (λ (u : Transition). closed_under u r ≡ true) e (and-true (closed_under t r) (is_closed ts r) h).0) i
 closed-test (t ∷ ts) r h p q (Memᴰ.tail m) i = closed-test ts r (and-true (closed_under t r) (is_closed ts r) h).1 p q m i

@@ -18,7 +18,7 @@ use Rattle.automaton.specs.Numbering.{Port, states_of, port_of, entry_for, epsil
 use Rattle.automaton.specs.Numbering.{symbol_targets, union_targets, product_targets, closure_targets, anything_targets}
 use Rattle.automaton.proofs.EveryEntryLaws.{to-epsilons, to-entry_epsilons}
 use Rattle.automaton.proofs.EverySymbolLaws.{to-every_symbol}
-use Rattle.automaton.proofs.PortStates.{states_in, PortIn, PortStack, push, Children, child, children-le}
+use Rattle.automaton.proofs.PortStates.{states_in, PortIn, PortStack, bottom, push, Children, no_child, child, children-le}
 use Rattle.automaton.proofs.OwnTransitions.{Own, leaf, of_symbol, of_union, of_product, of_closure, of_anything}
 use Rattle.automaton.proofs.PortReading.{WordRead, children_on}
 
@@ -36,10 +36,12 @@ OfRest n stack (epsilon p q) = (n ≤ p) ⊎ Memᴰ p (exits_of stack)
 OfRest n stack (on_symbol f ps q) = (0 < length ps) × (n ≤ q)
 
 exit-child : {a : List ℕ} {lo hi p : ℕ} {Ps : List Port} → Children a lo hi Ps → Memᴰ p (exits_of Ps) → (lo ≤ p) × (p < hi)
+exit-child (no_child _) m = elim m [ ]
 exit-child (child p c) (Memᴰ.head e) = let l = children-le _ c in (omega arith, omega arith)
 exit-child (child p c) (Memᴰ.tail m) = let b = exit-child c m in (omega arith, b.1)
 
 exit-stack : {a : List ℕ} {n p : ℕ} {stack : List Port} → PortStack a n stack → Memᴰ p (exits_of stack) → p < n
+exit-stack bottom m = elim m [ ]
 exit-stack (push p s) (Memᴰ.head e) = omega arith
 exit-stack (push p s) (Memᴰ.tail m) = let b = exit-stack s m in omega arith
 

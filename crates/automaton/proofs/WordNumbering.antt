@@ -16,7 +16,7 @@ use Rattle.automaton.specs.Numbering.{Port, states_of, port_of, child_port, own_
 use Rattle.automaton.specs.Numbering.{states_after, transitions_from, constant_transitions, last_port, compiled}
 use Rattle.automaton.proofs.TreeNumbering.{next, next_all, exit_state, port, ports, own}
 use Rattle.automaton.proofs.TreeNumbering.{transitions_of, transitions_of_all, tree_transitions}
-use Rattle.automaton.proofs.LastWord.{last-word, parts, LastWord, last-word}
+use Rattle.automaton.proofs.LastWord.{last_word, parts, LastWord, last-word}
 
 module _ (a : List ℕ) where
   length-ports : (es : Expressions) (n : ℕ) → length (ports a es n) ≡ numberᵉ es
@@ -27,7 +27,7 @@ module _ (a : List ℕ) where
 
   module _ (E : Expression) (n : ℕ) (L : LastWord a E n) where
     abbrev w : ℕ
-    w = last-word E
+    w = last_word E
 
     transitions-last : (rest : List ℕ) (stack : List Port)
         → transitions_from a (exit_state a E n) (w ∷ rest) (reverse_aux (ports a (parts E) n) stack)
@@ -78,7 +78,7 @@ module _ (a : List ℕ) where
   }
 
   -- an expression is its parts and then its last word
-  words-split : (E : Expression) → expression_words E ≡ postfix_all (syntax_trees (parts E)) ++ (last-word E ∷ [])
+  words-split : (E : Expression) → expression_words E ≡ postfix_all (syntax_trees (parts E)) ++ (last_word E ∷ [])
   words-split (symbol f es) = refl
   words-split empty = refl
   words-split (union F G) = refl
@@ -106,21 +106,21 @@ module _ (a : List ℕ) where
   reads_word E n L rs = record {
     transitions = λ rest stack.
         ap (λ (l : List ℕ). transitions_from a n l stack) (split rest)
-        ∙ rs.transitions (last-word E ∷ rest) stack
+        ∙ rs.transitions (last_word E ∷ rest) stack
         ∙ ap (λ (ts : List Transition). transitions_of_all a (parts E) n ++ ts)
-        (ap (λ k. transitions_from a k (last-word E ∷ rest) (reverse_aux (ports a (parts E) n) stack)) (exit-split E n)
+        (ap (λ k. transitions_from a k (last_word E ∷ rest) (reverse_aux (ports a (parts E) n) stack)) (exit-split E n)
         ∙ transitions-last E n L rest stack)
         ∙ sym (append_assoc (transitions_of_all a (parts E) n) (own a E n) (transitions_from a (next a E n) rest (port a E n ∷ stack)))
         ∙ ap (λ (ts : List Transition). ts ++ transitions_from a (next a E n) rest (port a E n ∷ stack)) (transitions-split E n);
     states = λ rest.
         ap (states_after a n) (split rest)
-        ∙ rs.states (last-word E ∷ rest)
-        ∙ ap (λ k. states_after a k (last-word E ∷ rest)) (exit-split E n)
+        ∙ rs.states (last_word E ∷ rest)
+        ∙ ap (λ k. states_after a k (last_word E ∷ rest)) (exit-split E n)
         ∙ states-last E n L rest;
   }
     where
-      split : (rest : List ℕ) → expression_words E ++ rest ≡ postfix_all (syntax_trees (parts E)) ++ (last-word E ∷ rest)
-      split rest = ap (λ (l : List ℕ). l ++ rest) (words-split E) ∙ append_assoc (postfix_all (syntax_trees (parts E))) (last-word E ∷ []) rest
+      split : (rest : List ℕ) → expression_words E ++ rest ≡ postfix_all (syntax_trees (parts E)) ++ (last_word E ∷ rest)
+      split rest = ap (λ (l : List ℕ). l ++ rest) (words-split E) ∙ append_assoc (postfix_all (syntax_trees (parts E))) (last_word E ∷ []) rest
 
   module _ (l : length a ≤ alphabet_most) where
     reads_two : (F G : Expression) (n : ℕ) → ExpressionOver a F → ExpressionOver a G → ReadsAll (parts F) n
@@ -187,8 +187,8 @@ module _ (a : List ℕ) where
     compiled-port =
         let before = postfix_all (syntax_trees (parts E)) in
         ap (last_port a) (words-split E)
-        ∙ last_port-snoc before (last-word E)
-        ∙ ap (λ n. port_of a n (last-word E))
+        ∙ last_port-snoc before (last_word E)
+        ∙ ap (λ n. port_of a n (last_word E))
         (ap (states_after a 0) (sym (append-nil before)) ∙ (reads-parts l E 0 o).states [] ∙ exit-split E 0)
         ∙ (last-word a l E 0 o).port-is
 

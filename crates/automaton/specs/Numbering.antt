@@ -141,25 +141,25 @@ abbrev pub child_port : List Port → ℕ → Port
 child_port Ps i = get_or Ps i (record { exit = 0; entries = [] })
 
 -- the own transitions of a word of a kind, with its symbol, over its children
-abbrev pub field_own : List ℕ → Kind → ℕ → Port → List Port → List Transition
-field_own a symbol_kind s E Ps = symbol_transitions s E Ps
-field_own a union_kind s E Ps = union_transitions E (child_port Ps 0) (child_port Ps 1)
-field_own a product_kind s E Ps = product_transitions s E (child_port Ps 0) (child_port Ps 1)
-field_own a closure_kind s E Ps = closure_transitions s E (child_port Ps 0)
-field_own a anything_kind s E Ps = anything_transitions a E
-field_own a empty_kind s E Ps = []
-field_own a node_kind s E Ps = []
-field_own a entry_kind s E Ps = []
-field_own a head_kind s E Ps = []
-field_own a transition_kind s E Ps = []
-field_own a epsilon_kind s E Ps = []
-field_own a source_kind s E Ps = []
-field_own a length_kind s E Ps = []
-field_own a no_kind s E Ps = []
+abbrev pub own_at : List ℕ → Kind → ℕ → Port → List Port → List Transition
+own_at a symbol_kind s E Ps = symbol_transitions s E Ps
+own_at a union_kind s E Ps = union_transitions E (child_port Ps 0) (child_port Ps 1)
+own_at a product_kind s E Ps = product_transitions s E (child_port Ps 0) (child_port Ps 1)
+own_at a closure_kind s E Ps = closure_transitions s E (child_port Ps 0)
+own_at a anything_kind s E Ps = anything_transitions a E
+own_at a empty_kind s E Ps = []
+own_at a node_kind s E Ps = []
+own_at a entry_kind s E Ps = []
+own_at a head_kind s E Ps = []
+own_at a transition_kind s E Ps = []
+own_at a epsilon_kind s E Ps = []
+own_at a source_kind s E Ps = []
+own_at a length_kind s E Ps = []
+own_at a no_kind s E Ps = []
 
 -- the own transitions of word w
 unfoldable pub own_transitions : List ℕ → ℕ → Port → List Port → List Transition
-own_transitions a w E Ps = field_own a (kind_of w) (low_byte w) E Ps
+own_transitions a w E Ps = own_at a (kind_of w) (low_byte w) E Ps
 
 -- "Rule words in order get consecutive states from 0": the states of the words, from state n on
 unfoldable pub ports_from : List ℕ → ℕ → List ℕ → List Port
