@@ -79,10 +79,10 @@ module _ (size : ℕ) where
   stored_sets-flatten [] rest h = refl
   stored_sets-flatten (r ∷ rs) rest h =
       let m = flatten rs ++ rest in
-      rw (append_assoc r (flatten rs) rest)
-      (ap₂ (λ (x : StateSet) (y : List StateSet). x ∷ y) (stored-first r m h.0)
+      ap (λ (l : List ℕ). list_from (stored_set size l) 0 (suc (length rs))) (append_assoc r (flatten rs) rest)
+      ∙ ap₂ (λ (x : StateSet) (y : List StateSet). x ∷ y) (stored-first r m h.0)
       (list_from-shift (stored_set size (r ++ m)) (stored_set size m) (length rs) 0 (λ i. stored_next r m i h.0)
-      ∙ stored_sets-flatten rs rest h.1))
+      ∙ stored_sets-flatten rs rest h.1)
 
   pub stored_set-flatten : (rs : List StateSet) (rest : List ℕ) (i : ℕ) → Sized size rs → i < length rs
       → stored_set size (flatten rs ++ rest) i ≡ get_or rs i []
