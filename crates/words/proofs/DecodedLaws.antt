@@ -2,7 +2,7 @@
 -- takes all kinds that are left, that they are none of the others.
 use mathlib.Core.Path.{◌≡◌, refl, ap, ◌∙◌, sym, subst}
 use mathlib.Core.Bool.{Bool, true, false, not, cond}
-use mathlib.Core.List.{List, [], ◌∷◌, map}
+use mathlib.Core.List.{List, [], ◌∷◌, map, Memᴰ}
 use mathlib.Core.Logic.{⊎_elim}
 use Prim.Native.Nat.{ℕ, suc, ◌<◌}
 use native.Mathlib.Omega.{arith}
@@ -20,6 +20,7 @@ use Rattle.words.specs.declared.word.Kind.TheVariants.{Entry, Symbol, Empty, Uni
 use Rattle.words.specs.declared.word.Kind.TheVariants.{Node, Head, Transition, Epsilon, Source, Length, Anything, Other}
 use Rattle.words.specs.contracts.word.Kind.{the_type}
 use Rattle.words.proofs.TestLaws.{and-true}
+use Rattle.words.proofs.CountLaws.{list_from-member}
 use Rattle.words.proofs.KindLaws.{kind_at-number, number-kind_at}
 
 -- ---- the cases that are left
@@ -39,14 +40,62 @@ left_by js = remaining js (list_from (λ n. n) 0 (suc (length kinds)))
 
 -- k is one of those that are left
 abbrev pub Left : List Case → Case → Type 0
-Left js k = OneOf (left_by js) (place_of k)
+Left [] k = Unit {0}
+Left (j ∷ js) k = (k ≡ j → ⊥) × Left js k
 
-one_of-all : (ns : List ℕ) (x : ℕ) → OneOf ns x → (t : ℕ → Bool) → all t ns ≡ true → t x ≡ true
-one_of-all [] x h t p = absurd h
-one_of-all (n ∷ []) x h t p = rw h (and-true (t n) true p).0
-one_of-all (n ∷ m ∷ ns) x h t p =
-    let q = and-true (t n) (all t (m ∷ ns)) p in
-    ⊎_elim (λ e. rw e q.0) (λ l. one_of-all (m ∷ ns) x l t q.1) h
+-- the case at a place
+abbrev case_at : ℕ → Case
+case_at n = get_or (Entry ∷ Symbol ∷ Empty ∷ Union ∷ Product ∷ Closure ∷ Node ∷ Head ∷ Transition ∷ Epsilon ∷ Source ∷ Length ∷ Anything ∷ []) n Other
+
+case_at-place : (k : Case) → case_at (place_of k) ≡ k
+case_at-place Entry = refl
+case_at-place Symbol = refl
+case_at-place Empty = refl
+case_at-place Union = refl
+case_at-place Product = refl
+case_at-place Closure = refl
+case_at-place Node = refl
+case_at-place Head = refl
+case_at-place Transition = refl
+case_at-place Epsilon = refl
+case_at-place Source = refl
+case_at-place Length = refl
+case_at-place Anything = refl
+case_at-place Other = refl
+
+place-below : (k : Case) → place_of k < 14
+place-below Entry = omega arith
+place-below Symbol = omega arith
+place-below Empty = omega arith
+place-below Union = omega arith
+place-below Product = omega arith
+place-below Closure = omega arith
+place-below Node = omega arith
+place-below Head = omega arith
+place-below Transition = omega arith
+place-below Epsilon = omega arith
+place-below Source = omega arith
+place-below Length = omega arith
+place-below Anything = omega arith
+place-below Other = omega arith
+
+left-key : (js : List Case) (k : Case) → Left js k → has_key (map place_of js) (place_of k) ≡ false
+left-key [] k h = refl
+left-key (j ∷ js) k h = rw (ne_eqb (place_of j) (place_of k) (λ e. h.0 (sym (case_at-place k) ∙ ap case_at (sym e) ∙ case_at-place j)), left-key js k h.1)
+
+all-remaining : (js : List Case) (ns : List ℕ) (x : ℕ) → Memᴰ x ns → has_key (map place_of js) x ≡ false → (t : ℕ → Bool)
+    → all t (remaining js ns) ≡ true → t x ≡ true
+all-remaining js [] x m h t p = elim m [ ]
+all-remaining js (n ∷ ns) x (Memᴰ.head e) h t p =
+    let q : has_key (map place_of js) n ≡ false = rw e at h in
+    let r : all t (n ∷ remaining js ns) ≡ true = rw q at p in
+    rw e (and-true (t n) (all t (remaining js ns)) r).0
+all-remaining js (n ∷ ns) x (Memᴰ.tail m) h t p =
+    all-remaining js ns x m h t (later (has_key (map place_of js) n) p)
+  where
+    later : (b : Bool) → all t (cond b (remaining js ns) (n ∷ remaining js ns)) ≡ true → all t (remaining js ns) ≡ true
+    later true q = q
+    later false q = (and-true (t n) (all t (remaining js ns)) q).1
 
 kinds-place : (k : Case) → get_or kinds (place_of k) no_kind ≡ kind_in k
 kinds-place Entry = refl
@@ -68,7 +117,17 @@ kinds-place Other = refl
 pub left-all : (js : List Case) (k : Case) → Left js k → (t : Kind → Bool) → all (λ n. t (get_or kinds n no_kind)) (left_by js) ≡ true
     → t (kind_in k) ≡ true
 left-all js k h t p =
-    subst (λ (j : Kind). t j ≡ true) (kinds-place k) (one_of-all (left_by js) (place_of k) h (λ n. t (get_or kinds n no_kind)) p)
+    subst
+    (λ (j : Kind). t j ≡ true)
+    (kinds-place k)
+    (all-remaining
+    js
+    (list_from (λ n. n) 0 14)
+    (place_of k)
+    (list_from-member 0 14 (place_of k) (omega arith) (place-below k))
+    (left-key js k h)
+    (λ n. t (get_or kinds n no_kind))
+    p)
 
 -- ---- a word of which k is the decoded kind
 
