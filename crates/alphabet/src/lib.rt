@@ -1,4 +1,6 @@
 // The alphabet: ranks, how many children a word takes by them, constants in symbol order, holes, and refusals 1 and 2.
+#![tactic(auto)]
+
 ghost use Rattle.std.specs.Prelude.{◌≡◌, cond, length, take};
 ghost use Rattle.std.proofs.lemmas.List.Edits.{sets};
 ghost use Rattle.words.specs.Lists.{all};

@@ -1,4 +1,6 @@
 // The epsilon closure of a state, worked out along the index; closures that were worked out are kept for other nodes.
+#![tactic(auto)]
+
 ghost use Rattle.std.specs.Prelude.{◌+◌, length};
 ghost use Rattle.index.specs.Index.{state_key};
 ghost use Rattle.closures.specs.Closure.{Puttable, Put, Followable, FollowableAt, Followed, Closable, ClosureOf};

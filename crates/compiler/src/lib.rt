@@ -1,4 +1,6 @@
 // Compile: turns an alphabet and a rule into the table of the numbered Thompson tree automaton, or refuses.
+#![tactic(auto)]
+
 ghost use Rattle.std.specs.Prelude.{◌≡◌};
 ghost use Rattle.words.specs.Refusal.{refusal};
 ghost use Rattle.operations.specs.Compile.{rule_refusals, compile_fault, compile_answer, compile_exit};

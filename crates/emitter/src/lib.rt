@@ -1,4 +1,6 @@
 // Words of a table written into a lent slice: the constants' transitions, and the own transitions of one word of a rule.
+#![tactic(auto)]
+
 mod anything;
 pub mod constants;
 mod entries;

@@ -1,4 +1,6 @@
 // Exchange: one subtree of a marked chapter gives way to a replacement.
+#![tactic(auto)]
+
 ghost use Rattle.std.specs.Prelude.{◌≡◌};
 ghost use Rattle.automaton.specs.Table.{table_in};
 ghost use Rattle.operations.specs.ExchangeCall.{exchange_call};

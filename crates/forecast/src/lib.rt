@@ -1,5 +1,7 @@
 // What the totals at a place will be behind an exchange, worked out before any lent word is written (document 02, U10). State sets stand
 // one above the other in an array of its own.
+#![tactic(auto)]
+
 ghost use Rattle.std.specs.Prelude.{◌≡◌};
 ghost use Rattle.operations.specs.ExchangeCall.{exchange_call};
 ghost use Rattle.totals.specs.TotalsIn.{totals_in};

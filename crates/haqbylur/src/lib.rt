@@ -1,6 +1,8 @@
 // The C interface: Compile, Run, List and Exchange over slices of words. A slice is a pointer and then a length; each
 // function returns 0 or the documents' number, and writes its out-parameters only where it accepts. A record of totals is a pointer
 // to three words. `include/haqbylur.h` declares them for C.
+#![tactic(auto)]
+
 ghost use Rattle.std.specs.Prelude.{◌≡◌};
 ghost use Rattle.words.specs.Answer.{value_or};
 ghost use Rattle.automaton.specs.Table.{table_in};

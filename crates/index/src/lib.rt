@@ -1,4 +1,6 @@
 // An index of a table, made once for all nodes: for each symbol and each state a chain of the words at which transitions begin.
+#![tactic(auto)]
+
 ghost use Rattle.std.specs.Prelude.{◌≡◌};
 ghost use Rattle.index.specs.Index.{key_of, indexed_at, index_of, Insertable, Indexable};
 

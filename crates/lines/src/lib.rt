@@ -1,4 +1,6 @@
 // Writers of the lines that `marklist` prints.
+#![tactic(auto)]
+
 ghost use Rattle.std.specs.Prelude.{◌≡◌, ◌++◌, ◌≤◌, length, get_or};
 ghost use Rattle.words.specs.Limits.{nodes_most};
 ghost use Rattle.words.specs.Chapter.{symbol_of};

@@ -1,5 +1,7 @@
 // Reads three word counts, an alphabet, a rule and a chapter from standard input, and prints the hits or the refusal
 // (document 01, "The source's own example"). What the bytes mean and what is printed stands in the crate `report`.
+#![tactic(auto)]
+
 ghost use Rattle.std.specs.Prelude.{◌≤◌, length};
 ghost use Rattle.report.specs.Stages.{buffer_length};
 ghost use Rattle.marklist.specs.InputReading.{ReadAll, Printed};

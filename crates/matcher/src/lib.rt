@@ -1,4 +1,6 @@
 // Run and List (document 01): state sets for the nodes of a tree, and the matches.
+#![tactic(auto)]
+
 ghost use Rattle.std.specs.Prelude.{◌≡◌};
 ghost use Rattle.automaton.specs.Table.{table_in};
 ghost use Rattle.operations.specs.Run.{run_answer, run_exit};

@@ -1,4 +1,6 @@
 // The replacement's root and then its ancestors, nearest first: each is recomputed, until one keeps its words.
+#![tactic(auto)]
+
 ghost use Rattle.std.specs.Prelude.{◌≡◌, ◌+◌, ◌-◌, length};
 ghost use Rattle.nodes.specs.Marking.{Maintained, NodeMarkable};
 ghost use Rattle.propagation.specs.Propagation.{recompute_at, propagate_step, propagate_from, initial, Propagable, PropagationStartable};

@@ -1,5 +1,7 @@
 // The refusals of the operations on a marked chapter (document 01's "Refused calls"): for Run, List and Exchange the number of
 // the first that applies, or 0.
+#![tactic(auto)]
+
 pub mod exchange;
 pub mod list;
 pub mod run;

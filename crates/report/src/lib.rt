@@ -1,4 +1,6 @@
 // What `marklist` reads and prints, as bytes (document 01).
+#![tactic(auto)]
+
 ghost use Rattle.std.specs.Prelude.{◌≡◌, List, ◌++◌, ℕ, ◌≤◌, length, drop};
 ghost use Rattle.encoding.specs.ByteWriting.{BytesWritten};
 ghost use Rattle.report.specs.Output.{marklist_output, output_of};

@@ -1,2 +1,4 @@
 // Words of a slice: moved, copied and made zero.
+#![tactic(auto)]
+
 pub mod moves;

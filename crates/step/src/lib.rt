@@ -1,4 +1,6 @@
 // A node's state set from its symbol and its children's state sets.
+#![tactic(auto)]
+
 ghost use Rattle.std.specs.Prelude.{◌≡◌, ◌++◌, ◌-◌, drop, get_or, replicate};
 ghost use Rattle.automaton.specs.Transition.{automaton_of, sources_at};
 ghost use Rattle.automaton.specs.StateSet.{all_contained, state_set};

@@ -1,4 +1,6 @@
 // The chapter's record of three totals (document 02, U10), below Run and Exchange.
+#![tactic(auto)]
+
 pub mod listed;
 pub mod moves;
 pub mod nodes;

@@ -1,5 +1,7 @@
 // The marks of a tree brought up to date, below Run and Exchange: a run of nodes is recomputed, and then each node above it that
 // this changes.
+#![tactic(auto)]
+
 ghost use Rattle.std.specs.Prelude.{◌≡◌};
 ghost use Rattle.updates.specs.Updating.{updated_from, Updatable};
 
