@@ -1,0 +1,19 @@
+-- `alphabet::count_constants` meets its contract: before each turn `count` of the first `i` entries are constants.
+use mathlib.Core.Path.{◌∙◌, sym}
+use Rattle.alphabet.proofs.ConstantScanLaws.{counted_none, counted-more, counted_skip, counted-end}
+use Rattle.alphabet.proofs.count_constants.Goals as goal
+use Rattle.alphabet.proofs.count_constants.Goals.{then-is_constant, else-is_constant}
+
+pub loop-i-init : goal.loop-i-init
+loop-i-init c = counted_none _
+
+pub loop-i-preserved : goal.loop-i-preserved
+loop-i-preserved c =
+    let e = sym c.is_constant.ensures in
+    elim c.if-is_constant.branch [
+      | then-is_constant w ↦ rw w.count-is (counted-more c.loop-i.invariant (e ∙ w.if-is_constant.true))
+      | else-is_constant w ↦ rw w.count-is (counted_skip c.loop-i.invariant (e ∙ w.if-is_constant.false))
+    ]
+
+pub returns : goal.returns
+returns c = counted-end c.loop-i.invariant c.loop-i-test.false
