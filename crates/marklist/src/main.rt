@@ -2,18 +2,25 @@
 // (document 01, "The source's own example"). What the bytes mean and what is printed stands in the crate `report`.
 #![tactic(auto)]
 
-ghost use Rattle.std.specs.Prelude.{◌≤◌, length};
+ghost use Rattle.std.specs.Prelude.{◌≡◌, ◌≤◌, length};
 ghost use Rattle.report.specs.Stages.{buffer_length};
 ghost use Rattle.marklist.specs.InputReading.{ReadAll, Printed};
 
 use encoding::word_bytes::{WORD_BYTES, keep_words};
-use libc::{STDIN_FILENO, STDOUT_FILENO};
 use report::input::{ALPHABET_KEPT, CHAPTER_KEPT, RULE_KEPT, kept_words, part_bytes};
 use report::report;
+use std::io::{self, Read, Stdin, Write};
+
+// Zeros, as many as are read or written at once.
+fn buffer() -> [u8; 4096]
+    ensures { 4096 ≡ length result }
+{
+    [0; 4096]
+}
 
 // Reads the next `count` words, keeps as many as the slice has room for, and answers whether all were there. It asks for
 // no byte behind them, and for none where `complete` says that the input has ended before.
-fn read_words(complete: bool, count: u32, words: &mut [u32]) -> bool
+fn read_words(input: &mut Stdin, complete: bool, count: u32, words: &mut [u32]) -> bool
     ensures { ReadAll complete count words.old words.new result }
 {
     if !complete {
@@ -23,8 +30,8 @@ fn read_words(complete: bool, count: u32, words: &mut [u32]) -> bool
     let mut seen: usize = 0;
     while seen < all {
         let bytes = part_bytes(all - seen);
-        let mut buffer = io::buffer();
-        if io::read_full(STDIN_FILENO, &mut buffer[..bytes]) < bytes {
+        let mut buffer = buffer();
+        if input.read_exact(&mut buffer[..bytes]).is_err() {
             return false;
         }
         keep_words(words, seen, &buffer[..bytes]);
@@ -34,7 +41,7 @@ fn read_words(complete: bool, count: u32, words: &mut [u32]) -> bool
 }
 
 // Reads the input, writes what is to be printed of it, and answers how many bytes that is.
-fn answer_input(out: &mut [u8]) -> usize
+fn answer_input(input: &mut Stdin, out: &mut [u8]) -> usize
     requires { buffer_length ≤ length out.old }
     ensures { Printed out.old out.new result }
 {
@@ -42,13 +49,13 @@ fn answer_input(out: &mut [u8]) -> usize
     let mut alphabet = [0u32; ALPHABET_KEPT];
     let mut rule = [0u32; RULE_KEPT];
     let mut chapter = [0u32; CHAPTER_KEPT];
-    let mut complete = read_words(true, 3, &mut counts);
+    let mut complete = read_words(input, true, 3, &mut counts);
     let symbols = counts[0];
     let words = counts[1];
     let nodes = counts[2];
-    complete = read_words(complete, symbols, &mut alphabet);
-    complete = read_words(complete, words, &mut rule);
-    complete = read_words(complete, nodes, &mut chapter);
+    complete = read_words(input, complete, symbols, &mut alphabet);
+    complete = read_words(input, complete, words, &mut rule);
+    complete = read_words(input, complete, nodes, &mut chapter);
     report(
         complete,
         &alphabet[..kept_words(symbols, ALPHABET_KEPT)],
@@ -58,8 +65,9 @@ fn answer_input(out: &mut [u8]) -> usize
     )
 }
 
-fn main() {
-    let mut out = io::buffer();
-    let length = answer_input(&mut out);
-    io::write_all(STDOUT_FILENO, &out[..length]);
+fn main(rt: HostRuntime) -> io::Result<()> {
+    let mut out = buffer();
+    let mut input = rt.stdin();
+    let length = answer_input(&mut input, &mut out);
+    rt.stdout().write_all(&out[..length])
 }
