@@ -12,7 +12,7 @@ use ports::port::{Entry, entry_at, entry_state};
 
 // Where a word's entry for a constant leads: to the children's entries for it, in a product over c at c not to the first
 // child's, in a closure over c at c also to the word's own exit; for anything to its own exit.
-#[derive(Drop)]
+#[derive(Clone, Copy)]
 pub(crate) enum Targets {
     Children,
     Product(u32),

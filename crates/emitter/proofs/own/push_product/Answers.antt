@@ -1,0 +1,40 @@
+-- `emitter::own::push_product` meets its contract: its three writers leave the transitions of a product.
+use native.Mathlib.Omega.{arith}
+use lib.ListN.{get_or}
+use Rattle.emitter.proofs.WritingLaws.{words-written-next}
+use Rattle.emitter.proofs.EntryLaws.{to-entry}
+use Rattle.emitter.proofs.OwnLaws.{emittable-later, product-own}
+use Rattle.emitter.proofs.own.push_product.Goals as goal
+
+pub push_to-next-requires : goal.push_to-next-requires
+push_to-next-requires c =
+    let p =
+    c.requires.emittable in
+    let fits = p.fits in
+    let n = words-written-next _ _ _ _ _ _ c.push_epsilon-second.ensures in
+    let x = c.exit_of-2.ensures.1 in
+    (omega arith, (omega arith, c.entry_at-entry.ensures.low))
+
+pub push_entries-requires : goal.push_entries-requires
+push_entries-requires c =
+    let p = c.requires in
+    record {
+      emittable =
+          emittable-later _ _ _ _ _ p.emittable
+          (let m = words-written-next _ _ _ _ _ _ c.push_epsilon-second.ensures in
+          let n = words-written-next _ _ _ _ _ _ c.push_to-next.ensures in omega arith);
+      targetable = p.ports_len.0;
+    }
+
+pub returns : goal.returns
+returns c =
+    let a = c.args in
+    product-own a.constants.now a.ports.now _ _ _ _ _ _ _ _ _ _ _ _
+    c.exit_of.ensures.0
+    c.exit_of-2.ensures.0
+    c.push_epsilon-second.ensures
+    (to-entry a.constants.now (get_or a.ports.now 0 0) _ a.c _ _ _ _ _ _
+    c.entry_at-entry.ensures
+    c.constant_index.ensures.1
+    c.push_to-next.ensures)
+    c.push_entries.ensures

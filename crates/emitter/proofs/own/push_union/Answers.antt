@@ -1,0 +1,25 @@
+-- `emitter::own::push_union` meets its contract: its two writers leave the transitions of a union.
+use native.Mathlib.Omega.{arith}
+use Rattle.emitter.proofs.WritingLaws.{words-written-next}
+use Rattle.emitter.proofs.OwnLaws.{emittable-later, union-own}
+use Rattle.emitter.proofs.own.push_union.Goals as goal
+
+pub push_entries-requires : goal.push_entries-requires
+push_entries-requires c =
+    let p = c.requires in
+    record {
+      emittable =
+          emittable-later _ _ _ _ _ p.emittable
+          (let n = words-written-next _ _ _ _ _ _ c.push_both-next.ensures in omega arith);
+      targetable = tt;
+    }
+
+pub returns : goal.returns
+returns c =
+    let a =
+    c.args in
+    union-own a.constants.now a.ports.now _ _ _ _ _ _ _ _ _
+    c.requires.ports_len
+    c.exit_of-first.ensures.0
+    c.exit_of-second.ensures.0
+    c.push_both-next.ensures c.push_entries.ensures
