@@ -142,10 +142,14 @@ module _ (a l : List ℕ) (before made fewest joined : ℕ) (g : RunRead a l bef
     heights = λ bound high s q k room f.
         let o = g.long s q in
         let n = length-step in
-        rw (word-step s, n)
+        rw (word-step s)
+        (subst
+        (λ (m : ℕ). AtPlaces (InRun bound fewest (high + joined) m)
+        (value_on a height_over w (heights_after a l s) ∷ drop c (heights_after a l s)))
+        (sym n)
         (word-fresh bound before fewest high joined (length l) (omega arith) (heights_after a l s) c (omega arith)
         (g.heights bound high s q k (omega arith) f)
-        (value_on a height_over w (heights_after a l s)) (value-step (heights_after a l s)) (omega arith));
+        (value_on a height_over w (heights_after a l s)) (value-step (heights_after a l s)) (omega arith)));
   }
 
   run-joined : made - c + 1 ≤ fewest → RunRead a (l ++ w ∷ []) before (made - c + 1) (made - c + 1) (joined + 1)
@@ -158,10 +162,18 @@ module _ (a l : List ℕ) (before made fewest joined : ℕ) (g : RunRead a l bef
         let o = g.long s q in
         let n = length-step in
         let t : length (heights_after a l s) - c + 1 ≡ made - c + 1 = omega arith in
-        rw (word-step s, n, ← t)
+        rw (word-step s)
+        (subst
+        (λ (m : ℕ). AtPlaces (InRun bound (made - c + 1) (high + (joined + 1)) m)
+        (value_on a height_over w (heights_after a l s) ∷ drop c (heights_after a l s)))
+        (sym n)
+        (subst
+        (λ (m : ℕ). AtPlaces (InRun bound m (high + (joined + 1)) (suc (length l)))
+        (value_on a height_over w (heights_after a l s) ∷ drop c (heights_after a l s)))
+        t
         (word-joined bound before fewest high joined (length l) (omega arith) (heights_after a l s) c (omega arith)
         (g.heights bound high s q k (omega arith) (λ p x y. f p (omega arith) y))
-        (value_on a height_over w (heights_after a l s)) (value-step (heights_after a l s)) (omega arith) below (λ p x y. f p (omega arith) y));
+        (value_on a height_over w (heights_after a l s)) (value-step (heights_after a l s)) (omega arith) below (λ p x y. f p (omega arith) y))));
   }
 
 -- ---- ranks in a list
