@@ -1,0 +1,24 @@
+-- `closures::join_closure` meets its contract: the closure is in its row, and the row is joined; or it is searched in the set.
+use borrow.Author.Rules.{rules}
+use Rattle.closures.proofs.KeptClosureLaws.{add-again, join-end}
+use Rattle.closures.proofs.join_closure.Goals as goal
+
+pub keep_closure-requires : goal.keep_closure-requires
+keep_closure-requires c = c.requires.keepable
+
+pub add_closure-requires : goal.add_closure-requires
+add_closure-requires c =
+    add-again
+    c.requires (search rules)
+
+pub returns-then-not-keep_closure : goal.returns-then-not-keep_closure
+returns-then-not-keep_closure c = record {
+  closures =
+      c.keep_closure.ensures.closures;
+  added = c.add_closure.ensures;
+}
+
+pub returns : goal.returns
+returns c =
+    join-end c.if-not-keep_closure.false c.keep_closure.ensures
+    c.requires.set c.join.ensures
