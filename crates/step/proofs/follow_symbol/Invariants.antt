@@ -1,0 +1,12 @@
+-- `step::follow_symbol` meets its contract: the words of the symbol's chain before the current one are followed.
+use lib.ListN.{length}
+use Rattle.closures.proofs.FollowLaws.{left}
+use Rattle.step.proofs.SymbolLaws.{SymbolAt}
+use Rattle.step.proofs.follow_symbol.Given as goal
+
+abbrev pub invariant-loop-i : goal.invariant-loop-i
+invariant-loop-i l =
+    SymbolAt l.table l.index l.symbol l.size l.marks l.children l.owners l.rows l.pending l.set (length l.initial.pending) l.i
+
+abbrev pub decreases-loop-i : goal.decreases-loop-i
+decreases-loop-i l = left l.table l.i

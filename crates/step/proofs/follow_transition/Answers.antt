@@ -1,0 +1,45 @@
+-- `step::follow_transition` meets its contract: the set has the target already, the part states are not in the children's
+-- sets, or the closure of the target joins the set.
+use mathlib.Core.Path.{sym, ◌∙◌}
+use mathlib.Core.Bool.{true≢false}
+use native.Mathlib.Omega.{arith}
+use Rattle.step.proofs.SymbolLaws.{transition-few, transition-sources, transition-joinable, transition-still, transition-more}
+use Rattle.step.proofs.follow_transition.Goals as goal
+
+pub offset_bounds-table-i : goal.offset_bounds-table-i
+offset_bounds-table-i c = omega (arith, transition-few c.requires)
+
+pub bounds-table-i : goal.bounds-table-i
+bounds-table-i c = c.requires.inside
+
+pub returns-then-contains : goal.returns-then-contains
+returns-then-contains c =
+    transition-still c.requires
+    (λ _. sym c.contains.ensures ∙ c.if-contains.true)
+
+pub overflow_add-i : goal.overflow_add-i
+overflow_add-i c =
+    omega (arith, transition-few c.requires)
+
+pub sources_contained-requires : goal.sources_contained-requires
+sources_contained-requires c =
+    transition-sources c.requires
+
+pub returns-then-not-sources_contained : goal.returns-then-not-sources_contained
+returns-then-not-sources_contained c =
+    transition-still
+    c.requires
+    (λ y. absurd (true≢false (sym y ∙ sym c.sources_contained.ensures ∙ c.if-not-sources_contained.true)))
+
+pub join_closure-requires : goal.join_closure-requires
+join_closure-requires c =
+    transition-joinable
+    c.requires
+
+pub returns : goal.returns
+returns c =
+    transition-more
+    c.requires
+    (sym c.sources_contained.ensures
+    ∙ c.if-not-sources_contained.false)
+    c.join_closure.ensures
