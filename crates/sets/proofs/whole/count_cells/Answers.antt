@@ -30,8 +30,8 @@ pub overflow_add-cells : goal.overflow_add-cells
 overflow_add-cells c =
     omega (
       arith,
-      pair-few _ _ _ (c.shared_slice_known-in-loop-k-1.given c.loop-k.k).fits
-          (c.shared_slice_known-in-loop-k-2-1.given (c.loop-k.k + 1)).fits c.count_pair-cells.ensures,
+      pair-few _ _ _ (c.type_inv.words c.loop-k.k).fits
+          (c.type_inv.words (c.loop-k.k + 1)).fits c.count_pair-cells.ensures,
       c.loop-k.invariant.small,
       c.loop-k.invariant.few,
       c.requires,
@@ -46,8 +46,8 @@ loop-k-smaller c = omega (arith, c.loop-k-test.true)
 pub loop-k-preserved : goal.loop-k-preserved
 loop-k-preserved c =
     summed-pair _ _ _ _ c.loop-k.invariant c.loop-k-test.true
-    (c.shared_slice_known-in-loop-k-1.given c.loop-k.k).fits
-    (c.shared_slice_known-in-loop-k-2-1.given (c.loop-k.k + 1)).fits c.count_pair-cells.ensures
+    (c.type_inv.words c.loop-k.k).fits
+    (c.type_inv.words (c.loop-k.k + 1)).fits c.count_pair-cells.ensures
 
 pub offset_bounds-words-k-then-k-words : goal.offset_bounds-words-k-then-k-words
 offset_bounds-words-k-then-k-words c = omega (arith, c.if-k-words.true, c.requires)
@@ -56,13 +56,13 @@ pub bounds-words-k-then-k-words : goal.bounds-words-k-then-k-words
 bounds-words-k-then-k-words c = c.if-k-words.true
 
 pub overflow_cast-cells : goal.overflow_cast-cells
-overflow_cast-cells c = omega (arith, ones-le 32 _ (c.shared_slice_known-then-k-words-1.given c.loop-k.k).fits)
+overflow_cast-cells c = omega (arith, ones-le 32 _ (c.type_inv.words c.loop-k.k).fits)
 
 pub overflow_add-cells-then-k-words : goal.overflow_add-cells-then-k-words
 overflow_add-cells-then-k-words c =
     omega (
       arith,
-      ones-le 32 _ (c.shared_slice_known-then-k-words-1.given c.loop-k.k).fits,
+      ones-le 32 _ (c.type_inv.words c.loop-k.k).fits,
       c.loop-k.invariant.small,
       c.loop-k.invariant.few,
       c.requires,
@@ -72,7 +72,7 @@ pub returns-then-k-words : goal.returns-then-k-words
 returns-then-k-words c =
     summed-end _ _ _
     (summed-more _ _ _ c.loop-k.invariant c.if-k-words.true
-    (c.shared_slice_known-then-k-words-1.given c.loop-k.k).fits) (omega (arith, c.loop-k-test.false))
+    (c.type_inv.words c.loop-k.k).fits) (omega (arith, c.loop-k-test.false))
 
 pub returns-else-k-words : goal.returns-else-k-words
 returns-else-k-words c = summed-end _ _ _ c.loop-k.invariant (omega (arith, c.if-k-words.false))
