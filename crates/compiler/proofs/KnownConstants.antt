@@ -49,6 +49,7 @@ module _ (a cs : List ℕ) (known : cs ≡ constants_of a) where
   -- ---- the c of a word is a constant
 
   member-listed : (c : ℕ) (ds : List ℕ) → Memᴰ c ds → ListedConstant ds c
+  member-listed c [] m = elim m [ ]
   member-listed c (d ∷ ds) (Memᴰ.head e) = (0, omega arith, sym e)
   member-listed c (d ∷ ds) (Memᴰ.tail m) = let (k, h, e) = member-listed c ds m in (suc k, omega arith, e)
 

@@ -1,0 +1,130 @@
+-- `compiler::table::write_parts` meets its contract: its four writers leave the four parts of the table.
+use native.Mathlib.Omega.{arith}
+use mathlib.Core.Path.{ap, sym}
+use Prim.Native.Nat.{◌-◌}
+use lib.ListN.{length}
+use lib.Seq.{length-take-le}
+use Rattle.words.proofs.ListLaws.{length-take-most}
+use Rattle.emitter.proofs.WritingLaws.{words-written-next}
+use Rattle.compiler.proofs.KnownConstants.{constants-symbols}
+use Rattle.compiler.proofs.AcceptedRuleLaws.{rule-alphabet, rule-expression, states-countable, states-few}
+use Rattle.compiler.proofs.TablePartLaws.{word-last, table-written}
+use Rattle.compiler.proofs.table.write_parts.Goals as goal
+
+pub overflow_sub-last : goal.overflow_sub-last
+overflow_sub-last c =
+    let some = (rule-expression _ _ c.requires.accepted).counted.some in
+    omega arith
+
+pub bounds-expression-last : goal.bounds-expression-last
+bounds-expression-last c =
+    let some = (rule-expression _ _ c.requires.accepted).counted.some in
+    omega arith
+
+pub slice_bounds-states_after-end : goal.slice_bounds-states_after-end
+slice_bounds-states_after-end c =
+    let l = c.args.expression.now in
+    sym (length-take-le (length l - 1) l (omega arith))
+
+pub states_after-exit-requires : goal.states_after-exit-requires
+states_after-exit-requires c =
+    let p = c.requires in
+    let l = c.args.expression.now in
+    let few = (rule-expression _ _ p.accepted).counted.few in
+    let t = length-take-most l (length l - 1) in
+    record {
+      states_countable = states-countable _ _ (rule-alphabet _ _ p.accepted) (ap length p.constants);
+      expression_len_bound = omega arith;
+    }
+
+pub states_of-requires : goal.states_of-requires
+states_of-requires c =
+    let p = c.requires in
+    states-countable _ _ (rule-alphabet _ _ p.accepted) (ap length p.constants)
+
+pub overflow_add-states : goal.overflow_add-states
+overflow_add-states c =
+    let x =
+    states-few c.args.expression.now (length c.args.expression.now - 1) _ (rule-expression _ _ c.requires.accepted).counted.few
+    c.states_after-exit.ensures.1 in
+    let s = c.states_of.ensures.1 in
+    omega arith
+
+pub word_port-port-requires : goal.word_port-port-requires
+word_port-port-requires c =
+    let e = rule-expression _ _ c.requires.accepted in
+    let x =
+    states-few c.args.expression.now (length c.args.expression.now - 1) _ (rule-expression _ _ c.requires.accepted).counted.few
+    c.states_after-exit.ensures.1 in
+    record {
+      symbols = (rule-alphabet _ _ c.requires.accepted).counted.few;
+      word = word-last _ c.args.expression.now e.counted.some e.words;
+      low = omega arith;
+    }
+
+pub overflow_mul-states : goal.overflow_mul-states
+overflow_mul-states c =
+    let x =
+    states-few c.args.expression.now (length c.args.expression.now - 1) _ (rule-expression _ _ c.requires.accepted).counted.few
+    c.states_after-exit.ensures.1 in
+    let s = c.states_of.ensures.1 in
+    omega arith
+
+pub overflow_add-states-2 : goal.overflow_add-states-2
+overflow_add-states-2 c =
+    let x =
+    states-few c.args.expression.now (length c.args.expression.now - 1) _ (rule-expression _ _ c.requires.accepted).counted.few
+    c.states_after-exit.ensures.1 in
+    let s = c.states_of.ensures.1 in
+    omega arith
+
+pub overflow_add-states-3 : goal.overflow_add-states-3
+overflow_add-states-3 c =
+    let x =
+    states-few c.args.expression.now (length c.args.expression.now - 1) _ (rule-expression _ _ c.requires.accepted).counted.few
+    c.states_after-exit.ensures.1 in
+    let s = c.states_of.ensures.1 in
+    omega arith
+
+pub push_constants-next-requires : goal.push_constants-next-requires
+push_constants-next-requires c =
+    let p = c.requires in
+    let h = rule-alphabet _ _ p.accepted in
+    record {
+      few = rw p.constants h.constants.few;
+      symbols = constants-symbols _ _ p.constants h.counted.few;
+      fits = omega arith;
+    }
+
+pub write_words-size-requires : goal.write_words-size-requires
+write_words-size-requires c =
+    let p =
+    c.requires in
+    let n = words-written-next _ _ _ _ _ _ c.push_constants-next.ensures in
+    record { accepted = p.accepted; constants = p.constants; fits = omega arith }
+
+pub overflow_cast-size : goal.overflow_cast-size
+overflow_cast-size c =
+    let m = words-written-next _ _ _ _ _ _ c.write_words-size.ensures in
+    let n = words-written-next _ _ _ _ _ _ c.push_constants-next.ensures in
+    omega arith
+
+pub overflow_add-size : goal.overflow_add-size
+overflow_add-size c =
+    let m = words-written-next _ _ _ _ _ _ c.write_words-size.ensures in
+    let n = words-written-next _ _ _ _ _ _ c.push_constants-next.ensures in
+    omega arith
+
+pub returns : goal.returns
+returns c =
+    let a = c.args in
+    let e = rule-expression _ _ c.requires.accepted in
+    table-written a.alphabet.now a.constants.now a.expression.now e.counted.some _ _ _ _ _ _ _ _ _ _ _ _
+    c.requires.constants
+    c.states_after-exit.ensures.0
+    c.states_of.ensures.0
+    c.word_port-port.ensures
+    c.push.ensures
+    c.push_constants-next.ensures
+    c.write_words-size.ensures
+    c.push-2.ensures
