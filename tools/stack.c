@@ -4,8 +4,9 @@
  * that were written, the return address included; the lowest may lie in the red zone (docs/FIRMWARE.md). What is measured is this build
  * on this machine: no theorem bounds a stack.
  *
- *   rt staticlib haqbylur
- *   gcc -O2 -static -Iinclude tools/stack.c target/staticlib/libhaqbylur.a -lpthread -o target/stack && target/stack */
+ *   (cd crates/haqbylur && rt lib)
+ *   mkdir -p target && gcc -O2 -static -Iinclude tools/stack.c crates/haqbylur/out/libhaqbylur.a -lpthread -o target/stack
+ *   target/stack */
 #include <pthread.h>
 #include <stdio.h>
 #include <stdlib.h>
