@@ -5,7 +5,7 @@ use mathlib.Core.List.{List, [], ◌∷◌, ◌++◌, flatten}
 use Prim.Native.Nat.{ℕ, suc, ◌+◌, ◌*◌, ◌^◌, ◌≤◌, ◌<◌}
 use native.Mathlib.Omega.{arith}
 use lib.ListN.{length, get_or}
-use lib.Count.{ones, ones-le}
+use lib.Count.{ones-le}
 use mir.Val.{bool_byte}
 use Rattle.words.specs.Limits.{states_most}
 use Rattle.automaton.specs.StateSet.{StateSet, contains}
