@@ -1,0 +1,40 @@
+-- `propagation::propagate_node` meets its contract: the arity tells whether the node is an ancestor.
+use native.Mathlib.Omega.{arith}
+use Rattle.nodes.proofs.WorkableLaws.{node-kind, bounded-tree}
+use Rattle.nodes.proofs.NodeLaws.{node-pushable}
+use Rattle.propagation.proofs.PropagateNodeLaws.{node-passed, step-beside, step-ancestor}
+use Rattle.propagation.proofs.propagate_node.Goals as goal
+
+pub node_arity-children-requires : goal.node_arity-children-requires
+node_arity-children-requires c =
+    let g = c.requires.at in
+    node-kind (bounded-tree g.workable) _ g.inside
+
+pub push_node-top-requires : goal.push_node-top-requires
+push_node-top-requires c =
+    node-pushable
+    c.requires.at
+    _ c.node_arity-children.ensures _ (omega arith)
+
+pub returns-then-children-reach : goal.returns-then-children-reach
+returns-then-children-reach c = record {
+  marks = step-beside _ _ _ _ _ _ _ c.node_arity-children.ensures c.if-children-reach.true;
+  maintained = node-passed c.requires.at _ c.node_arity-children.ensures c.push_node-top.ensures.answer c.push_node-top.ensures.stack;
+}
+
+pub recompute-node-requires : goal.recompute-node-requires
+recompute-node-requires c =
+    c.requires.at
+
+pub overflow_add-result-2 : goal.overflow_add-result-2
+overflow_add-result-2 c =
+    omega (
+      arith,
+      c.requires.few-recomputed,
+    )
+
+pub returns : goal.returns
+returns c = record {
+  marks = step-ancestor _ _ _ _ _ _ _ c.node_arity-children.ensures c.if-children-reach.false _ c.recompute-node.ensures.marks;
+  maintained = c.recompute-node.ensures.maintained;
+}
