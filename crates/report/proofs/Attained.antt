@@ -1,6 +1,6 @@
 -- `marklist` says 25 of a rule with a table of 2,049 words (document 02, U7), and not of one with 2,048.
 use mathlib.Core.Path.{◌≡◌, refl}
-use mathlib.Core.List.{[], ◌∷◌, flat_map}
+use mathlib.Core.List.{[], flat_map}
 use Rattle.words.specs.Word.{kind_at, spare_bits_clear, is_of}
 use Rattle.words.specs.Alphabet.{marks_hole, is_entry, rank_of, is_constant, is_hole, has_holes, may_name, constants_from, constants_of}
 use Rattle.words.specs.Alphabet.{no_alphabet, wrong_constants}
