@@ -8,10 +8,14 @@ use native.Mathlib.Numerals.{add-one}
 use lib.ListN.{length}
 use lib.Dec.{ltb, leb}
 use borrow.Author.Tests.{eq-eqb, ne_eqb, lt-ltb, le-ltb, le-leb, lt-leb}
-use Rattle.words.specs.Word.{head_kind, transition_kind, epsilon_kind, source_kind, length_kind, kind_number, number_of}
+use Rattle.words.specs.Word.{head_kind, transition_kind, epsilon_kind, source_kind, length_kind, kind_number, number_of, kind_of}
 use Rattle.words.specs.Word.{spare_bits_clear, is_of, symbol_above, count_above, state_above, state_below, length_below}
 use Rattle.words.specs.Alphabet.{rank_of}
 use Rattle.words.specs.Limits.{outside, states_most, table_most}
+use Rattle.words.specs.Decoded.{kind_in}
+use Rattle.words.specs.declared.word.Kind.{Kind as Case}
+use Rattle.words.specs.declared.word.Kind.TheVariants.{Length}
+use Rattle.words.proofs.DecodedLaws.{told-number}
 use Rattle.words.proofs.TestLaws.{and_none}
 use Rattle.words.proofs.KindLaws.{not-clear, not-of, is-of}
 use Rattle.automaton.specs.Table.{is_length, is_head, is_table_word, sources_left}
@@ -44,6 +48,12 @@ module _ (n w : ℕ) where
       pub length_word-value : length_below w ≤ table_most → (r : Bool) → r ≡ leb (length_below w) n → r ≡ is_length n w
       length_word-value h r e =
           e ∙ sym (rw (is-of length_kind w kind clear, le-leb 2 (length_below w) some, le-leb (length_below w) table_most h))
+
+-- the tests of the code up to a count that is too small, for `grind`
+pub length_under : (n w : ℕ) (k : Case) (s : Bool) → kind_in k ≡ kind_of w → k ≡ Length → s ≡ spare_bits_clear w → s ≡ true
+    → length_below w < 2 → false ≡ is_length n w
+length_under n w k s kind is clear e h =
+    length_word-under n w (told-number _ _ kind Length is (omega arith)) (sym clear ∙ e) h
 
 -- ---- a word behind the length word
 

@@ -5,26 +5,21 @@ use native.Mathlib.Omega.{arith}
 use Rattle.words.specs.Word.{length_kind}
 use Rattle.words.specs.declared.word.Kind.TheVariants.{Length}
 use Rattle.words.proofs.DecodedLaws.{told-number, left-number}
-use Rattle.tables.proofs.CheckLaws.{length_word-clear, length_word-other, length_word-under, length_word-over, length_word-value}
+use Rattle.tables.proofs.CheckLaws.{length_word-clear, length_word-other, length_word-over, length_word-value}
 use Rattle.tables.proofs.length.is_length.Goals as goal
 
 pub returns-then-not-spare_bits_clear : goal.returns-then-not-spare_bits_clear
 returns-then-not-spare_bits_clear c = length_word-clear _ _ (sym c.spare_bits_clear.ensures ∙ c.if-not-spare_bits_clear.true)
 
-pub returns-then-count-lt2 : goal.returns-then-count-lt2
-returns-then-count-lt2 c =
-    length_word-under _ _ (told-number _ _ c.kind_of-kind.ensures Length c.in-Length.is (omega arith))
-    (sym c.spare_bits_clear.ensures ∙ c.if-not-spare_bits_clear.false) c.if-count-lt2.true
-
 pub returns-then-count-gt-TABLE_MOST : goal.returns-then-count-gt-TABLE_MOST
 returns-then-count-gt-TABLE_MOST c =
     length_word-over _ _ (told-number _ _ c.kind_of-kind.ensures Length c.in-Length.is (omega arith))
-    (sym c.spare_bits_clear.ensures ∙ c.if-not-spare_bits_clear.false) c.if-count-lt2.false c.if-count-gt-TABLE_MOST.true
+    (sym c.spare_bits_clear.ensures ∙ c.if-not-spare_bits_clear.false) (omega arith) c.if-count-gt-TABLE_MOST.true
 
 pub returns-else-count-gt-TABLE_MOST : goal.returns-else-count-gt-TABLE_MOST
 returns-else-count-gt-TABLE_MOST c =
     length_word-value _ _ (told-number _ _ c.kind_of-kind.ensures Length c.in-Length.is (omega arith))
-    (sym c.spare_bits_clear.ensures ∙ c.if-not-spare_bits_clear.false) c.if-count-lt2.false c.if-count-gt-TABLE_MOST.false _ refl
+    (sym c.spare_bits_clear.ensures ∙ c.if-not-spare_bits_clear.false) (omega arith) c.if-count-gt-TABLE_MOST.false _ refl
 
 pub returns-in_default : goal.returns-in_default
 returns-in_default c =
