@@ -66,7 +66,7 @@ returns-then-wrong_totals c =
     exchange_call c.args.alphabet.now c.args.table.now c.args.chapter.now c.args.marks.now c.args.count c.args.element
     c.args.replacement.now in
     let all =
-    totals-refused q (totals_in c.args.before) c.requires.passes (sym c.wrong_totals.ensures ∙ c.if-wrong_totals.true) in
+    totals-refused q (totals_in c.args.before) c.requires.passes (rw (← c.wrong_totals.ensures) c.if-wrong_totals.true) in
     record { answer = all.0; chapter = all.1.0; marks = all.1.1.0; totals = all.1.1.1 }
 
 pub overflow_add-behind : goal.overflow_add-behind
@@ -123,7 +123,7 @@ moved_totals-requires c =
     (take_at c.move_numbers.new.list _ _ moved-long ∙ c.move_numbers.ensures) _ c.replace_subtree-exchanged.ensures.marks _ c.listed_totals-added.ensures in
     added-decides q c.requires.passes c.args.start c.requires.begins (totals_in c.listed_totals-fallen.result) fallen-is
     (totals_in c.args.before) (totals_in c.listed_totals-added.result) added-is
-    ∙ sym c.wrong_totals.ensures ∙ c.if-wrong_totals.false
+    ∙ rw (← c.wrong_totals.ensures) c.if-wrong_totals.false
 
 pub returns : goal.returns
 returns c =
@@ -144,7 +144,7 @@ returns c =
     (take_at c.move_numbers.new.list _ _ moved-long ∙ c.move_numbers.ensures) _ c.replace_subtree-exchanged.ensures.marks _ c.listed_totals-added.ensures in
     let t = totals_in c.args.before in
     let all =
-    call-replaced q t c.requires.passes (sym c.wrong_totals.ensures ∙ c.if-wrong_totals.false) _ _ _ _
+    call-replaced q t c.requires.passes (rw (← c.wrong_totals.ensures) c.if-wrong_totals.false) _ _ _ _
     c.replace_subtree-exchanged.ensures.answer c.replace_subtree-exchanged.ensures.chapter c.replace_subtree-exchanged.ensures.marks
     (c.moved_totals.ensures ∙ ap₂ (moved_totals t) fallen-is added-is ∙ sym (same-moved q c.requires.passes t)) in
     record { answer = all.0; chapter = all.1.0; marks = all.1.1.0; totals = all.1.1.1 }
