@@ -79,6 +79,7 @@ fn top_height(stack: &[u32], top: usize) -> usize
 }
 
 // The height of the tree that the words before a place, those put there and those behind it make; nothing is moved for it.
+#[inline(never)]
 pub fn joined_height(alphabet: &[u32], before: &[u32], place: &[u32], behind: &[u32]) -> usize
     requires { length before.now + length place.now + length behind.now ≤ nodes_most }
     ensures { result ≡ height_of alphabet.now (before.now ++ (place.now ++ behind.now)) }
