@@ -88,8 +88,8 @@ pub fn exchange_counted(
     )
 }
 
-// Document 01's Exchange, which also changes the record of totals by the difference that it makes (document 02, U10). A reference to
-// a record asks for a proof of the function's MIR, so all work is in `exchange_counted`.
+// Document 01's Exchange, which also changes the record of totals by the difference that it makes (document 02, U10). All
+// work is in `exchange_counted`, which has the record by value.
 pub fn exchange(
     alphabet: &[u32],
     table_slice: &[u32],

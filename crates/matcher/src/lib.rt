@@ -74,8 +74,8 @@ pub fn run_counted(
     }
 }
 
-// Document 01's Run: marks the chapter and sets the record of totals (document 02, U10), or refuses. A reference to a record asks
-// for a proof of the function's MIR, so all work is in `run_counted`.
+// Document 01's Run: marks the chapter and sets the record of totals (document 02, U10), or refuses. All work is in
+// `run_counted`, which has the record by value.
 pub fn run(
     alphabet: &[u32],
     table_slice: &[u32],
