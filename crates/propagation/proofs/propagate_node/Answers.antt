@@ -35,6 +35,6 @@ overflow_add-result-2 c =
 
 pub returns : goal.returns
 returns c = record {
-  marks = step-ancestor _ _ _ _ _ _ _ c.node_arity-children.ensures c.if-children-reach.false _ c.recompute-node.ensures.marks;
+  marks = step-ancestor _ _ _ _ _ _ _ c.node_arity-children.ensures (omega arith) _ c.recompute-node.ensures.marks;
   maintained = c.recompute-node.ensures.maintained;
 }
