@@ -47,7 +47,7 @@ def in_parts(items, size):
 
 
 def published():
-    return [name for names in checker.unfoldable().values() for name in names] + ['flatMap', 'flatten']
+    return [name for names in checker.unfoldable().values() for name in names] + ['flat_map', 'flatten']
 
 
 def stated(book, lines):
@@ -64,14 +64,14 @@ def stated(book, lines):
 def proved(book, refused):
     """The equation and its proof."""
     if isinstance(book, Truncated):
-        return [fact('ends-early', 'quickComplete input ≡ false', unfolding=['wordAt']),
-                fact('zero-line', 'refusedLine 0 ≡ answer', unfolding=['refusedLine', 'decimal', 'digitsWithin']),
-                fact('pub certified', 'programOutput input ≡ answer', 'truncated input ends-early ∙ zero-line')]
+        return [fact('ends-early', 'quick_complete input ≡ false', unfolding=['word_at']),
+                fact('zero-line', 'refused_line 0 ≡ answer', unfolding=['refused_line', 'decimal', 'digits_within']),
+                fact('pub certified', 'program_output input ≡ answer', 'truncated input ends-early ∙ zero-line')]
     few = len(book.chapter) <= MARKLIST_MOST
-    output, fault = ('marklistOutput', 'marklistFault') if few else ('bookOutput', 'bookFault')
+    output, fault = ('marklist_output', 'marklist_fault') if few else ('book_output', 'book_fault')
     if refused:
         return [fact('pub certified', f'{output} alphabet rule chapter ≡ answer', unfolding=published())]
-    proof = ('ap (outputAt alphabet rule chapter) no-fault\n'
+    proof = ('ap (output_at alphabet rule chapter) no-fault\n'
              '    ∙ reported alphabet rule chapter value answer report')
     if few:
         proof = 'same-output alphabet rule chapter\n    ∙ ' + proof

@@ -41,29 +41,29 @@ def unfoldable():
                 continue
             found = re.findall(r'^ *unfoldable pub (\S+)', file.read_text(encoding='utf-8'), re.MULTILINE)
             if found:
-                names[f'Rattle·{crate}.specs.{file.stem}'] = found
+                names[f'Rattle.{crate}.specs.{file.stem}'] = found
     return names
 
 
-def add_crate(scratch, crate, below):
-    """A crate that has no code, above those that are named."""
+def add_crate(scratch, crate):
+    """A crate that has no code. Those below it are not listed: the checker is given their sources (`sources_below`)."""
     (scratch / 'crates' / crate / 'src').mkdir()
     (scratch / 'crates' / crate / 'src' / 'lib.rt').write_text('')
     with open(scratch / 'crates.txt', 'a', encoding='utf-8') as crates:
-        crates.write(f'{crate}: {below}\n')
+        crates.write(f'{crate}: core\n')
 
 
 def publish(scratch):
     """Writes the published definitions into the scratch repository. What serves the code alone (CODE) is left out: there is no
     code here, and no crate of it."""
-    for crate, below in PUBLISHED.items():
+    for crate in PUBLISHED:
         specs = scratch / 'crates' / crate / 'specs'
         shutil.copytree(HOME / 'crates' / crate / 'specs', specs)
         for name in CODE.get(crate, ()):
             (specs / f'{name}.antt').unlink()
             listed = (specs / 'Lib.antt').read_text(encoding='utf-8')
             (specs / 'Lib.antt').write_text(listed.replace(f'pub mod {name}\n', ''), encoding='utf-8')
-        add_crate(scratch, crate, below)
+        add_crate(scratch, crate)
 
 
 def lay_out(scratch, text):
@@ -73,16 +73,25 @@ def lay_out(scratch, text):
     certificate.mkdir(parents=True)
     (certificate / 'Lib.antt').write_text('pub mod Certificate\n')
     (certificate / 'Certificate.antt').write_text(text, encoding='utf-8')
-    add_crate(scratch, 'certificate', ' '.join(PUBLISHED))
+    add_crate(scratch, 'certificate')
+
+
+def sources_below(crate):
+    """The flags that have the checker read the crates below this one from their sources, in the one run: building each of them first would
+    take much longer, and what other runs on this machine built of them could be taken instead."""
+    flags = []
+    for name in PUBLISHED.get(crate, ' '.join(PUBLISHED)).split():
+        used = ','.join(['core', 'std', *PUBLISHED[name].split()])
+        flags += ['--lib', f'{name}:{used}=../{name}/src/lib.rt']
+    return flags
 
 
 def run(scratch, crate='certificate'):
     """Runs the checker, with a line of progress every ten seconds; gives its status and what it said."""
     log = scratch / 'log'
     with open(log, 'wb') as out:
-        process = subprocess.Popen(['rt', 'check', crate], cwd=scratch, stdin=subprocess.DEVNULL, stdout=out,
-                                   stderr=subprocess.STDOUT, env={**os.environ, 'RT_JOBS': '1', 'RT_CUT': '400'},
-                                   start_new_session=True)
+        process = subprocess.Popen(['rt', 'check', '--jobs', '1', *sources_below(crate)], cwd=scratch / 'crates' / crate,
+                                   stdin=subprocess.DEVNULL, stdout=out, stderr=subprocess.STDOUT, start_new_session=True)
         began = time.monotonic()
         while True:
             try:
@@ -108,8 +117,9 @@ def ask(text):
         status, said = run(scratch)
     finally:
         shutil.rmtree(scratch, ignore_errors=True)
-    if status == 0 and re.search(r'^rt: certificate proved', said, re.MULTILINE):
+    last = (said.splitlines() or [''])[-1]
+    if status == 0 and last.startswith('logic=proved '):
         return ACCEPTED, ''
-    reasons = [line for line in said.splitlines() if 'error:' in line] or said.splitlines()[-1:] or ['']
-    could_not = status != 1 or 'step limit' in said
+    reasons = [line for line in said.splitlines() if 'error:' in line] or [last]
+    could_not = status != 1 or not last.startswith('logic=not-proved') or 'step limit' in said
     return (COULD_NOT_TELL if could_not else REFUSED), re.sub(r'^\S*Certificate\.antt:', 'certificate, line ', reasons[0])

@@ -13,16 +13,16 @@ from .postfix import pop, spans_of
 # The steps that are worked out in one fact: the checker's limit is 50,000,000 steps of its own a fact.
 STEPS_IN_FACT = 64
 
-READING = ['kindAt', 'rankOf', 'arity']
-SETS = ['sizeFor', 'contains', 'insert']
-DECIMALS = ['digitsWithin', 'decimal']
+READING = ['kind_at', 'rank_of', 'arity']
+SETS = ['size_for', 'contains', 'insert']
+DECIMALS = ['digits_within', 'decimal']
 
 
 def transition(move):
     name, *fields = move
     if name == 'empty':
         return f'epsilon {fields[0]} {fields[1]}'
-    return f'onSymbol {fields[0]} ({inline(map(str, fields[1]))}) {fields[2]}'
+    return f'on_symbol {fields[0]} ({inline(map(str, fields[1]))}) {fields[2]}'
 
 
 def passes(transitions, symbol_targets):
@@ -77,10 +77,10 @@ def table_facts(reading, unfolding):
     return [list_of('table', reading.table, hexadecimal), moves,
             'abbrev pub automaton : Automaton\n'
             f'automaton = record {{ states = {states}; final = {final}; transitions = moves }}\n',
-            fact('compiles', 'compiledTable alphabet rule ≡ table', unfolding=unfolding),
-            fact('decodes', 'automatonOf table ≡ automaton', unfolding=unfolding),
-            fact('state-count', f'compiled alphabet rule .states ≡ {states}', unfolding=unfolding),
-            fact('final-state', f'compiled alphabet rule .final ≡ {final}', unfolding=unfolding)]
+            fact('compiles', 'compiled_table alphabet rule ≡ table', unfolding=unfolding),
+            fact('decodes', 'automaton_of table ≡ automaton', unfolding=unfolding),
+            fact('state-count', f'(compiled alphabet rule).states ≡ {states}', unfolding=unfolding),
+            fact('final-state', f'(compiled alphabet rule).final ≡ {final}', unfolding=unfolding)]
 
 
 def step_facts(reading):
@@ -96,13 +96,13 @@ def step_facts(reading):
         proofs.append(f'(right-steps automaton {count} start{i} {after} steps{i} closes{i} reach{i})')
     behind, proof = f'steps{len(groups) - 1}', proofs[-1]
     for i in reversed(range(len(groups) - 1)):
-        proof = f'known-append (setBy automaton) steps{i} ({behind}) {proofs[i]}\n    ({proof})'
+        proof = f'known-append (set_by automaton) steps{i} ({behind}) {proofs[i]}\n    ({proof})'
         behind = f'steps{i} ++ ({behind})'
     return texts + [list_of('steps', [step for _, steps in groups for step in steps], reading.step_text, 1, 'Step'),
-                    fact('known', 'Known (setBy automaton) steps', proof),
-                    'unfoldable pub value : Value\nvalue w rs = found (setBy automaton) steps w rs\n',
-                    fact('same-value', '(w : ℕ) (rs : List StateSet) → value w rs ≡ setBy automaton w rs',
-                         'found-same (setBy automaton) steps known w rs', ['value'])]
+                    fact('known', 'Known (set_by automaton) steps', proof),
+                    'unfoldable pub value : Value\nvalue w rs = found (set_by automaton) steps w rs\n',
+                    fact('same-value', '(w : ℕ) (rs : List StateSet) → value w rs ≡ set_by automaton w rs',
+                         'found-same (set_by automaton) steps known w rs', ['value'])]
 
 
 def hit_facts(reading, nodes, words_in_part):
@@ -111,7 +111,7 @@ def hit_facts(reading, nodes, words_in_part):
     hits = {part: list(group) for part, group in groupby(reading.hits, lambda hit: hit // words_in_part)}
     texts = [list_of(f'stack{i}', [reading.names[words] for words in stack], of='StateSet') for i, stack in enumerate(reading.stacks)]
     texts += [part_of(f'hits{i}', hits.get(i, [])) for i in range(parts)] + [listed('hits', parts)]
-    scan = f'quickHits alphabet value {reading.steps.final}'
+    scan = f'quick_hits alphabet value {reading.steps.final}'
     for i in range(parts):
         end = min((i + 1) * words_in_part, nodes)
         texts.append(fact(f'scanned{i}', f'(rest : List ℕ) → {scan} {i * words_in_part} (chapter{i} rest) stack{i} ≡ '
@@ -123,17 +123,17 @@ def hit_facts(reading, nodes, words_in_part):
 
 def line_facts(reading, nodes, starts, lines_in_part):
     """The lines, part by part of the answer; the first begins with the head line."""
-    head = f'headLine {nodes} {reading.steps.states} {len(reading.hits)}'
+    head = f'head_line {nodes} {reading.steps.states} {len(reading.hits)}'
     ends = [0] + list(range(lines_in_part - 1, len(reading.hits), lines_in_part)) + [len(reading.hits)]
     groups = [reading.hits[start:end] for start, end in zip(ends, ends[1:])]
     groups = groups[:-1] if len(groups) > 1 and not groups[-1] else groups
-    lines = 'quickLines alphabet chapter starts'
-    texts = [list_of('starts', starts), fact('begin', 'quickStarts alphabet chapter 0 chapter [] ≡ starts', unfolding=READING)]
+    lines = 'quick_lines alphabet chapter starts'
+    texts = [list_of('starts', starts), fact('begin', 'quick_starts alphabet chapter 0 chapter [] ≡ starts', unfolding=READING)]
     for i, group in enumerate(groups):
         before = f'{head} ++ ' if i == 0 else ''
         texts += [part_of(f'at{i}', group),
                   fact(f'printed{i}', f'(rest : List ℕ) → {before}{lines} (at{i} rest) ≡ answer{i} ({lines} rest)',
-                       unfolding=DECIMALS + ['headLine'])]
+                       unfolding=DECIMALS + ['head_line'])]
     proof = chain('printed', 'answer', len(groups), lambda i: joined('at', len(groups), i))
     return texts + [fact('all-lines', f'{head} ++ {lines} hits ≡ answer', proof)]
 
@@ -149,9 +149,9 @@ report = record {{
   automaton = automaton;
   decodes = decodes;
   states = {reading.steps.states};
-  stateCount = state-count;
+  state_count = state-count;
   final = {reading.steps.final};
-  finalState = final-state;
+  final_state = final-state;
   value = same-value;
   hits = hits;
   found = all-hits;
@@ -167,5 +167,5 @@ report = record {{
 }}
 '''
     return [*table_facts(reading, unfolding), *step_facts(reading), *hit_facts(reading, nodes, words_in_part),
-            fact('one-tree', 'trees alphabet 0 chapter 1 ≡ true', unfolding=READING + ['treesBy']),
+            fact('one-tree', 'trees alphabet 0 chapter 1 ≡ true', unfolding=READING + ['trees_by']),
             *line_facts(reading, nodes, starts, lines_in_part), report]

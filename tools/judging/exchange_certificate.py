@@ -41,7 +41,7 @@ def totals_text(name, totals):
 # `table` has the words that are lent, of which the table is the first ones.
 CALL = '''\
 abbrev pub call : ExchangeCall
-call = exchangeCall alphabet (tableIn table) chapter marks count element replacement
+call = exchange_call alphabet (table_in table) chapter marks count element replacement
 '''
 
 
@@ -49,34 +49,34 @@ def stated(call, left):
     return [list_of('alphabet', call.alphabet, hexadecimal), list_of('table', call.table, hexadecimal),
             list_of('chapter', call.chapter, hexadecimal), list_of('marks', call.marks), number_text('count', call.count[0]),
             number_text('element', call.element[0]), list_of('replacement', call.replacement, hexadecimal), CALL,
-            totals_text('totals', call.totals), answer_text(left.answer), list_of('chapterLeft', left.chapter, hexadecimal),
-            list_of('marksLeft', left.marks), list_of('totalsLeft', left.totals)]
+            totals_text('totals', call.totals), answer_text(left.answer), list_of('chapter_left', left.chapter, hexadecimal),
+            list_of('marks_left', left.marks), list_of('totals_left', left.totals)]
 
 
 # ---- the proof
 
 EQUATIONS = {
-    'answers': 'exchangeAnswer call totals ≡ answer',
-    'leaves-chapter': 'exchangeChapter call totals ≡ chapterLeft',
-    'leaves-marks': 'exchangeMarks call totals ≡ marksLeft',
-    'leaves-totals': 'totalsWords (exchangeTotals call totals) ≡ totalsLeft',
+    'answers': 'exchange_answer call totals ≡ answer',
+    'leaves-chapter': 'exchange_chapter call totals ≡ chapter_left',
+    'leaves-marks': 'exchange_marks call totals ≡ marks_left',
+    'leaves-totals': 'totals_words (exchange_totals call totals) ≡ totals_left',
 }
 
 # What the laws speak of: the outcomes, the totals before and after, and that they are those of the call.
-FOUND = 'outcomesFound totalsBefore totalsAfter found-outcomes found-before found-after'
+FOUND = 'outcomes_found totals_before totals_after found-outcomes found-before found-after'
 
 # What an accepted call leaves, from its outcomes and totals.
 COMPUTED = {
-    'answer': 'accepted (length (newTree call) ∷ recomputedIn outcomesFound ∷ []) ≡ answer',
-    'chapter': 'newChapter call ≡ chapterLeft',
-    'marks': 'refit (count * sizeOf (call .table)) (flatten (map setIn outcomesFound)) marks ≡ marksLeft',
-    'totals': 'totalsWords (movedTotals totals totalsBefore totalsAfter) ≡ totalsLeft',
+    'answer': 'accepted (length (new_tree call) ∷ recomputed_in outcomes_found ∷ []) ≡ answer',
+    'chapter': 'new_chapter call ≡ chapter_left',
+    'marks': 'refit (count * size_of call.table) (flatten (map set_in outcomes_found)) marks ≡ marks_left',
+    'totals': 'totals_words (moved_totals totals totals_before totals_after) ≡ totals_left',
 }
 
 
 def computed(name, statement):
     """A fact that holds by computing the published definitions."""
-    return fact(name, statement, unfolding=published() + ['ones', 'onesIn'])
+    return fact(name, statement, unfolding=published() + ['ones', 'ones_in'])
 
 
 def outcome_text(outcome):
@@ -86,17 +86,17 @@ def outcome_text(outcome):
 
 def early_facts(number):
     """The refusal of a call whose record plays no part."""
-    return [computed('found-fault', f'wordsFault call ≡ {number}'),
+    return [computed('found-fault', f'words_fault call ≡ {number}'),
             fact('fault-is', f'fault call totals ≡ {number}', f'refused-early call totals {number} refl found-fault')]
 
 
 def worked_facts(work, number):
     """The outcomes, the totals before and after, and the refusal, which is none or 27."""
-    return [list_of('outcomesFound', work.outcomes, outcome_text, 4, 'Outcome'), totals_text('totalsBefore', work.old),
-            totals_text('totalsAfter', work.new), computed('found-outcomes', 'outcomes call ≡ outcomesFound'),
-            computed('found-before', 'quickTotals (call .table) (listFrom (storedIn call) 0 count) ≡ totalsBefore'),
-            computed('found-after', 'quickTotals (call .table) (map setIn outcomesFound) ≡ totalsAfter'),
-            computed('found-fault', f'with27 call (wrongTotals totals totalsBefore totalsAfter) ≡ {number}'),
+    return [list_of('outcomes_found', work.outcomes, outcome_text, 4, 'Outcome'), totals_text('totals_before', work.old),
+            totals_text('totals_after', work.new), computed('found-outcomes', 'outcomes call ≡ outcomes_found'),
+            computed('found-before', 'quick_totals call.table (list_from (stored_in call) 0 count) ≡ totals_before'),
+            computed('found-after', 'quick_totals call.table (map set_in outcomes_found) ≡ totals_after'),
+            computed('found-fault', f'with27 call (wrong_totals totals totals_before totals_after) ≡ {number}'),
             fact('fault-is', f'fault call totals ≡ {number}', f'judged call totals {FOUND} ∙ found-fault')]
 
 
@@ -131,7 +131,7 @@ def is_exchange(text):
 
 def read(text):
     """The call of a certificate, which has to be as `text_of` writes it, and what it leaves."""
-    names = ('alphabet', 'table', 'chapter', 'marks', 'replacement', 'chapterLeft', 'marksLeft', 'totalsLeft')
+    names = ('alphabet', 'table', 'chapter', 'marks', 'replacement', 'chapter_left', 'marks_left', 'totals_left')
     lists = {name: numbers_of(text, name) for name in names}
     single = {name: re.search(rf'^{name} = (\d+)$', text, re.MULTILINE) for name in ('count', 'element')}
     answer = re.search(r'^answer = (accepted \((\d+) ∷ (\d+) ∷ \[\]\)|refused (\d+))$', text, re.MULTILINE)
@@ -140,7 +140,7 @@ def read(text):
     if None in lists.values() or None in single.values() or answer is None or totals is None:
         raise NoCertificate('it has no call and answer')
     values = [int(value) for value in answer.groups()[1:] if value is not None]
-    left = Left([answer[1].split()[0], *values], lists.pop('chapterLeft'), lists.pop('marksLeft'), lists.pop('totalsLeft'))
+    left = Left([answer[1].split()[0], *values], lists.pop('chapter_left'), lists.pop('marks_left'), lists.pop('totals_left'))
     call = Call(**lists, **{name: [int(found[1])] for name, found in single.items()}, totals=[int(total) for total in totals.groups()])
     if text != text_of(call, left):
         raise NoCertificate('it is not as ./judge writes it for its numbers and these definitions')
