@@ -1,3 +1,4 @@
 pub mod ConstantScanLaws
 pub mod RankLaws
 pub mod HoleScanLaws
+pub mod RankedLaws

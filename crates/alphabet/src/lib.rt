@@ -1,10 +1,10 @@
 // The alphabet: ranks, how many children a word takes by them, constants in symbol order, holes, and refusals 1 and 2.
 #![tactic(auto)]
 
-ghost use Rattle.std.specs.Prelude.{◌≡◌, cond, length, take};
+ghost use Rattle.std.specs.Prelude.{◌≡◌, cond, ◌≤◌, length, take, get_or};
 ghost use Rattle.std.proofs.lemmas.List.Edits.{sets};
 ghost use Rattle.words.specs.Lists.{all};
-ghost use Rattle.words.specs.Word.{node_kind, kind_of, low_byte};
+ghost use Rattle.words.specs.Word.{node_kind, symbol_range, kind_of, low_byte};
 ghost use Rattle.words.specs.Limits.{alphabet_most, rank_most};
 ghost use Rattle.words.specs.Alphabet.{entry_rank, marks_hole, is_entry, rank_of, is_constant, is_hole, has_holes, may_name, constants_of};
 ghost use Rattle.words.specs.Alphabet.{no_alphabet, alphabet_fault};
@@ -13,6 +13,9 @@ ghost use Rattle.alphabet.specs.Ranks.{RanksWritten};
 
 use words::limits::{ALPHABET_MOST, CONSTANTS_MOST, RANK_MOST, is_outside};
 use words::word::{HOLE_RANGE, Kind, SYMBOL_RANGE, kind_of, spare_bits_clear};
+
+// How many symbols a word can name.
+pub const SYMBOLS: usize = SYMBOL_RANGE as usize;
 
 // The rank of a symbol; 0 for an unknown one.
 pub fn rank(alphabet: &[u32], symbol: usize) -> usize
@@ -58,6 +61,14 @@ pub fn write_ranks(alphabet: &[u32], ranks: &mut [u32])
         ranks[symbol] = rank_unless_hole(alphabet[symbol], ranks[symbol]);
         symbol += 1;
     }
+}
+
+// The rank of the symbol in bits 7..0 of a word, from such a list.
+pub fn rank_in(ranks: &[u32], w: u32) -> usize
+    requires { symbol_range ≤ length ranks.now }
+    ensures { result ≡ get_or ranks.now (low_byte w) 0 }
+{
+    ranks[(w % SYMBOL_RANGE) as usize] as usize
 }
 
 // How many children a node takes. It decodes no kind: those who read a chapter again and again know that its words are nodes.

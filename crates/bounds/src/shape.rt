@@ -4,13 +4,9 @@ ghost use Rattle.words.specs.Limits.{nodes_most};
 ghost use Rattle.bounds.specs.TreeShape.{ShapeOf};
 
 use super::runs::{lower, tree_bound};
-use alphabet::write_ranks;
+use alphabet::{SYMBOLS, write_ranks};
 use syntax::chapter::{holes_in, tree_fault};
 use words::limits::{HEIGHT_MOST, NODES_MOST};
-use words::word::SYMBOL_RANGE;
-
-// How many symbols a word can name.
-const SYMBOLS: usize = SYMBOL_RANGE as usize;
 
 // A rank that no number of trees reaches: that of a hole, and of a symbol which the alphabet lacks.
 const NO_RANK: u32 = NODES_MOST as u32 + 1;

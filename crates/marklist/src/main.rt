@@ -9,7 +9,7 @@ ghost use Rattle.marklist.specs.InputReading.{ReadAll, Printed};
 use encoding::word_bytes::{WORD_BYTES, keep_words};
 use report::input::{ALPHABET_KEPT, CHAPTER_KEPT, RULE_KEPT, kept_words, part_bytes};
 use report::report;
-use std::io::{self, Read, Stdin, Write};
+use std::io::{Read, Stdin, Write};
 
 // Zeros, as many as are read or written at once.
 fn buffer() -> [u8; 4096]
@@ -65,9 +65,10 @@ fn answer_input(input: &mut Stdin, out: &mut [u8]) -> usize
     )
 }
 
-fn main(rt: HostRuntime) -> io::Result<()> {
+// A failed write is passed over: whoever reads the lines sees that they are not whole.
+fn main(rt: HostRuntime) {
     let mut out = buffer();
     let mut input = rt.stdin();
     let length = answer_input(&mut input, &mut out);
-    rt.stdout().write_all(&out[..length])
+    let _ = rt.stdout().write_all(&out[..length]);
 }
