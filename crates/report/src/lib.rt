@@ -47,6 +47,7 @@ fn report_hits(
 }
 
 // Marks the chapter by the table in the slice, and writes the output.
+#[tactic(auto, using(crate::proofs::ReportLaws::over_output))]
 fn report_chapter(alphabet: &[u32], table: &[u32], chapter: &[u32], out: &mut [u8]) -> usize
     ensures { (rule : List ℕ) → ChapterReportable alphabet.now rule table.now
         → BytesWritten 0 (marklist_output alphabet.now rule chapter.now) out.old out.new result }
