@@ -96,6 +96,10 @@ pub over_output : (a e ch slice : List ℕ) (words : ℕ) → chapter_most < len
 over_output a e ch slice words h answer long = chapter-over a e ch slice words long answer h
 
 module _ {a e table : List ℕ} (t : ChapterReportable a e table) (ch : List ℕ) where
+  pub refused_over : {x : ℕ} {out out' : List ℕ} → chapter_most < length ch → BytesWritten 0 (refused_line 9) out out' x
+      → BytesWritten 0 (marklist_output a e ch) out out' x
+  refused_over h w = bytes-written-same w (sym (over_output a e ch t.slice t.words h t.answer t.long))
+
   module _ (few : length ch ≤ chapter_most) where
     pub refused-ran : {n x : ℕ} {out out' : List ℕ} (r : Ran) → r ≡ Ran-as-Refused n
         → answer_in_ran r ≡ run_answer a (table_in table) ch (zeros marks_length)
