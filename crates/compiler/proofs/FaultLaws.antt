@@ -1,5 +1,5 @@
 -- Compile's conditions 6, 25 and 7 of what the code counts, and the answer and the table slice of a call.
-use mathlib.Core.Path.{◌≡◌, ap, ◌∙◌, sym}
+use mathlib.Core.Path.{◌≡◌, refl, ap, ◌∙◌, sym}
 use mathlib.Core.Bool.{true, false}
 use mathlib.Core.List.{List, [], ◌∷◌}
 use Prim.Native.Nat.{ℕ, ◌+◌, ◌<◌, ◌≤◌}
@@ -11,10 +11,11 @@ use borrow.Author.Tests.{lt-ltb, le-ltb}
 use Rattle.words.specs.Limits.{states_most, table_most}
 use Rattle.words.specs.Refusal.{refusal}
 use Rattle.words.specs.Answer.{refused, accepted}
+use Rattle.words.proofs.RefusalLaws.{here, next, found-refusal, passes}
 use Rattle.words.proofs.ListLaws.{sets-whole}
 use Rattle.words.proofs.AnswerLaws.{answer-refused, answer-accepted, exit-refused, exit-accepted}
 use Rattle.automaton.specs.Numbering.{states_after, compiled}
-use Rattle.operations.specs.Compile.{compiled_table, too_many_states, too_many_words, table_too_long, rule_refusals, compile_fault}
+use Rattle.operations.specs.Compile.{compiled_table, too_many_states, too_many_words, table_too_long, rule_refusals, compile_refusals, compile_fault}
 use Rattle.operations.specs.Compile.{compile_answer, compile_exit}
 use Rattle.operations.proofs.AcceptedLaws.{compile-accepted}
 
@@ -46,6 +47,18 @@ module _ (a e : List ℕ) (table_length n : ℕ) (t : n ≡ 0 + length (compiled
   pub table-within : n ≤ table_length → table_too_long a e table_length ≡ false
   unfolding table_too_long
   table-within l = le-ltb table_length (length (compiled_table a e)) (omega arith)
+
+-- a rule of which no number applies, for `grind`: 25, and then 7
+module _ (a e : List ℕ) (table_length f n : ℕ) (rule : f ≡ refusal (rule_refusals a e)) (z : f ≡ 0)
+    (t : n ≡ 0 + length (compiled_table a e)) where
+  pub refused_25 : table_most < n → 25 ≡ compile_fault a e table_length
+  refused_25 l =
+      found-refusal (compile_refusals a e table_length) (passes (rule_refusals a e) refl rule z (here (words-above a e n t l)))
+
+  pub refused_7 : n ≤ table_most → table_length < n → 7 ≡ compile_fault a e table_length
+  refused_7 l m =
+      found-refusal (compile_refusals a e table_length)
+      (passes (rule_refusals a e) refl rule z (next (words-within a e n t l) (here (table-over a e table_length n t m))))
 
 -- ---- the answer and the table slice at exit
 
