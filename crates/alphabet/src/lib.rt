@@ -123,6 +123,7 @@ pub fn has_holes(alphabet: &[u32]) -> bool
 }
 
 // Whether a product or a closure may name the symbol: a constant, and where the alphabet has a hole, a hole.
+#[tactic(auto, unfolding(words::specs::Alphabet::may_name))]
 pub fn may_name(alphabet: &[u32], symbol: usize) -> bool
     ensures { result ≡ may_name alphabet.now symbol }
 {
