@@ -1,17 +1,24 @@
 -- The check of a chapter in one pass: what is judged already, and what the rest decides.
 use mathlib.Core.Path.{◌≡◌, refl, ap, ◌∙◌, sym}
 use mathlib.Core.Bool.{Bool, true, false, not}
-use mathlib.Core.List.{List}
+use mathlib.Core.List.{List, [], ◌∷◌}
 use Prim.Native.Nat.{ℕ, ◌+◌, ◌-◌, ◌<◌, ◌≤◌}
 use native.Mathlib.Omega.{arith}
 use lib.ListN.{length, get_or, take, drop}
 use lib.Dec.{eqb}
 use borrow.Author.Tests.{eq-eqb, ne_eqb}
 use Rattle.words.specs.Lists.{all}
+use Rattle.words.specs.Word.{node_kind, kind_of, spare_bits_clear, is_of}
+use Rattle.words.specs.Decoded.{kind_in}
+use Rattle.words.specs.declared.word.Kind.{Kind as Case}
+use Rattle.words.specs.declared.word.Kind.TheVariants.{Node}
 use Rattle.words.specs.Postfix.{arity, trees, not_one_tree}
-use Rattle.words.specs.Chapter.{is_node, not_nodes, tree_refusals}
+use Rattle.words.specs.Alphabet.{has_holes}
+use Rattle.words.specs.Chapter.{is_node, not_nodes, tree_refusals, holes_in}
 use Rattle.words.proofs.ScanLaws.{drop-part, all-fails, all-continues, all_end, trees-lacks, trees-continues, trees-end}
 use Rattle.words.proofs.RefusalLaws.{Found, none, here, next}
+use Rattle.words.proofs.HoleLaws.{holes_in-without}
+use Rattle.words.proofs.DecodedLaws.{told-is_of, left-is_of}
 
 -- the words before word i are nodes and make `made` trees: the words from i on decide
 pub record ChapterJudged (a words : List ℕ) (made i : ℕ) : Type 0 where
@@ -71,3 +78,15 @@ module _ {a words : List ℕ} {made i : ℕ} (s : ChapterJudged a words made i) 
             nodes = s.nodes ∙ all-continues (is_node a) words i h node;
             shape = s.shape ∙ trees-continues (arity a) words made i 1 r h e l;
           }
+
+-- where the alphabet has no hole, no word's symbol is one, for `grind`
+pub without_holes : (a ch : List ℕ) → has_holes a ≡ false → false ≡ holes_in a ch
+without_holes a ch e = sym (holes_in-without a e ch)
+
+-- ---- of a word of the kind the spare bits decide whether it is an element, and no other word is one, for `grind`
+
+pub node_told : (w : ℕ) (k : Case) (s : Bool) → kind_in k ≡ kind_of w → k ≡ Node → s ≡ spare_bits_clear w → s ≡ is_of node_kind w
+node_told w k s kind is clear = clear ∙ sym (told-is_of w k kind Node is (omega arith))
+
+pub node_left : (w : ℕ) (k : Case) → kind_in k ≡ kind_of w → (k ≡ Node → ⊥) → false ≡ is_of node_kind w
+node_left w k kind other = sym (left-is_of w k kind (Node ∷ []) (other, tt) node_kind refl)

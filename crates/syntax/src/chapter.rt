@@ -8,6 +8,7 @@ use alphabet::{has_holes, is_hole, node_arity};
 use words::word::{Kind, SYMBOL_RANGE, kind_of, spare_bits_clear};
 
 // Whether a word is of the chapter's kind, its spare bits clear.
+#[tactic(auto, using(crate::proofs::ChapterLaws::node_told, crate::proofs::ChapterLaws::node_left))]
 pub fn is_element(w: u32) -> bool
     ensures { result ≡ is_of node_kind w }
 {
@@ -69,6 +70,7 @@ pub fn tree_fault(alphabet: &[u32], words: &[u32]) -> u32
 }
 
 // Whether some word's symbol is a hole. Where the alphabet has none, no word is looked at.
+#[tactic(auto, using(crate::proofs::ChapterLaws::without_holes))]
 pub fn holes_in(alphabet: &[u32], words: &[u32]) -> bool
     ensures { result ≡ holes_in alphabet.now words.now }
 {

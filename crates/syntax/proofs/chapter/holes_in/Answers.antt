@@ -3,11 +3,7 @@ use mathlib.Core.Path.{◌∙◌, sym}
 use borrow.Author.Rules.{rules}
 use Rattle.words.specs.Chapter.{holes_in}
 use Rattle.words.proofs.ScanLaws.{some-found, some-continues, some_end}
-use Rattle.words.proofs.HoleLaws.{holes_in-without}
 use Rattle.syntax.proofs.chapter.holes_in.Goals as goal
-
-pub returns-then-not-has_holes : goal.returns-then-not-has_holes
-returns-then-not-has_holes c = sym (holes_in-without _ (sym c.has_holes.ensures ∙ c.if-not-has_holes.true) _)
 
 pub returns-then-is_hole : goal.returns-then-is_hole
 unfolding holes_in

@@ -8,9 +8,6 @@ use Rattle.words.proofs.ScanLaws.{drop-part, drop-end}
 use native.Mathlib.Omega.{arith}
 use Rattle.syntax.proofs.height.words_height.Goals as goal
 
-pub returns-then-words-le-FEW : goal.returns-then-words-le-FEW
-returns-then-words-le-FEW c = c.few_height.ensures
-
 pub returns : goal.returns
 returns c =
     let q = c.args in
