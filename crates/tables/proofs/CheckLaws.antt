@@ -1,5 +1,5 @@
 -- What the check of a table tells of one word, by the tests of the code.
-use mathlib.Core.Path.{◌≡◌, ◌∙◌, sym}
+use mathlib.Core.Path.{◌≡◌, refl, ◌∙◌, sym}
 use mathlib.Core.Bool.{Bool, true, false, not, cond, ◌&&◌}
 use mathlib.Core.List.{List}
 use Prim.Native.Nat.{ℕ, zero, suc, ◌+◌, ◌<◌, ◌≤◌}
@@ -49,11 +49,21 @@ module _ (n w : ℕ) where
       length_word-value h r e =
           e ∙ sym (rw (is-of length_kind w kind clear, le-leb 2 (length_below w) some, le-leb (length_below w) table_most h))
 
--- the tests of the code up to a count that is too small, for `grind`
+-- the tests of the code up to a count that is too small, up to one that is too large, and up to the last test, for `grind`
 pub length_under : (n w : ℕ) (k : Case) (s : Bool) → kind_in k ≡ kind_of w → k ≡ Length → s ≡ spare_bits_clear w → s ≡ true
     → length_below w < 2 → false ≡ is_length n w
 length_under n w k s kind is clear e h =
     length_word-under n w (told-number _ _ kind Length is (omega arith)) (sym clear ∙ e) h
+
+pub length_over : (n w : ℕ) (k : Case) (s : Bool) → kind_in k ≡ kind_of w → k ≡ Length → s ≡ spare_bits_clear w → s ≡ true
+    → 2 ≤ length_below w → table_most < length_below w → false ≡ is_length n w
+length_over n w k s kind is clear e some h =
+    length_word-over n w (told-number _ _ kind Length is (omega arith)) (sym clear ∙ e) some h
+
+pub length_value : (n w : ℕ) (k : Case) (s : Bool) → kind_in k ≡ kind_of w → k ≡ Length → s ≡ spare_bits_clear w → s ≡ true
+    → 2 ≤ length_below w → length_below w ≤ table_most → leb (length_below w) n ≡ is_length n w
+length_value n w k s kind is clear e some h =
+    length_word-value n w (told-number _ _ kind Length is (omega arith)) (sym clear ∙ e) some h _ refl
 
 -- ---- a word behind the length word
 

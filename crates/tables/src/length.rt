@@ -6,7 +6,7 @@ use words::limits::TABLE_MOST;
 use words::word::{Kind, LENGTH_RANGE, kind_of, spare_bits_clear};
 
 // Whether the word is a length word with a count of 2 to 2,048 that a slice of this length holds.
-#[tactic(auto, using(crate::proofs::CheckLaws::length_under))]
+#[tactic(auto, using(crate::proofs::CheckLaws::length_under, crate::proofs::CheckLaws::length_over, crate::proofs::CheckLaws::length_value))]
 fn is_length(slice_length: usize, w: u32) -> bool
     ensures { result ≡ is_length slice_length w }
 {

@@ -5,21 +5,11 @@ use native.Mathlib.Omega.{arith}
 use Rattle.words.specs.Word.{length_kind}
 use Rattle.words.specs.declared.word.Kind.TheVariants.{Length}
 use Rattle.words.proofs.DecodedLaws.{told-number, left-number}
-use Rattle.tables.proofs.CheckLaws.{length_word-clear, length_word-other, length_word-over, length_word-value}
+use Rattle.tables.proofs.CheckLaws.{length_word-clear, length_word-other}
 use Rattle.tables.proofs.length.is_length.Goals as goal
 
 pub returns-then-not-spare_bits_clear : goal.returns-then-not-spare_bits_clear
 returns-then-not-spare_bits_clear c = length_word-clear _ _ (sym c.spare_bits_clear.ensures ∙ c.if-not-spare_bits_clear.true)
-
-pub returns-then-count-gt-TABLE_MOST : goal.returns-then-count-gt-TABLE_MOST
-returns-then-count-gt-TABLE_MOST c =
-    length_word-over _ _ (told-number _ _ c.kind_of-kind.ensures Length c.in-Length.is (omega arith))
-    (sym c.spare_bits_clear.ensures ∙ c.if-not-spare_bits_clear.false) (omega arith) c.if-count-gt-TABLE_MOST.true
-
-pub returns-else-count-gt-TABLE_MOST : goal.returns-else-count-gt-TABLE_MOST
-returns-else-count-gt-TABLE_MOST c =
-    length_word-value _ _ (told-number _ _ c.kind_of-kind.ensures Length c.in-Length.is (omega arith))
-    (sym c.spare_bits_clear.ensures ∙ c.if-not-spare_bits_clear.false) (omega arith) c.if-count-gt-TABLE_MOST.false _ refl
 
 pub returns-in_default : goal.returns-in_default
 returns-in_default c =
