@@ -29,6 +29,7 @@ fn push_every(constants: &[u32], out: &mut [u32], at: usize, exit: u32) -> usize
 }
 
 // Into the entries of a port.
+#[tactic(auto, using(crate::proofs::ConstantTransitionLaws::none_many, crate::proofs::ConstantTransitionLaws::none_set))]
 pub fn push_constants(constants: &[u32], port: u32, out: &mut [u32], at: usize) -> usize
     requires { ConstantsEmittable constants.now at }
     ensures { WordsWritten constants_most at
