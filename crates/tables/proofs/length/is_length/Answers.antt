@@ -1,10 +1,9 @@
 -- `tables::length::is_length` meets its contract: each way out is one test of the definition, in its order.
 use mathlib.Core.Path.{refl, sym, ◌∙◌}
 use mathlib.Core.List.{[], ◌∷◌}
-use native.Mathlib.Omega.{arith}
 use Rattle.words.specs.Word.{length_kind}
 use Rattle.words.specs.declared.word.Kind.TheVariants.{Length}
-use Rattle.words.proofs.DecodedLaws.{told-number, left-number}
+use Rattle.words.proofs.DecodedLaws.{left-number}
 use Rattle.tables.proofs.CheckLaws.{length_word-clear, length_word-other}
 use Rattle.tables.proofs.length.is_length.Goals as goal
 
