@@ -83,7 +83,7 @@ module _ {a words : List ℕ} {made i : ℕ} (s : ChapterJudged a words made i) 
 pub without_holes : (a ch : List ℕ) → has_holes a ≡ false → false ≡ holes_in a ch
 without_holes a ch e = sym (holes_in-without a e ch)
 
--- ---- of a word of the kind the spare bits decide whether it is an element, and no other word is one, for `grind`
+-- ---- of a word of the kind the spare bits decide whether it is an element (for `grind`), and no other word is one
 
 pub node_told : (w : ℕ) (k : Case) (s : Bool) → kind_in k ≡ kind_of w → k ≡ Node → s ≡ spare_bits_clear w → s ≡ is_of node_kind w
 node_told w k s kind is clear = clear ∙ sym (told-is_of w k kind Node is (omega arith))

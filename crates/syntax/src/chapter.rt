@@ -8,7 +8,7 @@ use alphabet::{has_holes, is_hole, node_arity};
 use words::word::{Kind, SYMBOL_RANGE, kind_of, spare_bits_clear};
 
 // Whether a word is of the chapter's kind, its spare bits clear.
-#[tactic(auto, using(crate::proofs::ChapterLaws::node_told, crate::proofs::ChapterLaws::node_left))]
+#[tactic(auto, using(crate::proofs::ChapterLaws::node_told))]
 pub fn is_element(w: u32) -> bool
     ensures { result ≡ is_of node_kind w }
 {
