@@ -13,7 +13,7 @@ use Rattle.automaton.proofs.TransitionLaws.{transitions_words-append}
 use Rattle.ports.specs.Ports.{every_entry, no_entry, exit_in, code_in, port_in, entry_state}
 use Rattle.ports.proofs.PortLaws.{entries-more, entries_in-every, entries_in-none, entries_in-own}
 use Rattle.emitter.specs.Writing.{WordsWritten}
-use Rattle.emitter.proofs.WritingLaws.{words-written-same, EachWritten, each-written-more}
+use Rattle.emitter.proofs.WritingLaws.{words-written-none, words-written-same, EachWritten, each-written-more}
 
 -- the words of the moves into the entries for the constants, where x is the word's exit
 abbrev every_words : ℕ → List ℕ → List ℕ
@@ -42,6 +42,11 @@ every-pushed-more {cs} {x} {k = k} w out'' r s e h l q = each-written-more w out
 -- ---- the entries that a port has, where x is its exit and t its code
 
 module _ (cs : List ℕ) (p t at : ℕ) (out : List ℕ) (d : t ≡ code_in p) where
+  pub port-none : t ≡ no_entry → WordsWritten constants_most at (transitions_words (constant_transitions (port_in cs p).entries)) out out at
+  port-none f =
+      rw (entries_in-none cs (exit_in p) (code_in p) (sym d ∙ f))
+      (words-written-same 0 constants_most at at [] [] out out (words-written-none at out) (omega arith) refl)
+
   module _ (out' : List ℕ) (r : ℕ) {x : ℕ} (e : x ≡ exit_in p) where
     pub port-every : t ≡ every_entry → WordsWritten constants_most at (every_words x cs) out out' r
         → WordsWritten constants_most at (transitions_words (constant_transitions (port_in cs p).entries)) out out' r
