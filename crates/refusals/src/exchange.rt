@@ -66,6 +66,7 @@ fn result_too_long(table: &[u32], count: usize, chapter_length: usize, marks_len
 // `high`. No tree is higher than it has words: with no more words than that, the replacement raises nothing; and the result of a low
 // chapter and a short replacement is low. Otherwise the heights of the words before the place, of the replacement and of the words
 // behind are read one after the other.
+#[tactic(auto, using(crate::proofs::JudgedLaws::low_result))]
 fn result_too_high(
     alphabet: &[u32],
     used: &[u32],
@@ -138,6 +139,7 @@ fn change_fault(
 }
 
 // The documents' number of the first refusal that applies, or 0; and where it is 0, where the element's subtree begins.
+#[tactic(auto, using(crate::proofs::CountRefusalLaws::used_length, crate::proofs::CountRefusalLaws::used_few))]
 pub fn exchange_fault(
     alphabet: &[u32],
     table: &[u32],

@@ -5,6 +5,7 @@ ghost use Rattle.operations.specs.Listing.{list_fault};
 use super::shared::{marks_too_short, table_fault, wrong_count};
 
 // Document 01's number of the refusal, the first that applies, or 0, for marks and list slices of these lengths.
+#[tactic(auto, unfolding(operations::specs::Listing::list_too_short))]
 pub fn list_fault(
     alphabet: &[u32],
     table: &[u32],

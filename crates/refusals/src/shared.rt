@@ -43,6 +43,7 @@ pub(crate) fn marks_too_short(table: &[u32], count: usize, marks_length: usize) 
 
 // Of a chapter's elements: 10, 11 or 24, the first that applies, or 0. Heights are worked out only where the words' shape does not
 // tell that the chapter is low enough.
+#[tactic(auto, using(crate::proofs::JudgedLaws::low_height, crate::proofs::JudgedLaws::high_height))]
 fn height_shape(alphabet: &[u32], nodes: &[u32]) -> Shape
     requires { length nodes.now ≤ nodes_most }
     ensures { JudgedShape (refusal (height_refusals alphabet.now nodes.now)) alphabet.now nodes.now result }

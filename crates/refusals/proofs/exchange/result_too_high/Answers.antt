@@ -2,14 +2,11 @@
 -- than the subtree, and else at most as much as it has words; where neither decides, the parts that are lent are those of the result.
 use mathlib.Core.Path.{sym}
 use lib.Seq.{length-take-le}
-use Rattle.refusals.proofs.JudgedLaws.{result-kept, result_low, start-inside, parts-few, result-judged}
+use Rattle.refusals.proofs.JudgedLaws.{result-kept, start-inside, parts-few, result-judged}
 use Rattle.refusals.proofs.exchange.result_too_high.Goals as goal
 
 pub returns-then-replacement-high : goal.returns-then-replacement-high
 returns-then-replacement-high c = result-kept c.requires c.if-replacement-high.true
-
-pub returns-then-bound-replacement-le-HEIGHT_MOST : goal.returns-then-bound-replacement-le-HEIGHT_MOST
-returns-then-bound-replacement-le-HEIGHT_MOST c = result_low c.requires c.if-bound-replacement-le-HEIGHT_MOST.true
 
 pub slice_bounds-joined_height-end : goal.slice_bounds-joined_height-end
 slice_bounds-joined_height-end c = sym (length-take-le _ _ (start-inside c.requires))
