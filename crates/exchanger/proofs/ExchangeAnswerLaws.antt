@@ -5,12 +5,15 @@ use mathlib.Core.Bool.{true, false}
 use mathlib.Core.List.{List}
 use Prim.Native.Nat.{ℕ}
 use native.Mathlib.Omega.{arith}
+use lib.ListN.{take}
 use borrow.Author.Tests.{ne_eqb}
 use Rattle.words.specs.Answer.{Answer, refused, accepted}
 use Rattle.words.specs.Refusal.{refusal}
 use Rattle.words.proofs.AnswerLaws.{answer-refused, answer-accepted, exit-refused, exit-accepted}
+use Rattle.automaton.specs.Table.{table_word_count, table_in}
+use Rattle.automaton.proofs.LengthWordLaws.{cut_in}
 use Rattle.operations.specs.Totals.{Totals, moved_totals, wrong_totals}
-use Rattle.operations.specs.ExchangeCall.{ExchangeCall}
+use Rattle.operations.specs.ExchangeCall.{ExchangeCall, exchange_call}
 use Rattle.operations.specs.Exchange.{words_refusals, words_fault, exchange_values, new_chapter, new_marks, old_totals, new_totals, fault}
 use Rattle.operations.specs.Exchange.{exchange_answer, exchange_chapter, exchange_marks, exchange_totals}
 use Rattle.operations.proofs.AcceptedLaws.{call-fault, words-first, totals-last}
@@ -52,3 +55,21 @@ module _ (c : ExchangeCall) where
           x ∙ answer-accepted refl _ none,
           (y ∙ exit-accepted refl _ c.chapter none, (z ∙ exit-accepted refl _ c.marks none, u ∙ sym (rw none))),
         )
+
+-- a call that its words refuse, by the table in its slice, for `grind`
+module _ (a slice ch ms : List ℕ) (n i : ℕ) (xs : List ℕ) (t : Totals) (k r : ℕ) (e : k ≡ table_word_count slice)
+    (q : r ≡ refusal (words_refusals (exchange_call a (take k slice) ch ms n i xs))) (h : r ≡ 0 → ⊥) where
+  refused-cut : Exits (exchange_call a (table_in slice) ch ms n i xs) t (refused r) ch ms t
+  refused-cut = rw (← cut_in slice e) (call-refused (exchange_call a (take k slice) ch ms n i xs) t r q h)
+
+  pub refused_answer : exchange_answer (exchange_call a (table_in slice) ch ms n i xs) t ≡ refused r
+  refused_answer = sym refused-cut.0
+
+  pub refused_chapter : exchange_chapter (exchange_call a (table_in slice) ch ms n i xs) t ≡ ch
+  refused_chapter = sym refused-cut.1.0
+
+  pub refused_marks : exchange_marks (exchange_call a (table_in slice) ch ms n i xs) t ≡ ms
+  refused_marks = sym refused-cut.1.1.0
+
+  pub refused_totals : exchange_totals (exchange_call a (table_in slice) ch ms n i xs) t ≡ t
+  refused_totals = sym refused-cut.1.1.1

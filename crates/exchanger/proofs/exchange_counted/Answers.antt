@@ -6,8 +6,7 @@ use lib.ListN.{take}
 use lib.Seq.{length-take-le}
 use Rattle.automaton.proofs.LengthWordLaws.{table_word_count-inside, cut_in}
 use Rattle.operations.specs.ExchangeCall.{exchange_call}
-use Rattle.totals.specs.TotalsIn.{totals_in}
-use Rattle.exchanger.proofs.ExchangeAnswerLaws.{call-refused, call_passes}
+use Rattle.exchanger.proofs.ExchangeAnswerLaws.{call_passes}
 use Rattle.exchanger.proofs.exchange_counted.Goals as goal
 
 pub slice_bounds-table-end : goal.slice_bounds-table-end
@@ -15,24 +14,14 @@ slice_bounds-table-end c =
     let inside = table_word_count-inside c.args.table_slice.now in
     sym (length-take-le _ _ (omega (arith, c.table_word_count-words.ensures)))
 
-pub returns-then-judged-ne0 : goal.returns-then-judged-ne0
-returns-then-judged-ne0 c =
-    let q =
-    exchange_call c.args.alphabet.now (take c.table_word_count-words.result c.args.table_slice.now) c.args.chapter.now
-    c.args.marks.now c.args.count c.args.element c.args.replacement.now in
-    let all =
-    call-refused q (totals_in c.args.before) _ c.exchange_fault-judged.ensures.fault c.if-judged-ne0.true in
-    rw (← cut_in _ c.table_word_count-words.ensures)
-    (record { answer = all.0; chapter = all.1.0; marks = all.1.1.0; totals = all.1.1.1 })
-
 pub replace_counted-requires : goal.replace_counted-requires
 replace_counted-requires c =
     let q =
     exchange_call c.args.alphabet.now (take c.table_word_count-words.result c.args.table_slice.now) c.args.chapter.now
     c.args.marks.now c.args.count c.args.element c.args.replacement.now in
     record {
-      passes = call_passes q _ c.exchange_fault-judged.ensures.fault c.if-judged-ne0.false;
-      begins = c.exchange_fault-judged.ensures.begins c.if-judged-ne0.false;
+      passes = call_passes q _ c.exchange_fault-judged.ensures.fault (omega arith);
+      begins = c.exchange_fault-judged.ensures.begins (omega arith);
     }
 
 pub returns-clause-answer : goal.returns-clause-answer
