@@ -60,6 +60,8 @@ module _ (a e : List ℕ) (table_length f n : ℕ) (rule : f ≡ refusal (rule_r
       found-refusal (compile_refusals a e table_length)
       (passes (rule_refusals a e) refl rule z (next (words-within a e n t l) (here (table-over a e table_length n t m))))
 
+pub ruleset refused_size = (refused_25, refused_7)
+
 -- ---- the answer and the table slice at exit
 
 module _ (a e slice : List ℕ) (f : ℕ) (h : f ≡ compile_fault a e (length slice)) where

@@ -44,7 +44,7 @@ fn rule_fault(alphabet: &[u32], expression: &[u32]) -> u32
 
 // The documents' number of the first refusal that applies, or 0, for a table slice of this length. The table's words are counted by
 // writing them into a slice of one word; those past its end are left out.
-#[tactic(auto, using(crate::proofs::FaultLaws::refused_25, crate::proofs::FaultLaws::refused_7))]
+#[tactic(auto, using(crate::proofs::FaultLaws::refused_size))]
 fn compile_fault(alphabet: &[u32], expression: &[u32], table_length: usize) -> u32
     ensures { result ≡ compile_fault alphabet.now expression.now table_length }
 {

@@ -73,3 +73,5 @@ module _ (a slice ch ms : List ℕ) (n i : ℕ) (xs : List ℕ) (t : Totals) (k 
 
   pub refused_totals : exchange_totals (exchange_call a (table_in slice) ch ms n i xs) t ≡ t
   refused_totals = sym refused-cut.1.1.1
+
+pub ruleset refused_call = (refused_answer, refused_chapter, refused_marks, refused_totals)

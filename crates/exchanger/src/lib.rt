@@ -33,7 +33,7 @@ pub struct ExchangeCounted {
 
 // Document 01's Exchange with the record by value, by the table in its slice: the new element count and the number worked out, or a
 // refusal. What follows the table is not read.
-#[tactic(auto, using(crate::proofs::ExchangeAnswerLaws::refused_answer, crate::proofs::ExchangeAnswerLaws::refused_chapter, crate::proofs::ExchangeAnswerLaws::refused_marks, crate::proofs::ExchangeAnswerLaws::refused_totals))]
+#[tactic(auto, using(crate::proofs::ExchangeAnswerLaws::refused_call))]
 pub fn exchange_counted(
     alphabet: &[u32],
     table_slice: &[u32],
