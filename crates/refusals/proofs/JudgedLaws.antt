@@ -2,7 +2,7 @@
 use mathlib.Core.Path.{◌≡◌, refl, ap, ap₂, ◌∙◌, sym}
 use mathlib.Core.Bool.{Bool, true, false}
 use mathlib.Core.List.{List, [], ◌∷◌, ◌++◌}
-use Prim.Native.Nat.{ℕ, ◌+◌, ◌-◌, ◌<◌, ◌≤◌}
+use Prim.Native.Nat.{ℕ, zero, suc, ◌+◌, ◌-◌, ◌<◌, ◌≤◌}
 use native.Mathlib.Omega.{arith}
 use lib.ListN.{length, take, drop}
 use lib.Seq.{length-take-le}
@@ -12,13 +12,14 @@ use Rattle.words.specs.Limits.{nodes_most, height_most}
 use Rattle.words.specs.Refusal.{refusal}
 use Rattle.words.specs.Shape.{splice_by}
 use Rattle.words.specs.Postfix.{arity, height_of, splice}
-use Rattle.words.specs.Chapter.{tree_fault, too_high, holes_in}
+use Rattle.words.specs.Chapter.{tree_refusals, tree_fault, too_high, holes_in}
 use Rattle.words.proofs.RefusalLaws.{Found, none, here, next, found-refusal, refuses, passes}
 use Rattle.words.proofs.AcceptedTree.{tree-accepted}
 use Rattle.words.proofs.PostfixLaws.{start-le, length-splice}
 use Rattle.words.proofs.ScanLaws.{drop-part}
 use Rattle.words.proofs.HeightLaws.{height-few, splice-height-most, splice-height-kept}
 use Rattle.bounds.specs.declared.shape.Shape.{Shape}
+use Rattle.bounds.specs.TreeShape.{ShapeOf}
 use Rattle.operations.specs.Run.{marks_too_short, height_refusals, element_refusals, marked_refusals}
 use Rattle.refusals.specs.declared.exchange.JudgedCall.{JudgedCall}
 use Rattle.refusals.specs.Judged.{JudgedShape, JudgedChange, Spliceable}
@@ -26,7 +27,7 @@ use Rattle.refusals.specs.Judged.{JudgedShape, JudgedChange, Spliceable}
 abbrev made : ℕ → ℕ → Bool → Shape
 made f b h = record { fault = f; bound = b; holes = h }
 
--- ---- 24
+-- ---- 10, 11 and 24
 
 -- what a test on a height decides
 pub low_height : (a ch : List ℕ) → height_of a ch ≤ height_most → too_high a ch ≡ false
@@ -37,7 +38,50 @@ pub high_height : (a ch : List ℕ) → height_most < height_of a ch → too_hig
 unfolding too_high
 high_height a ch h = lt-ltb height_most (height_of a ch) h
 
--- ---- 26 behind 10, 11 and 24
+module _ {a ch : List ℕ} {s : Shape} (g : ShapeOf a ch s) where
+  pub shape-refused : (s.fault ≡ 0 → ⊥) → JudgedShape (refusal (height_refusals a ch)) a ch s
+  shape-refused h = record {
+    fault = found-refusal (height_refusals a ch) (refuses (tree_refusals a ch) ((24, too_high a ch) ∷ []) g.fault h);
+    low = λ e. absurd (h e);
+    most = λ e. absurd (h e);
+    holes = g.holes;
+  }
+
+  module _ (e : s.fault ≡ 0) where
+    judged : {f : ℕ} → Found ((24, too_high a ch) ∷ []) f → f ≡ refusal (height_refusals a ch)
+    judged r = found-refusal (height_refusals a ch) (passes (tree_refusals a ch) refl g.fault e r)
+
+    -- the bound tells that the chapter is low
+    pub shape-low : s.bound ≤ height_most → JudgedShape (refusal (height_refusals a ch)) a ch s
+    unfolding too_high
+    shape-low h = record {
+      fault = e ∙ judged (next (le-ltb height_most (height_of a ch) (omega (arith, g.low e))) none);
+      low = g.low;
+      most = λ z. h;
+      holes = g.holes;
+    }
+
+    -- or the height does
+    module _ {high : ℕ} (k : high ≡ height_of a ch) where
+      pub height-refused : height_most < high → JudgedShape (refusal (height_refusals a ch)) a ch (made 24 high s.holes)
+      unfolding too_high
+      height-refused h = record {
+        fault = judged (here (lt-ltb height_most (height_of a ch) (omega (arith, k))));
+        low = λ z. omega (arith, k);
+        most = λ z. absurd (omega arith);
+        holes = g.holes;
+      }
+
+      pub height-low : high ≤ height_most → JudgedShape (refusal (height_refusals a ch)) a ch (made 0 high s.holes)
+      unfolding too_high
+      height-low h = record {
+        fault = judged (next (le-ltb height_most (height_of a ch) (omega (arith, k))) none);
+        low = λ z. omega (arith, k);
+        most = λ z. h;
+        holes = g.holes;
+      }
+
+-- ---- 26 behind them
 
 module _ {a ch : List ℕ} {s : Shape} (g : JudgedShape (refusal (height_refusals a ch)) a ch s) where
   pub height-refuses : (s.fault ≡ 0 → ⊥) → JudgedShape (refusal (element_refusals a ch)) a ch s
@@ -103,6 +147,10 @@ module _ {a ch : List ℕ} {s : Shape} (g : JudgedShape (refusal (element_refusa
 
 -- ---- a refused change
 
+pub above : (n : ℕ) → (n ≡ 0 → ⊥) → 0 < n
+above zero h = absurd (h refl)
+above (suc n) h = omega arith
+
 pub change-refused : {number : ℕ} {a used : List ℕ} {i n : ℕ} {j : JudgedCall} → j ≡ record { fault = n; start = 0 } → 0 < n → n ≡ number
     → JudgedChange number a used i j
 change-refused {n = n} {j = j} e h k =
@@ -121,6 +169,16 @@ module _ {a used : List ℕ} {bound start high i : ℕ} {xs : List ℕ} (g : Spl
       let few = height-few (arity a) xs in
       let kept = splice-height-kept (arity a) used i xs old.shape g.inside new.shape (omega (arith, g.high_is)) in
       sym (le-ltb height_most (height_of a (splice a used i xs)) (omega (arith, kept, g.chapter.low, g.chapter.most)))
+
+  -- a low chapter and a short replacement
+  pub result_low : bound + length xs ≤ height_most → false ≡ too_high a (splice a used i xs)
+  unfolding too_high
+  result_low h =
+      let old = tree-accepted a used g.chapter.tree in
+      let new = tree-accepted a xs g.replacement in
+      let most = splice-height-most (arity a) used i xs old.shape g.inside new.shape in
+      let few = height-few (arity a) xs in
+      sym (le-ltb height_most (height_of a (splice a used i xs)) (omega (arith, g.chapter.low)))
 
   pub start-inside : start ≤ length used
   start-inside = omega (arith, g.inside, g.begins, start-le (arity a) used i)
