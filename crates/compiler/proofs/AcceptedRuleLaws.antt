@@ -36,6 +36,11 @@ pub states-few : (e : List ℕ) (n x : ℕ) → length e ≤ expression_most →
     → x ≤ word_states_most * expression_most
 states-few e n x few h = omega (arith, length-take-most e n)
 
+-- the same of a rule's words, for `grind`
+pub first_states : (a e : List ℕ) (n x : ℕ) → refusal (rule_refusals a e) ≡ 0 → x ≤ word_states_most * length (take n e)
+    → x ≤ word_states_most * expression_most
+first_states a e n x accepted h = states-few e n x (rule-expression a e accepted).counted.few h
+
 -- the constants of an accepted alphabet in a list of as many words as there can be constants: none is left out
 module _ (a l l' : List ℕ) (r : ℕ) (accepted : AcceptedAlphabet a) (long : length l ≡ constants_most)
     (count : r ≡ length (constants_of (take alphabet_most a))) (stored : l' ≡ sets l 0 (constants_of (take alphabet_most a))) where

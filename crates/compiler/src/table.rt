@@ -58,6 +58,7 @@ fn write_words(
 
 // The head, with the last word's exit as final state, the moves of the constants into its entries, the own transitions, and then
 // in front of the moves the length word, which counts all words of the table.
+#[tactic(auto, using(crate::proofs::AcceptedRuleLaws::first_states))]
 fn write_parts(alphabet: &[u32], constants: &[u32], expression: &[u32], out: &mut [u32]) -> usize
     requires { Compilable alphabet.now constants.now expression.now 0 }
     ensures { WordsWritten compiled_words_most 0 (compiled_table alphabet.now expression.now)

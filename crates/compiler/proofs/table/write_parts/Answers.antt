@@ -42,14 +42,6 @@ states_of-requires c =
     let p = c.requires in
     states-countable _ _ (rule-alphabet _ _ p.accepted) (ap length p.constants)
 
-pub overflow_add-states : goal.overflow_add-states
-overflow_add-states c =
-    let x =
-    states-few c.args.expression.now (length c.args.expression.now - 1) _ (rule-expression _ _ c.requires.accepted).counted.few
-    c.states_after-exit.ensures.1 in
-    let s = c.states_of.ensures.1 in
-    omega arith
-
 pub word_port-port-requires : goal.word_port-port-requires
 word_port-port-requires c =
     let e = rule-expression _ _ c.requires.accepted in
@@ -61,30 +53,6 @@ word_port-port-requires c =
       word = word-last _ c.args.expression.now e.counted.some e.words;
       low = omega arith;
     }
-
-pub overflow_mul-states : goal.overflow_mul-states
-overflow_mul-states c =
-    let x =
-    states-few c.args.expression.now (length c.args.expression.now - 1) _ (rule-expression _ _ c.requires.accepted).counted.few
-    c.states_after-exit.ensures.1 in
-    let s = c.states_of.ensures.1 in
-    omega arith
-
-pub overflow_add-states-2 : goal.overflow_add-states-2
-overflow_add-states-2 c =
-    let x =
-    states-few c.args.expression.now (length c.args.expression.now - 1) _ (rule-expression _ _ c.requires.accepted).counted.few
-    c.states_after-exit.ensures.1 in
-    let s = c.states_of.ensures.1 in
-    omega arith
-
-pub overflow_add-states-3 : goal.overflow_add-states-3
-overflow_add-states-3 c =
-    let x =
-    states-few c.args.expression.now (length c.args.expression.now - 1) _ (rule-expression _ _ c.requires.accepted).counted.few
-    c.states_after-exit.ensures.1 in
-    let s = c.states_of.ensures.1 in
-    omega arith
 
 pub push_constants-next-requires : goal.push_constants-next-requires
 push_constants-next-requires c =
@@ -102,18 +70,6 @@ write_words-size-requires c =
     c.requires in
     let n = words-written-next _ _ _ _ _ _ c.push_constants-next.ensures in
     record { accepted = p.accepted; constants = p.constants; fits = omega arith }
-
-pub overflow_cast-size : goal.overflow_cast-size
-overflow_cast-size c =
-    let m = words-written-next _ _ _ _ _ _ c.write_words-size.ensures in
-    let n = words-written-next _ _ _ _ _ _ c.push_constants-next.ensures in
-    omega arith
-
-pub overflow_add-size : goal.overflow_add-size
-overflow_add-size c =
-    let m = words-written-next _ _ _ _ _ _ c.write_words-size.ensures in
-    let n = words-written-next _ _ _ _ _ _ c.push_constants-next.ensures in
-    omega arith
 
 pub returns : goal.returns
 returns c =
