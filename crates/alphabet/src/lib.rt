@@ -3,6 +3,7 @@
 
 ghost use Rattle.std.specs.Prelude.{◌≡◌, cond, ◌≤◌, length, take, get_or};
 ghost use Rattle.std.proofs.lemmas.List.Edits.{sets};
+ghost use Rattle.words.specs.Decoded.{fault_in};
 ghost use Rattle.words.specs.Lists.{all};
 ghost use Rattle.words.specs.Word.{node_kind, symbol_range, kind_of, low_byte};
 ghost use Rattle.words.specs.Limits.{alphabet_most, rank_most};
@@ -12,6 +13,7 @@ ghost use Rattle.words.specs.Postfix.{arity};
 ghost use Rattle.alphabet.specs.Ranks.{RanksWritten};
 
 use words::limits::{ALPHABET_MOST, CONSTANTS_MOST, RANK_MOST, is_outside};
+use words::refusal::Refusal;
 use words::word::{HOLE_RANGE, Kind, SYMBOL_RANGE, kind_of, spare_bits_clear};
 
 // How many symbols a word can name.
@@ -115,11 +117,7 @@ pub fn is_hole(alphabet: &[u32], symbol: usize) -> bool
 pub fn has_holes(alphabet: &[u32]) -> bool
     ensures { result ≡ has_holes alphabet.now }
 {
-    let mut i = 0;
-    while i < alphabet.len() && !marks_hole(alphabet[i]) {
-        i += 1;
-    }
-    i < alphabet.len()
+    alphabet.iter().any(|&w| marks_hole(w))
 }
 
 // Whether a product or a closure may name the symbol: a constant, and where the alphabet has a hole, a hole.
@@ -161,14 +159,7 @@ fn is_entry(w: u32) -> bool
 fn entries_only(alphabet: &[u32]) -> bool
     ensures { result ≡ all is_entry alphabet.now }
 {
-    let mut i = 0;
-    while i < alphabet.len() {
-        if !is_entry(alphabet[i]) {
-            return false;
-        }
-        i += 1;
-    }
-    true
+    alphabet.iter().all(|&w| is_entry(w))
 }
 
 // Whether the words are no alphabet: none, too many, or one that is no entry.
@@ -183,12 +174,10 @@ pub fn count_constants(alphabet: &[u32]) -> usize
     ensures { result ≡ length (constants_of alphabet.now) }
 {
     let mut count: usize = 0;
-    let mut i = 0;
-    while i < alphabet.len() {
-        if is_constant(alphabet, i) {
+    for symbol in 0..alphabet.len() {
+        if is_constant(alphabet, symbol) {
             count += 1;
         }
-        i += 1;
     }
     count
 }
@@ -200,28 +189,27 @@ pub fn write_constants(alphabet: &[u32], list: &mut [u32]) -> usize
     ensures list { list.new ≡ sets list.old 0 (constants_of (take alphabet_most alphabet.now)) }
 {
     let mut n: usize = 0;
-    let mut i = 0;
-    while i < ALPHABET_MOST {
-        if is_constant(alphabet, i) {
+    for symbol in 0..ALPHABET_MOST {
+        if is_constant(alphabet, symbol) {
             if n < list.len() {
-                list[n] = i as u32;
+                list[n] = symbol as u32;
             }
             n += 1;
         }
-        i += 1;
     }
     n
 }
 
-// Document 01's number 1 or 2, the first that applies, or 0.
-pub fn alphabet_fault(alphabet: &[u32]) -> u32
-    ensures { result ≡ alphabet_fault alphabet.now }
+// Document 01's 1 or 2, the first that applies.
+#[tactic(auto, unfolding(words::specs::Alphabet::wrong_constants))]
+pub fn alphabet_fault(alphabet: &[u32]) -> Result<(), Refusal>
+    ensures { fault_in result ≡ alphabet_fault alphabet.now }
 {
     if no_alphabet(alphabet) {
-        return 1;
+        return Err(Refusal::NoAlphabet);
     }
     if is_outside(CONSTANTS_MOST, count_constants(alphabet)) {
-        return 2;
+        return Err(Refusal::WrongConstants);
     }
-    0
+    Ok(())
 }

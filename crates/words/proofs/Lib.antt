@@ -1,4 +1,5 @@
 pub mod AllLaws
+pub mod ChainLaws
 pub mod AlphabetLaws
 pub mod Ascending
 pub mod AcceptedAlphabet

@@ -1,22 +1,17 @@
--- `alphabet::entries_only` meets its contract: before each turn the test of all words is that of the words from `i` on.
-use mathlib.Core.Path.{◌∙◌, sym}
+-- `alphabet::entries_only` meets its contract: the chain answers whether every word is an entry.
+use mathlib.Core.Path.{◌≡◌}
+use mathlib.Core.Bool.{true, false}
 use borrow.Author.Rules.{rules}
+use borrow.Author.Tests.{tests}
+use Rattle.std.proofs.lemmas.Iterator.{cases_from_all, YieldsList-from_slice}
 use Rattle.words.specs.Alphabet.{is_entry}
-use Rattle.words.proofs.ScanLaws.{all-fails, all-continues, all_end}
+use Rattle.words.proofs.ChainLaws.{all-told}
 use Rattle.alphabet.proofs.entries_only.Goals as goal
 
-pub returns-then-not-is_entry : goal.returns-then-not-is_entry
-returns-then-not-is_entry c =
-    sym
-    (c.loop-i.invariant.1
-    ∙ all-fails is_entry _ _ c.loop-i-test.true (sym c.is_entry.ensures ∙ c.if-not-is_entry.true))
-
-pub loop-i-preserved : goal.loop-i-preserved
-loop-i-preserved c = (
-  search rules,
-  c.loop-i.invariant.1
-      ∙ all-continues is_entry _ _ c.loop-i-test.true (sym c.is_entry.ensures ∙ c.if-not-is_entry.false),
-)
-
 pub returns : goal.returns
-returns c = sym (c.loop-i.invariant.1 ∙ all_end is_entry _ _ c.loop-i-test.false)
+
+returns c =
+    all-told is_entry c.args.alphabet.now c.all.result
+    (cases_from_all _ _ _ (λ w. is_entry w ≡ true) (λ w. is_entry w ≡ false) c.all.ensures.ran
+        (YieldsList-from_slice c.args.alphabet.now cc)
+        (λ x q k. search (rules, tests)) (λ x q k. search (rules, tests)))

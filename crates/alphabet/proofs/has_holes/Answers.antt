@@ -1,15 +1,17 @@
--- `alphabet::has_holes` meets its contract: before each turn the words from `i` on have a mark exactly if the words have one; the loop
--- ends at the first mark, or behind the last word.
-use mathlib.Core.Path.{◌∙◌}
-use native.Mathlib.Omega.{arith}
+-- `alphabet::has_holes` meets its contract: the chain answers whether some word has a mark.
+use mathlib.Core.Path.{◌≡◌}
+use mathlib.Core.Bool.{true, false}
 use borrow.Author.Rules.{rules}
-use Rattle.words.specs.Alphabet.{marks_hole}
-use Rattle.words.proofs.ScanLaws.{some-continues}
-use Rattle.alphabet.proofs.HoleScanLaws.{scanned_holes}
+use borrow.Author.Tests.{tests}
+use Rattle.std.proofs.lemmas.Iterator.{cases_from_any, YieldsList-from_slice}
+use Rattle.words.specs.Alphabet.{marks_hole, has_holes}
+use Rattle.words.proofs.ChainLaws.{some-told}
 use Rattle.alphabet.proofs.has_holes.Goals as goal
 
-pub loop-i-preserved : goal.loop-i-preserved
-loop-i-preserved c = (search rules, c.loop-i.invariant.1 ∙ some-continues marks_hole _ _ c.loop-i-test.true (cc))
-
 pub returns : goal.returns
-returns c = scanned_holes _ _ c.loop-i.invariant (grind arith)
+unfolding has_holes
+returns c =
+    some-told marks_hole c.args.alphabet.now c.any.result
+    (cases_from_any _ _ _ (λ w. marks_hole w ≡ true) (λ w. marks_hole w ≡ false) c.any.ensures.ran
+        (YieldsList-from_slice c.args.alphabet.now cc)
+        (λ x q k. search (rules, tests)) (λ x q k. search (rules, tests)))

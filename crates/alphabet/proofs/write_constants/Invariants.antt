@@ -8,5 +8,3 @@ use Rattle.alphabet.proofs.write_constants.Given as goal
 abbrev pub invariant-loop-i : goal.invariant-loop-i
 invariant-loop-i l = Written l.alphabet l.initial.list l.list l.n l.i
 
-abbrev pub decreases-loop-i : goal.decreases-loop-i
-decreases-loop-i l = alphabet_most - l.i
