@@ -5,7 +5,7 @@ use Prim.Native.Nat.{ℕ, ◌+◌, ◌-◌, ◌<◌, ◌≤◌}
 use native.Mathlib.Omega.{arith}
 use native.Mathlib.Nat.{zero-add}
 use native.Mathlib.Numerals.{add-one}
-use lib.ListN.{length, get_or, take, drop, set, replicate, length-set, get_or-replicate, take-append-drop}
+use lib.ListN.{length, get_or, take, drop, set, length-set, take-append-drop}
 use lib.Seq.{paste, paste-zero, paste-suc, get_or-drop, drop-drop, drop-paste, take-length}
 use Rattle.words.specs.Lists.{written_over}
 
@@ -46,11 +46,6 @@ copied_behind s₀ at ws n s k i g l fits enough =
     ∙ ap (λ (t : List ℕ). get_or t (i - (at + k)) 0) (drop-paste s₀ at ws k fits (omega arith))
     ∙ get_or-drop (at + k) s₀ (i - (at + k)) 0 ∙ ap (λ (j : ℕ). get_or s₀ j 0) q
 
--- ---- the values that are copied
-
-pub zero-at : (n k : ℕ) → k < n → ◌≡◌ {A = ℕ} 0 (get_or (replicate n 0) k 0)
-zero-at n k h = sym (get_or-replicate n k 0 0 h)
-
 -- ---- all words copied to the front
 
 pub paste-front : (s₀ ws : List ℕ) → paste s₀ 0 ws (length ws) ≡ written_over ws s₀
@@ -65,3 +60,6 @@ paste-same l from at n e =
     ∙ ap (λ (t : List ℕ). take at l ++ (take n (drop at l) ++ t)) (sym (drop-drop n at l))
     ∙ ap (λ (t : List ℕ). take at l ++ t) (take-append-drop n (drop at l))
     ∙ take-append-drop at l)
+
+-- for `move_words`, by a name that its source can write
+pub ruleset same_place = (paste-same)

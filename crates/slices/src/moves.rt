@@ -4,15 +4,14 @@ ghost use Rattle.std.specs.Prelude.{◌≡◌, ◌+◌, ◌-◌, ◌≤◌, leng
 ghost use Rattle.std.proofs.Math.Seq.{paste};
 ghost use Rattle.slices.specs.Movable.{Movable};
 
-// The last word first, so that none is written before it is read.
+// The last word first, so that none is written before it is read. One function for both directions would take the order as a
+// parameter, and its proof would split by it again.
 fn move_up(words: &mut [u32], from: usize, to: usize, count: usize)
     requires movable { Movable words.old from to count }
     requires from_le_to { from ≤ to }
     ensures { words.new ≡ paste words.old to (drop from words.old) count }
 {
-    let mut k = count;
-    while 0 < k {
-        k -= 1;
+    for k in (0..count).rev() {
         words[to + k] = words[from + k];
     }
 }
@@ -23,14 +22,13 @@ fn move_down(words: &mut [u32], from: usize, to: usize, count: usize)
     requires to_le_from { to ≤ from }
     ensures { words.new ≡ paste words.old to (drop from words.old) count }
 {
-    let mut k = 0;
-    while k < count {
+    for k in 0..count {
         words[to + k] = words[from + k];
-        k += 1;
     }
 }
 
 // Moves words within the slice; both places may overlap, and where they are the same there is nothing to do.
+#[tactic(auto, using(crate::proofs::CopyLaws::same_place))]
 pub fn move_words(words: &mut [u32], from: usize, to: usize, count: usize)
     requires { Movable words.old from to count }
     ensures { words.new ≡ paste words.old to (drop from words.old) count }
@@ -50,11 +48,7 @@ pub fn copy_words(words: &mut [u32], at: usize, source: &[u32])
     requires { at + length source.now ≤ length words.old }
     ensures { words.new ≡ paste words.old at source.now (length source.now) }
 {
-    let mut k = 0;
-    while k < source.len() {
-        words[at + k] = source[k];
-        k += 1;
-    }
+    words[at..at + source.len()].copy_from_slice(source);
 }
 
 // Makes the words from index `from` up to `to` zero; none where `to` is not above `from`.
@@ -62,9 +56,8 @@ pub fn clear_words(words: &mut [u32], from: usize, to: usize)
     requires { to ≤ length words.old }
     ensures { words.new ≡ paste words.old from (replicate (to - from) 0) (to - from) }
 {
-    let mut k = from;
-    while k < to {
-        words[k] = 0;
-        k += 1;
+    if to <= from {
+        return;
     }
+    words[from..to].fill(0);
 }

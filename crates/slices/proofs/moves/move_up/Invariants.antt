@@ -4,6 +4,3 @@ use Rattle.slices.proofs.moves.move_up.Given as goal
 
 abbrev pub invariant-loop-k : goal.invariant-loop-k
 invariant-loop-k l = MovedUp l.initial.words l.from l.to l.count l.words l.k
-
-abbrev pub decreases-loop-k : goal.decreases-loop-k
-decreases-loop-k l = l.k
