@@ -1,10 +1,12 @@
 // The words of a chapter, refusals 10 and 11, and whether a hole is among them.
 ghost use Rattle.std.specs.Prelude.{◌≡◌};
+ghost use Rattle.words.specs.Decoded.{fault_in};
 ghost use Rattle.words.specs.Lists.{all};
 ghost use Rattle.words.specs.Word.{node_kind, is_of};
 ghost use Rattle.words.specs.Chapter.{is_node, tree_fault, holes_in};
 
 use alphabet::{has_holes, is_hole, node_arity};
+use words::refusal::Refusal;
 use words::word::{Kind, SYMBOL_RANGE, kind_of, spare_bits_clear};
 
 // Whether a word is of the chapter's kind, its spare bits clear.
@@ -31,42 +33,32 @@ fn is_node(alphabet: &[u32], w: u32) -> bool
 fn nodes_only(alphabet: &[u32], words: &[u32]) -> bool
     ensures { result ≡ all (is_node alphabet.now) words.now }
 {
-    let mut i = 0;
-    while i < words.len() {
-        if !is_node(alphabet, words[i]) {
-            return false;
-        }
-        i += 1;
-    }
-    true
+    words.iter().all(|&w| is_node(alphabet, w))
 }
 
-// Document 01's number 10 or 11, the first that applies, or 0. The words before word i are nodes and make `made` trees. Where
-// word i lacks children, the words from it on are judged for 10 before 11.
-pub fn tree_fault(alphabet: &[u32], words: &[u32]) -> u32
-    ensures { result ≡ tree_fault alphabet.now words.now }
+// Document 01's 10 or 11, the first that applies. The words before word i are nodes and make `made` trees. Where word i lacks
+// children, the words from it on are judged for 10 before 11.
+pub fn tree_fault(alphabet: &[u32], words: &[u32]) -> Result<(), Refusal>
+    ensures { fault_in result ≡ tree_fault alphabet.now words.now }
 {
     let mut made: usize = 0;
-    let mut i = 0;
-    while i < words.len() {
-        let w = words[i];
+    for (i, &w) in words.iter().enumerate() {
         if !is_node(alphabet, w) {
-            return 10;
+            return Err(Refusal::NotNodes);
         }
         let children = node_arity(alphabet, w);
         if made < children {
             if !nodes_only(alphabet, &words[i..]) {
-                return 10;
+                return Err(Refusal::NotNodes);
             }
-            return 11;
+            return Err(Refusal::NotOneTree);
         }
         made = made - children + 1;
-        i += 1;
     }
     if made == 1 {
-        return 0;
+        return Ok(());
     }
-    11
+    Err(Refusal::NotOneTree)
 }
 
 // Whether some word's symbol is a hole. Where the alphabet has none, no word is looked at.
@@ -77,12 +69,7 @@ pub fn holes_in(alphabet: &[u32], words: &[u32]) -> bool
     if !has_holes(alphabet) {
         return false;
     }
-    let mut place = 0;
-    while place < words.len() {
-        if is_hole(alphabet, (words[place] % SYMBOL_RANGE) as usize) {
-            return true;
-        }
-        place += 1;
-    }
-    false
+    words
+        .iter()
+        .any(|&w| is_hole(alphabet, (w % SYMBOL_RANGE) as usize))
 }

@@ -1,11 +1,13 @@
 // The words of a rule, and refusals 3, 4 and 5.
 ghost use Rattle.std.specs.Prelude.{◌≡◌};
+ghost use Rattle.words.specs.Decoded.{fault_in};
 ghost use Rattle.words.specs.Lists.{all};
 ghost use Rattle.words.specs.ExpressionWords.{is_expression_word, expression_fault};
 
 use super::postfix::one_tree;
 use alphabet::may_name;
 use words::limits::{EXPRESSION_MOST, is_outside};
+use words::refusal::Refusal;
 use words::word::{Kind, SYMBOL_RANGE, kind_of, spare_bits_clear};
 
 // Whether a word is a rule word with a known symbol, or a constant that may be named, where it names one.
@@ -32,28 +34,22 @@ fn is_expression_word(alphabet: &[u32], w: u32) -> bool
 fn expression_words_only(alphabet: &[u32], expression: &[u32]) -> bool
     ensures { result ≡ all (is_expression_word alphabet.now) expression.now }
 {
-    let mut i = 0;
-    while i < expression.len() {
-        if !is_expression_word(alphabet, expression[i]) {
-            return false;
-        }
-        i += 1;
-    }
-    true
+    expression.iter().all(|&w| is_expression_word(alphabet, w))
 }
 
-// Document 01's number 3, 4 or 5, the first that applies, or 0. Every word is judged for 4 before 5.
-pub fn expression_fault(alphabet: &[u32], expression: &[u32]) -> u32
-    ensures { result ≡ expression_fault alphabet.now expression.now }
+// Document 01's 3, 4 or 5, the first that applies. Every word is judged for 4 before 5.
+#[tactic(auto, unfolding(words::specs::ExpressionWords::wrong_length, words::specs::ExpressionWords::not_expression_words, words::specs::Postfix::not_one_tree))]
+pub fn expression_fault(alphabet: &[u32], expression: &[u32]) -> Result<(), Refusal>
+    ensures { fault_in result ≡ expression_fault alphabet.now expression.now }
 {
     if is_outside(EXPRESSION_MOST, expression.len()) {
-        return 3;
+        return Err(Refusal::WrongLength);
     }
     if !expression_words_only(alphabet, expression) {
-        return 4;
+        return Err(Refusal::NotExpressionWords);
     }
     if !one_tree(alphabet, expression) {
-        return 5;
+        return Err(Refusal::NotOneExpression);
     }
-    0
+    Ok(())
 }

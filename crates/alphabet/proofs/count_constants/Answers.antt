@@ -1,4 +1,4 @@
--- `alphabet::count_constants` meets its contract: before each turn `count` of the first `i` entries are constants.
+-- `alphabet::count_constants` meets its contract: before each turn `count` of the first `symbol` entries are constants.
 use mathlib.Core.Path.{◌∙◌, sym}
 use Rattle.alphabet.proofs.ConstantScanLaws.{counted_none, counted-more, counted_skip, counted-end}
 use Rattle.alphabet.proofs.count_constants.Goals as goal

@@ -1,6 +1,4 @@
--- `alphabet::count_constants` meets its contract: before each turn `count` of the first `i` entries are constants.
-use Prim.Native.Nat.{◌-◌}
-use lib.ListN.{length}
+-- `alphabet::count_constants` meets its contract: before each turn `count` of the first `symbol` entries are constants.
 use Rattle.alphabet.proofs.ConstantScanLaws.{Counted}
 use Rattle.alphabet.proofs.count_constants.Given as goal
 

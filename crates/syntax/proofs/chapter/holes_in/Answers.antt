@@ -1,22 +1,19 @@
--- `syntax::chapter::holes_in` meets its contract: before each turn the words from `place` on have a hole exactly if the words have one.
-use mathlib.Core.Path.{◌∙◌, sym}
+-- `syntax::chapter::holes_in` meets its contract: the chain answers whether some word's symbol is a hole.
+use mathlib.Core.Path.{◌≡◌}
+use mathlib.Core.Bool.{true, false}
+use Prim.Native.Nat.{ℕ}
 use borrow.Author.Rules.{rules}
-use Rattle.words.specs.Chapter.{holes_in}
-use Rattle.words.proofs.ScanLaws.{some-found, some-continues, some_end}
+use borrow.Author.Tests.{tests}
+use Rattle.std.proofs.lemmas.Iterator.{cases_from_any, YieldsList-from_slice}
+use Rattle.words.specs.Alphabet.{is_hole}
+use Rattle.words.specs.Chapter.{symbol_of, holes_in}
+use Rattle.words.proofs.ChainLaws.{some-told}
 use Rattle.syntax.proofs.chapter.holes_in.Goals as goal
-
-pub returns-then-is_hole : goal.returns-then-is_hole
-unfolding holes_in
-returns-then-is_hole c =
-    sym (c.loop-place.invariant.1 ∙ some-found _ _ _ c.loop-place-test.true (sym c.is_hole.ensures ∙ c.if-is_hole.true))
-
-pub loop-place-preserved : goal.loop-place-preserved
-loop-place-preserved c = (
-  search rules,
-  c.loop-place.invariant.1
-      ∙ some-continues _ _ _ c.loop-place-test.true (sym c.is_hole.ensures ∙ c.if-is_hole.false),
-)
 
 pub returns : goal.returns
 unfolding holes_in
-returns c = sym (c.loop-place.invariant.1 ∙ some_end _ _ _ c.loop-place-test.false)
+returns c =
+    let f = λ (w : ℕ). is_hole c.args.alphabet.now (symbol_of w) in
+    some-told f c.args.words.now c.any.result
+    (cases_from_any _ _ _ (λ w. f w ≡ true) (λ w. f w ≡ false) c.any.ensures.ran (YieldsList-from_slice c.args.words.now cc)
+    (λ x q k. search (rules, tests)) (λ x q k. search (rules, tests)))

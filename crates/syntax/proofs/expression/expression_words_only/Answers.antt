@@ -1,22 +1,16 @@
--- `syntax::expression::expression_words_only` meets its contract: before each turn the test of all words is that of the words from `i`
--- on.
-use mathlib.Core.Path.{◌∙◌, sym}
+-- `syntax::expression::expression_words_only` meets its contract: the chain answers whether every word is a rule word.
+use mathlib.Core.Path.{◌≡◌}
+use mathlib.Core.Bool.{true, false}
 use borrow.Author.Rules.{rules}
-use Rattle.words.proofs.ScanLaws.{all-fails, all-continues, all_end}
+use borrow.Author.Tests.{tests}
+use Rattle.std.proofs.lemmas.Iterator.{cases_from_all, YieldsList-from_slice}
+use Rattle.words.specs.ExpressionWords.{is_expression_word}
+use Rattle.words.proofs.ChainLaws.{all-told}
 use Rattle.syntax.proofs.expression.expression_words_only.Goals as goal
 
-pub returns-then-not-is_expression_word : goal.returns-then-not-is_expression_word
-returns-then-not-is_expression_word c =
-    sym
-    (c.loop-i.invariant.1
-    ∙ all-fails _ _ _ c.loop-i-test.true (sym c.is_expression_word.ensures ∙ c.if-not-is_expression_word.true))
-
-pub loop-i-preserved : goal.loop-i-preserved
-loop-i-preserved c = (
-  search rules,
-  c.loop-i.invariant.1
-      ∙ all-continues _ _ _ c.loop-i-test.true (sym c.is_expression_word.ensures ∙ c.if-not-is_expression_word.false),
-)
-
 pub returns : goal.returns
-returns c = sym (c.loop-i.invariant.1 ∙ all_end _ _ _ c.loop-i-test.false)
+returns c =
+    let f = is_expression_word c.args.alphabet.now in
+    all-told f c.args.expression.now c.all.result
+    (cases_from_all _ _ _ (λ w. f w ≡ true) (λ w. f w ≡ false) c.all.ensures.ran (YieldsList-from_slice c.args.expression.now cc)
+    (λ x q k. search (rules, tests)) (λ x q k. search (rules, tests)))
