@@ -7,16 +7,15 @@ use super::runs::{lower, tree_bound};
 use alphabet::{SYMBOLS, write_ranks};
 use syntax::chapter::{holes_in, tree_fault};
 use words::limits::{HEIGHT_MOST, NODES_MOST};
+use words::refusal::Refusal;
 
 // A rank that no number of trees reaches: that of a hole, and of a symbol which the alphabet lacks.
 const NO_RANK: u32 = NODES_MOST as u32 + 1;
 
-// Document 01's number 10 or 11, the first that applies, or 0; where it is 0, a height that the tree does not exceed; and whether
-// there is a hole.
+// A height that the tree does not exceed, or document 01's 10 or 11, the first that applies; and whether there is a hole.
 #[derive(Drop)]
 pub struct Shape {
-    pub fault: u32,
-    pub bound: usize,
+    pub bound: Result<usize, Refusal>,
     pub holes: bool,
 }
 
@@ -27,14 +26,13 @@ fn counted_shape(alphabet: &[u32], words: &[u32]) -> Shape
     let fault = tree_fault(alphabet, words);
     let holes = holes_in(alphabet, words);
     Shape {
-        fault,
-        bound: words.len(),
+        bound: fault.and(Ok(words.len())),
         holes,
     }
 }
 
 // The shape of the words. Few words need no better bound than their number; where many make no tree without a hole, the check tells
-// the number.
+// the refusal.
 pub fn tree_shape(alphabet: &[u32], words: &[u32]) -> Shape
     requires { length words.now ≤ nodes_most }
     ensures { ShapeOf alphabet.now words.now result }
@@ -49,8 +47,7 @@ pub fn tree_shape(alphabet: &[u32], words: &[u32]) -> Shape
         return counted_shape(alphabet, words);
     }
     Shape {
-        fault: 0,
-        bound: lower(bound, words.len() as u32) as usize,
+        bound: Ok(lower(bound, words.len() as u32) as usize),
         holes: false,
     }
 }

@@ -4,4 +4,4 @@ use Rattle.bounds.proofs.ShapeLaws.{shape-counted}
 use Rattle.bounds.proofs.shape.counted_shape.Goals as goal
 
 pub returns : goal.returns
-returns c = shape-counted _ _ _ c.tree_fault-fault.ensures _ c.holes_in-holes.ensures
+returns c = shape-counted _ _ _ c.tree_fault-fault.ensures _ c.holes_in-holes.ensures _ c.and.ensures
