@@ -11,8 +11,8 @@ use lib.Seq.{get_or-set_same, get_or-set_other}
 use lib.Dec.{ltb}
 use borrow.Author.Tests.{lt-ltb, le-ltb}
 use Rattle.words.specs.Limits.{table_most}
-use Rattle.index.specs.Index.{key_of, indexed_at, index_back, index_of, Insertable, index_length, key_count}
-use Rattle.index.proofs.ChainLaws.{next_with, next-over, next_here, next_past, Keyed}
+use Rattle.index.specs.Index.{key_of, indexed_at, index_back, index_of, Insertable, IndexedTable, index_length, key_count}
+use Rattle.index.proofs.ChainLaws.{next_with, next-over, next_here, next_past, Keyed, table-keyed}
 
 -- ---- one word is put
 
@@ -169,3 +169,12 @@ module _ (table : List ℕ) where
   pub index-length : length (index_of table) ≡ index_length
   unfolding index_of
   index-length = back-length (length table)
+
+-- ---- a checked table with its index
+
+module _ {table index : List ℕ} (c : IndexedTable table index) where
+  pub keyed : Keyed table
+  keyed = table-keyed c.alphabet table c.checked
+
+  pub index-long : length index ≡ index_length
+  index-long = ap length c.indexed ∙ index-length table

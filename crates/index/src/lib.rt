@@ -1,8 +1,9 @@
 // An index of a table, made once for all nodes: for each symbol and each state a chain of the words at which transitions begin.
 #![tactic(auto)]
 
-ghost use Rattle.std.specs.Prelude.{◌≡◌};
-ghost use Rattle.index.specs.Index.{key_of, indexed_at, index_of, Insertable, Indexable};
+ghost use Rattle.std.specs.Prelude.{◌≡◌, ◌+◌, ◌<◌, length, get_or};
+ghost use Rattle.words.specs.Word.{state_below};
+ghost use Rattle.index.specs.Index.{key_of, key_count, indexed_at, index_of, Insertable, Indexable, IndexedTable};
 
 use words::limits::TABLE_MOST;
 use words::word::{Kind, STATE_RANGE, SYMBOL_RANGE, kind_of};
@@ -46,9 +47,42 @@ pub fn write_index(table: &[u32], index: &mut [u32])
     requires { Indexable table.now index.old }
     ensures { index.new ≡ index_of table.now }
 {
-    let mut i = table.len();
-    while 0 < i {
-        i -= 1;
+    for i in (0..table.len()).rev() {
         put_word(table, i, index);
+    }
+}
+
+// A table and its index, which are read together.
+#[derive(Clone, Copy)]
+pub struct Indexed<'a> {
+    pub table: &'a [u32],
+    pub index: &'a [u32],
+}
+
+impl<'a> Indexed<'a> {
+    // The first word of a key's chain, or 0 where it has none.
+    pub fn first(self, key: usize) -> usize
+        requires checked { IndexedTable self.table.now self.index.now }
+        requires few { key < key_count }
+        ensures { result ≡ get_or self.entry.index.now key 0 }
+    {
+        self.index[key] as usize
+    }
+
+    // The next word of word i's chain, or 0 where i is the last.
+    pub fn next(self, i: usize) -> usize
+        requires checked { IndexedTable self.table.now self.index.now }
+        requires inside { i < length self.table.now }
+        ensures { result ≡ get_or self.entry.index.now (key_count + i) 0 }
+    {
+        self.index[KEY_COUNT + i] as usize
+    }
+
+    // The state that the transition at word i leads to.
+    pub fn target(self, i: usize) -> usize
+        requires { i < length self.table.now }
+        ensures { result ≡ state_below (get_or self.entry.table.now i 0) }
+    {
+        (self.table[i] % STATE_RANGE) as usize
     }
 }

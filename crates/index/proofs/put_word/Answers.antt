@@ -1,11 +1,6 @@
 -- `index::put_word` meets its contract: that of `key` gives it.
-use lib.ListN.{length-set}
-use native.Mathlib.Omega.{arith}
 use Rattle.index.proofs.IndexLaws.{put-key, put-none}
 use Rattle.index.proofs.put_word.Goals as goal
-
-pub bounds-index-at-then-at-lt-KEY_COUNT : goal.bounds-index-at-then-at-lt-KEY_COUNT
-bounds-index-at-then-at-lt-KEY_COUNT c = simp length-set (omega arith)
 
 pub returns-then-at-lt-KEY_COUNT : goal.returns-then-at-lt-KEY_COUNT
 returns-then-at-lt-KEY_COUNT c = put-key _ _ _ _ c.key-at.ensures c.if-at-lt-KEY_COUNT.true
