@@ -15,7 +15,8 @@ use Rattle.closures.specs.Closure.{Closed, PendingStack, Search, Puttable, Put, 
 use Rattle.closures.proofs.KeyedWordLaws.{closed-epsilon, epsilon-below, epsilon-reached}
 use Rattle.closures.proofs.PendingStackLaws.{stack-puttable, stack-put, put-less, put-length, put-present, put_keeps}
 use Rattle.closures.proofs.SearchLaws.{search-put, search-word, search-end, search-pop}
-use Rattle.closures.proofs.FollowLaws.{InChain, left, states-most, keyed, chain_first, in-chain, chain_next, left_less}
+use Rattle.index.proofs.IndexLaws.{keyed}
+use Rattle.closures.proofs.FollowLaws.{left, states-most, chain_first, chain_next, left_less}
 
 -- ---- the chain of a state
 
@@ -69,8 +70,8 @@ module _ {table index : List ℕ} {p : ℕ} {r₀ : StateSet} {pending₀ : List
     epsilons-next : FirstWith table (state_key p) s.from i
     epsilons-next = next-some s.at h
 
-    pub epsilons-in : InChain table index i
-    epsilons-in = in-chain s.checked epsilons-next
+    pub epsilons-inside : i < length table
+    epsilons-inside = epsilons-next.inside
 
     epsilons-at : EpsilonWord (get_or table i 0) p
     epsilons-at = let l = key-small in keyed-epsilon (get_or table i 0) epsilons-next.keyed (omega arith)

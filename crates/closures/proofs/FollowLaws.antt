@@ -1,49 +1,32 @@
 -- A chain of a table's index, followed word by word.
-use mathlib.Core.Path.{◌≡◌, ap, ◌∙◌}
+use mathlib.Core.Path.{◌≡◌}
 use mathlib.Core.List.{List}
 use Prim.Native.Nat.{ℕ, zero, suc, ◌+◌, ◌-◌, ◌<◌, ◌≤◌}
 use native.Mathlib.Omega.{arith}
 use lib.ListN.{length, get_or}
-use Rattle.words.specs.Limits.{states_most, table_most}
+use Rattle.words.specs.Limits.{states_most}
 use Rattle.automaton.specs.Transition.{automaton_of}
 use Rattle.automaton.proofs.TableLaws.{is_table-states}
-use Rattle.index.specs.Index.{IndexedTable, index_length, key_count}
-use Rattle.index.proofs.ChainLaws.{FirstWith, Keyed, next_with, next-some, table-keyed}
-use Rattle.index.proofs.IndexLaws.{index-length, index-first, index-next}
+use Rattle.index.specs.Index.{IndexedTable, key_count}
+use Rattle.index.proofs.ChainLaws.{FirstWith, next_with, next-some}
+use Rattle.index.proofs.IndexLaws.{keyed, index-first, index-next}
 
 -- the words that may follow: the numbers of a chain ascend
 pub left : List ℕ → ℕ → ℕ
 left table zero = 0
 left table (suc i) = length table - suc i
 
--- a word of a chain, and room for the number of the next one
-pub record InChain (table index : List ℕ) (i : ℕ) : Type 0 where
-  pub inside : i < length table
-  pub few : i < table_most
-  pub next-inside : key_count + i < length index
-
 module _ {table index : List ℕ} (c : IndexedTable table index) where
   pub states-most : (automaton_of table).states ≤ states_most
   states-most = is_table-states c.alphabet table c.checked
 
-  pub keyed : Keyed table
-  keyed = table-keyed c.alphabet table c.checked
-
-  pub index-long : length index ≡ index_length
-  index-long = ap length c.indexed ∙ index-length table
-
   pub chain_first : (key : ℕ) → key < key_count → get_or index key 0 ≡ next_with table key 0
-  chain_first key h = rw c.indexed (index-first table keyed key h)
+  chain_first key h = rw c.indexed (index-first table (keyed c) key h)
 
   module _ {key from i : ℕ} (n : FirstWith table key from i) where
-    pub in-chain : InChain table index i
-    in-chain =
-        let inside = n.inside in
-        record { inside = inside; few = omega (arith, keyed.few); next-inside = omega (arith, keyed.few, index-long) }
-
     module _ (h : key < key_count) where
       pub chain_next : get_or index (key_count + i) 0 ≡ next_with table key (i + 1)
-      chain_next = rw c.indexed (index-next table keyed i key n.inside n.keyed h)
+      chain_next = rw c.indexed (index-next table (keyed c) i key n.inside n.keyed h)
 
       pub left_less : 0 < i → left table (get_or index (key_count + i) 0) < left table i
       unfolding left

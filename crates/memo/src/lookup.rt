@@ -1,13 +1,15 @@
 // Nodes are marked by a memo: a step that is known by its key is not worked out again.
-ghost use Rattle.std.specs.Prelude.{◌≡◌, ◌-◌, ◌*◌, take, drop};
+ghost use Rattle.std.specs.Prelude.{◌≡◌, ◌-◌, ◌*◌, length, take, drop};
 ghost use Rattle.std.proofs.Math.Seq.{paste};
 ghost use Rattle.words.specs.Limits.{rank_most};
 ghost use Rattle.sets.specs.Copyable.{Copyable};
 ghost use Rattle.closures.specs.Closure.{Closures};
 ghost use Rattle.memo.specs.Memo.{NewMarkable, MarkedNew, NextMarkable, MarkedNext};
 
+use super::Memo;
 use super::key::{slot_of, step_key};
 use super::representative::representative;
+use index::Indexed;
 use sets::whole::{copy_set, write_set_at};
 use step::node_set;
 use tables::head::set_size;
@@ -15,24 +17,32 @@ use words::limits::RANK_MOST;
 
 // Works out node i's state set and writes it; answers the node's representative.
 fn mark_new(
-    table: &[u32],
-    index: &[u32],
+    indexed: Indexed,
     symbol: u32,
     marks: &mut [u32],
     children: &[u32],
     i: usize,
-    places: &mut [u32],
-    owners: &mut [u32],
-    rows: &mut [u32],
-    pending: &mut [u32],
+    memo: &mut Memo,
 ) -> usize
-    requires { NewMarkable table.now index.now symbol marks.old children.now i places.old owners.old rows.old pending.old }
-    ensures answer { MarkedNew table.now symbol marks.old children.now i marks.new result }
-    ensures closures { Closures table.now owners.new rows.new }
+    requires { NewMarkable indexed.table.now indexed.index.now symbol marks.old children.now i memo.old.places
+        memo.old.closures.owners memo.old.closures.rows memo.old.pending }
+    ensures answer { MarkedNew indexed.entry.table.now symbol marks.old children.now i marks.new result }
+    ensures closures { Closures indexed.entry.table.now memo.new.closures.owners memo.new.closures.rows }
+    ensures keys { memo.new.keys ≡ memo.old.keys }
+    ensures known { memo.new.known ≡ memo.old.known }
+    ensures places { length memo.new.places ≡ length memo.old.places }
+    ensures pending { length memo.new.pending ≡ length memo.old.pending }
 {
-    let size = set_size(table);
-    let set = node_set(table, index, symbol, marks, children, owners, rows, pending);
-    let node = representative(marks, &set[..size], i, places);
+    let size = set_size(indexed.table);
+    let set = node_set(
+        indexed,
+        symbol,
+        marks,
+        children,
+        &mut memo.closures,
+        &mut memo.pending,
+    );
+    let node = representative(marks, &set[..size], i, &mut memo.places);
     write_set_at(marks, i * size, &set[..size]);
     node
 }
@@ -51,48 +61,30 @@ fn copy_node(marks: &mut [u32], node: usize, i: usize, size: usize)
 }
 
 // Writes the state set of node i, which has this symbol and children that the last `rank` of the four nodes represent; answers
-// its representative. Slot s of the memo is the key keys[s] and the representative known[s].
+// its representative.
 pub fn mark_next(
-    table: &[u32],
-    index: &[u32],
+    indexed: Indexed,
     symbol: u32,
     marks: &mut [u32],
     four: &[u32],
     rank: usize,
     i: usize,
-    keys: &mut [u64],
-    known: &mut [u32],
-    places: &mut [u32],
-    owners: &mut [u32],
-    rows: &mut [u32],
-    pending: &mut [u32],
+    memo: &mut Memo,
 ) -> usize
-    requires { NextMarkable table.now index.now symbol marks.old four.now rank i keys.old known.old places.old owners.old
-        rows.old pending.old }
-    ensures { MarkedNext table.now symbol marks.old (drop (rank_most - rank) four.now) i marks.new result
-        keys.new known.new places.new owners.new rows.new pending.new }
+    requires { NextMarkable indexed.table.now indexed.index.now symbol marks.old four.now rank i memo.old.keys memo.old.known
+        memo.old.places memo.old.closures.owners memo.old.closures.rows memo.old.pending }
+    ensures { MarkedNext indexed.entry.table.now symbol marks.old (drop (rank_most - rank) four.now) i marks.new result
+        memo.new.keys memo.new.known memo.new.places memo.new.closures.owners memo.new.closures.rows
+        memo.new.pending }
 {
     let key = step_key(symbol, four, rank);
     let slot = slot_of(key);
-    if keys[slot] == key {
-        let size = set_size(table);
-        let found = known[slot] as usize;
-        copy_node(marks, found, i, size);
+    if let Some(found) = memo.node_of(slot, key) {
+        copy_node(marks, found, i, set_size(indexed.table));
         return found;
     }
-    let node = mark_new(
-        table,
-        index,
-        symbol,
-        marks,
-        &four[RANK_MOST - rank..RANK_MOST],
-        i,
-        places,
-        owners,
-        rows,
-        pending,
-    );
-    keys[slot] = key;
-    known[slot] = node as u32;
+    let children = &four[RANK_MOST - rank..RANK_MOST];
+    let node = mark_new(indexed, symbol, marks, children, i, memo);
+    memo.remember(slot, key, node);
     node
 }

@@ -18,10 +18,8 @@ fn place_of(set: &[u32]) -> usize
     ensures { result < places_most }
 {
     let mut mixed: u64 = 0;
-    let mut k = 0;
-    while k < set.len() {
-        mixed += set[k] as u64 * (k as u64 * FACTOR + 1);
-        k += 1;
+    for (k, word) in set.iter().enumerate() {
+        mixed += *word as u64 * (k as u64 * FACTOR + 1);
     }
     (mixed % PLACES) as usize
 }

@@ -17,9 +17,10 @@ use Rattle.automaton.proofs.ClosureLaws.{targets-below, reached-below}
 use Rattle.automaton.proofs.TableLaws.{is_table-automaton}
 use Rattle.index.specs.Index.{key_of, key_count, IndexedTable}
 use Rattle.index.proofs.ChainLaws.{FirstWith, SymbolWord, next_with, next-some, next-none, keyed-symbol}
+use Rattle.index.proofs.IndexLaws.{keyed}
 use Rattle.closures.specs.Closure.{ReachedFrom, itself, onward, Joinable, JoinedClosure}
 use Rattle.closures.proofs.KeyedWordLaws.{symbol-below, symbol-reached, symbol-sources}
-use Rattle.closures.proofs.FollowLaws.{InChain, left, keyed, chain_first, in-chain, chain_next, left_less}
+use Rattle.closures.proofs.FollowLaws.{left, chain_first, chain_next, left_less}
 use Rattle.step.specs.NodeSteppable.{RowsInside, child_sets}
 use Rattle.step.specs.Node.{SourcesReadable, Growing, Satisfied}
 use Rattle.step.specs.Node.{SymbolFollowable, SymbolFollowed, TransitionFollowable, TransitionFollowed}
@@ -124,8 +125,8 @@ module _ {table index : List ℕ} {f size : ℕ} {marks children owners rows pen
       }
 
   module _ {pending_length i : ℕ} (s : SymbolAt table index f size marks children owners rows pending r pending_length i) where
-    chain : IndexedTable table index
-    chain = s.followable.steppable.node.indexed
+    pub symbol-checked : IndexedTable table index
+    symbol-checked = s.followable.steppable.node.indexed
 
     key_below : f < key_count
     key_below = let small = s.followable.steppable.node.symbol-below in omega arith
@@ -141,14 +142,14 @@ module _ {table index : List ℕ} {f size : ℕ} {marks children owners rows pen
         go : (j : ℕ) → j < length table → key_of (get_or table j 0) ≡ f → Dec (j < s.from)
             → Satisfied table (child_sets size marks children) r j
         go j l e (yes b) = s.followed j b l e
-        go j l e (no b) = absurd (next-none s.at (keyed chain) key_below (omega arith) j (omega arith) l e)
+        go j l e (no b) = absurd (next-none s.at (keyed symbol-checked) key_below (omega arith) j (omega arith) l e)
 
     module _ (h : 0 < i) where
       symbol-next : FirstWith table f s.from i
       symbol-next = next-some s.at h
 
-      pub symbol-in : InChain table index i
-      symbol-in = in-chain chain symbol-next
+      pub symbol-inside : i < length table
+      symbol-inside = symbol-next.inside
 
       pub symbol-at : TransitionFollowable table index size marks children owners rows pending r i
       symbol-at =
@@ -160,7 +161,7 @@ module _ {table index : List ℕ} {f size : ℕ} {marks children owners rows pen
           }
 
       pub symbol-less : left table (get_or index (key_count + i) 0) < left table i
-      symbol-less = left_less chain symbol-next key_below h
+      symbol-less = left_less symbol-checked symbol-next key_below h
 
       pub symbol-more : {t : StateSet} {owners' rows' pending' : List ℕ} → length pending' ≡ length pending
           → TransitionFollowed table (key_of (get_or table i 0)) (child_sets size marks children) i r t owners' rows'
@@ -177,7 +178,7 @@ module _ {table index : List ℕ} {f size : ℕ} {marks children owners rows pen
               growing = subst (λ k. Growing table k (child_sets size marks children) t) symbol-next.keyed j.growing;
             };
             from = i + 1;
-            at = chain_next chain symbol-next key_below;
+            at = chain_next symbol-checked symbol-next key_below;
             pending-long = e ∙ s.pending-long;
             followed = λ k b l q. go k b l q (ℕ_discrete k i) (dec_lt k s.from);
           }

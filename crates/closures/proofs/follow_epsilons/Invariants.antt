@@ -4,7 +4,7 @@ use Rattle.closures.proofs.EpsilonLaws.{EpsilonsAt}
 use Rattle.closures.proofs.follow_epsilons.Given as goal
 
 abbrev pub invariant-loop-i : goal.invariant-loop-i
-invariant-loop-i l = EpsilonsAt l.table l.index l.p l.initial.set l.initial.pending l.top l.i l.set l.pending l.height
+invariant-loop-i l = EpsilonsAt l.indexed.table.now l.indexed.index.now l.p l.initial.set l.initial.pending l.top l.i l.set l.pending l.height
 
 abbrev pub decreases-loop-i : goal.decreases-loop-i
-decreases-loop-i l = left l.table l.i
+decreases-loop-i l = left l.indexed.table.now l.i

@@ -7,7 +7,7 @@ use Rattle.closures.proofs.follow_pending.Given as goal
 
 abbrev pub invariant-loop-height : goal.invariant-loop-height
 invariant-loop-height l =
-    (length l.pending ≡ length l.initial.pending) × Followed l.table 0 (length l.table) l.initial.set l.initial.pending l.top l.set l.pending l.height
+    (length l.pending ≡ length l.initial.pending) × Followed l.indexed.table.now 0 (length l.indexed.table.now) l.initial.set l.initial.pending l.top l.set l.pending l.height
 
 abbrev pub decreases-loop-height : goal.decreases-loop-height
-decreases-loop-height l = work l.table l.set l.height
+decreases-loop-height l = work l.indexed.table.now l.set l.height

@@ -3,22 +3,22 @@ use borrow.Author.Rules.{rules}
 use Rattle.closures.proofs.KeptClosureLaws.{add-again, join-end}
 use Rattle.closures.proofs.join_closure.Goals as goal
 
-pub keep_closure-requires : goal.keep_closure-requires
-keep_closure-requires c = c.requires.keepable
+pub keep-requires : goal.keep-requires
+keep-requires c = c.requires.keepable
 
 pub add_closure-requires : goal.add_closure-requires
 add_closure-requires c =
     add-again
     c.requires (search rules)
 
-pub returns-then-not-keep_closure : goal.returns-then-not-keep_closure
-returns-then-not-keep_closure c = record {
+pub returns-then-not-keep : goal.returns-then-not-keep
+returns-then-not-keep c = record {
   closures =
-      c.keep_closure.ensures.closures;
+      c.keep.ensures.closures;
   added = c.add_closure.ensures;
 }
 
 pub returns : goal.returns
 returns c =
-    join-end c.if-not-keep_closure.false c.keep_closure.ensures
+    join-end c.if-not-keep.false c.keep.ensures
     c.requires.set c.join.ensures

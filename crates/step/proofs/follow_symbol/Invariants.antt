@@ -6,7 +6,8 @@ use Rattle.step.proofs.follow_symbol.Given as goal
 
 abbrev pub invariant-loop-i : goal.invariant-loop-i
 invariant-loop-i l =
-    SymbolAt l.table l.index l.symbol l.size l.marks l.children l.owners l.rows l.pending l.set (length l.initial.pending) l.i
+    SymbolAt l.indexed.table.now l.indexed.index.now l.symbol l.size l.marks l.children l.closures.owners l.closures.rows l.pending l.set
+    (length l.initial.pending) l.i
 
 abbrev pub decreases-loop-i : goal.decreases-loop-i
-decreases-loop-i l = left l.table l.i
+decreases-loop-i l = left l.indexed.table.now l.i

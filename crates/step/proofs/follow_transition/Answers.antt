@@ -6,16 +6,13 @@ use native.Mathlib.Omega.{arith}
 use Rattle.step.proofs.SymbolLaws.{transition-few, transition-sources, transition-joinable, transition-still, transition-more}
 use Rattle.step.proofs.follow_transition.Goals as goal
 
-pub offset_bounds-table-i : goal.offset_bounds-table-i
-offset_bounds-table-i c = omega (arith, transition-few c.requires)
-
-pub bounds-table-i : goal.bounds-table-i
-bounds-table-i c = c.requires.inside
+pub target-target-requires : goal.target-target-requires
+target-target-requires c = c.requires.inside
 
 pub returns-then-contains : goal.returns-then-contains
 returns-then-contains c =
     transition-still c.requires
-    (λ _. sym c.contains.ensures ∙ c.if-contains.true)
+    (λ _. rw (← c.target-target.ensures) (sym c.contains.ensures ∙ c.if-contains.true))
 
 pub overflow_add-i : goal.overflow_add-i
 overflow_add-i c =
@@ -33,8 +30,7 @@ returns-then-not-sources_contained c =
 
 pub join_closure-requires : goal.join_closure-requires
 join_closure-requires c =
-    transition-joinable
-    c.requires
+    rw c.target-target.ensures (transition-joinable c.requires)
 
 pub returns : goal.returns
 returns c =
@@ -42,4 +38,4 @@ returns c =
     c.requires
     (sym c.sources_contained.ensures
     ∙ c.if-not-sources_contained.false)
-    c.join_closure.ensures
+    (rw c.target-target.ensures at c.join_closure.ensures)

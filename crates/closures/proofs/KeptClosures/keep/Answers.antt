@@ -1,9 +1,8 @@
--- `closures::keep_closure` meets its contract: the row has the closure already, is another state's, or gets it.
-use mathlib.Core.Path.{sym}
+-- `closures::KeptClosures::keep` meets its contract: the row has the closure already, is another state's, or gets it.
 use native.Mathlib.Omega.{arith}
 use Rattle.closures.proofs.FollowLaws.{states-most}
-use Rattle.closures.proofs.KeptClosureLaws.{owner-inside, closure-fits, keep_known, keep-other, keep-new}
-use Rattle.closures.proofs.keep_closure.Goals as goal
+use Rattle.closures.proofs.KeptClosureLaws.{closure-fits, keep_known, keep-other, keep-new}
+use Rattle.closures.proofs.KeptClosures.keep.Goals as goal
 
 pub overflow_cast-owner : goal.overflow_cast-owner
 overflow_cast-owner c =
@@ -21,9 +20,6 @@ overflow_add-owner c =
       states-most c.requires.closable.checked,
     )
 
-pub bounds-owners-row : goal.bounds-owners-row
-bounds-owners-row c = owner-inside c.requires
-
 pub returns-then-found-owner : goal.returns-then-found-owner
 returns-then-found-owner c = keep_known c.requires c.if-found-owner.true
 
@@ -33,18 +29,10 @@ returns-then-found-ne0 c = keep-other c.requires
 pub close_state-closure-requires : goal.close_state-closure-requires
 close_state-closure-requires c = c.requires.closable
 
-pub slice_bounds-write_set_at-end : goal.slice_bounds-write_set_at-end
-slice_bounds-write_set_at-end c = sym c.close_state-closure.ensures.set.size
-
 pub write_set_at-requires : goal.write_set_at-requires
 write_set_at-requires c =
     rw c.close_state-closure.ensures.set.size
     (closure-fits c.requires)
-
-pub bounds-owners-row-2 : goal.bounds-owners-row-2
-bounds-owners-row-2 c =
-    owner-inside
-    c.requires
 
 pub returns : goal.returns
 returns c =

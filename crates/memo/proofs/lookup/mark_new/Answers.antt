@@ -35,9 +35,10 @@ pub write_set_at-requires : goal.write_set_at-requires
 write_set_at-requires c =
     set-fits c.requires _ c.node_set-set.ensures.answer _ c.set_size-size.ensures
 
-pub returns : goal.returns
-returns c = record {
-  answer = set_new c.requires _ c.node_set-set.ensures.answer _ c.set_size-size.ensures _
-      c.representative-node.ensures _ c.write_set_at.ensures;
-  closures = c.node_set-set.ensures.closures;
-}
+pub returns-clause-answer : goal.returns-clause-answer
+returns-clause-answer c =
+    set_new c.requires _ c.node_set-set.ensures.answer _ c.set_size-size.ensures _
+    c.representative-node.ensures _ c.write_set_at.ensures
+
+pub returns-clause-closures : goal.returns-clause-closures
+returns-clause-closures c = c.node_set-set.ensures.closures
