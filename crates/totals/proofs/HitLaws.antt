@@ -6,6 +6,7 @@ use Prim.Native.Nat.{ℕ, ◌+◌, ◌*◌, ◌-◌, ◌<◌, ◌≤◌}
 use native.Mathlib.Omega.{arith}
 use native.Mathlib.Nat.{mul_comm, mul-sub, mul-le-mul_right}
 use lib.ListN.{length, get_or, take, drop}
+use Rattle.std.specs.Int.{from_bool}
 use Rattle.words.specs.Word.{word_range}
 use Rattle.words.specs.Lists.{list_from}
 use Rattle.words.proofs.ListLaws.{length-list_from, list_from-add}
@@ -23,14 +24,13 @@ use Rattle.totals.proofs.StoredTotals.{words-below, length-take-few, flatten-sto
 
 -- ---- one set
 
-module _ (b : Bool) (set : StateSet) (last : ℕ) (e : b ≡ contains set last) where
-  pub is-hit : b ≡ true → 1 ≡ length (matches_in last 0 (set ∷ []))
-  unfolding matches_in
-  is-hit h = sym (ap (λ (x : Bool). length {A = ℕ} (cond x (0 ∷ []) [])) (sym e ∙ h))
-
-  pub no_hit : b ≡ false → 0 ≡ length (matches_in last 0 (set ∷ []))
-  unfolding matches_in
-  no_hit h = sym (ap (λ (x : Bool). length {A = ℕ} (cond x (0 ∷ []) [])) (sym e ∙ h))
+pub hit_told : (b : Bool) (set : StateSet) (last : ℕ) → b ≡ contains set last → from_bool b ≡ length (matches_in last 0 (set ∷ []))
+unfolding matches_in
+hit_told b set last e = rw (← e) (go b)
+  where
+    go : (x : Bool) → from_bool x ≡ length {A = ℕ} (cond x (0 ∷ []) [])
+    go true = refl
+    go false = refl
 
 hit_few : (last : ℕ) (set : StateSet) → hit last set ≤ 1
 hit_few last set = go (contains set last)

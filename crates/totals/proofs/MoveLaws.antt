@@ -6,6 +6,9 @@ use native.Mathlib.Omega.{arith}
 use native.Mathlib.Nat.{mul-le-mul}
 use lib.Dec.{ltb, leb}
 use borrow.Author.Tests.{lt-ltb, le-ltb, ltb-true, ltb-false, leb-true, not-true}
+use Rattle.std.specs.Bool.{IsTrue}
+use Rattle.std.proofs.Common.{Option, None, Some}
+use Rattle.std.specs.Option.{MatchOption, SomeIff}
 use Rattle.words.specs.Limits.{nodes_most, cells_most}
 use Rattle.words.proofs.TestLaws.{same_truth, and-true, or-false}
 use Rattle.operations.specs.Totals.{Totals, moved, out_of_range, wrong_totals}
@@ -16,23 +19,22 @@ use Rattle.totals.specs.Room.{has_room}
 -- ---- one total
 
 module _ (t old new : ℕ) where
-  pub below-zero : t + new < old → true ≡ out_of_range t old new
+  -- what remains of the sum, where that is not below zero, is over the most
+  pub range-told : {Told : ℕ → Type 0} (r : Bool) (rest : Option ℕ) → SomeIff rest (old ≤ t + new) (t + new - old)
+      → MatchOption rest (IsTrue r) Told → ((total : ℕ) → Told total → r ≡ ltb cells_most total) → r ≡ out_of_range t old new
   unfolding out_of_range
-  below-zero h = sym (rw (lt-ltb (t + new) old h))
-
-  pub from_zero : old ≤ t + new → ltb cells_most (t + new - old) ≡ out_of_range t old new
-  unfolding out_of_range
-  from_zero h = sym (ap (λ (b : Bool). b || ltb cells_most (t + new - old)) (le-ltb (t + new) old h))
+  range-told r None below h told = let l : t + new < old = omega arith in h ∙ sym (rw (lt-ltb (t + new) old l))
+  range-told r (Some total) is h told =
+      told total h ∙ ap (λ (i : ℕ). ltb cells_most i) is.1
+      ∙ sym (ap (λ (b : Bool). b || ltb cells_most (t + new - old)) (le-ltb (t + new) old is.0))
 
 -- room for what may be added
 module _ (t old most : ℕ) where
-  pub no_room : t < old → false ≡ has_room t old most
+  pub room-told : {Told : ℕ → Type 0} (r : Bool) (rest : Option ℕ) → SomeIff rest (old ≤ t) (t - old)
+      → MatchOption rest (r ≡ false) Told → ((left : ℕ) → Told left → r ≡ leb (left + most) cells_most) → r ≡ has_room t old most
   unfolding has_room
-  no_room h = sym (rw (lt-ltb t old h))
-
-  pub room-left : old ≤ t → leb (t - old + most) cells_most ≡ has_room t old most
-  unfolding has_room
-  room-left h = sym (rw (le-ltb t old h))
+  room-told r None below h told = let l : t < old = omega arith in h ∙ sym (rw (lt-ltb t old l))
+  room-told r (Some left) is h told = told left h ∙ ap (λ (i : ℕ). leb (i + most) cells_most) is.1 ∙ sym (rw (le-ltb t old is.0))
 
   -- then it stays in range
   pub room-in-range : has_room t old most ≡ true → (added : ℕ) → added ≤ most → out_of_range t old added ≡ false

@@ -73,22 +73,19 @@ module _ (from to : ℕ) where
       number-here : get_or list k 0 ≡ get_or list₀ k 0
       number-here = ap (λ (l : List ℕ). get_or l k 0) g.words ∙ first-at move_number k list₀
 
-      module _ (l : k < length list) where
-        inside : k < length list₀
-        inside = let long = g.long in omega arith
-
+      module _ (l : k < length list₀) where
         pub moved_at : Movable from to list₀ → (from ≤ get_or list k 0) × (get_or list k 0 - from + to < word_range)
-        moved_at pre = rw number-here (each-get_or (λ j. (from ≤ j) × (j - from + to < word_range)) 0 list₀ k pre inside)
+        moved_at pre = rw number-here (each-get_or (λ j. (from ≤ j) × (j - from + to < word_range)) 0 list₀ k pre l)
 
         pub moved_more : MovedTo list₀ (set list k (get_or list k 0 - from + to)) (k + 1)
         moved_more =
             let w : set list k (move_number (get_or list k 0)) ≡ map_first move_number (k + 1) list₀
-            = ap₂ (λ (t : List ℕ) (x : ℕ). set t k (move_number x)) g.words number-here ∙ first_more move_number k list₀ inside
+            = ap₂ (λ (t : List ℕ) (x : ℕ). set t k (move_number x)) g.words number-here ∙ first_more move_number k list₀ l
             ∙ ap (λ (n : ℕ). map_first move_number n list₀) (sym (add-one k)) in
             record { long = ap length w ∙ length-first move_number (k + 1) list₀; words = w }
 
-      pub moved-end : length list ≤ k → list ≡ map (λ j. j - from + to) list₀
-      moved-end l = let long = g.long in g.words ∙ first-all move_number k list₀ (omega arith)
+      pub moved-end : length list₀ ≤ k → list ≡ map (λ j. j - from + to) list₀
+      moved-end l = g.words ∙ first-all move_number k list₀ l
 
 -- ---- ancestors
 

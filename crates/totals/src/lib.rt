@@ -7,7 +7,7 @@ pub mod nodes;
 
 // Elements, hits and cells: C lends it by a pointer to three words.
 #[repr(C)]
-#[derive(Clone, Copy)]
+#[derive(Clone, Copy, Default)]
 pub struct Totals {
     pub elements: u32,
     pub hits: u32,

@@ -62,10 +62,8 @@ pub fn list_ancestors(alphabet: &[u32], nodes: &[u32], i: usize, list: &mut [u32
     ensures list { list.new ≡ written_over (ancestors_of alphabet.now nodes.now i) list.old }
 {
     let mut listed = Listed { reach: 1, found: 0 };
-    let mut j = i + 1;
-    while j < nodes.len() {
+    for j in i + 1..nodes.len() {
         listed = list_node(alphabet, nodes, j, list, listed);
-        j += 1;
     }
     listed.found
 }
@@ -75,10 +73,8 @@ pub fn move_numbers(list: &mut [u32], from: usize, to: usize)
     requires { Movable from to list.old }
     ensures { list.new ≡ map (λ j. j - from + to) list.old }
 {
-    let mut k = 0;
-    while k < list.len() {
-        list[k] = (list[k] as usize - from + to) as u32;
-        k += 1;
+    for number in list.iter_mut() {
+        *number = (*number as usize - from + to) as u32;
     }
 }
 
@@ -90,12 +86,11 @@ fn numbers_totals(marks: &[u32], size: usize, last: usize, list: &[u32]) -> Tota
 {
     let mut hits: usize = 0;
     let mut cells: usize = 0;
-    let mut k = 0;
-    while k < list.len() {
-        let at = list[k] as usize * size;
-        hits += hit_of(&marks[at..at + size], last);
-        cells += count_cells(&marks[at..at + size]);
-        k += 1;
+    for number in list {
+        let at = *number as usize * size;
+        let set = &marks[at..at + size];
+        hits += hit_of(set, last);
+        cells += count_cells(set);
     }
     Totals {
         elements: list.len() as u32,

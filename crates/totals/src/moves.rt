@@ -14,11 +14,8 @@ pub fn is_out_of_range(before: u32, fallen: u32, added: u32) -> bool
     ensures { result ≡ out_of_range before fallen added }
 {
     let sum = before as usize + added as usize;
-    let old = fallen as usize;
-    if sum < old {
-        return true;
-    }
-    sum - old > CELLS_MOST
+    sum.checked_sub(fallen as usize)
+        .is_none_or(|total| total > CELLS_MOST)
 }
 
 // One total moved by the difference.
@@ -46,10 +43,9 @@ pub fn has_room(before: u32, fallen: u32, most: usize) -> bool
     requires { most ≤ 2 * cells_most }
     ensures { result ≡ has_room before fallen most }
 {
-    if before < fallen {
-        return false;
-    }
-    (before - fallen) as usize + most <= CELLS_MOST
+    before
+        .checked_sub(fallen)
+        .is_some_and(|left| left as usize + most <= CELLS_MOST)
 }
 
 // Two totals together.

@@ -16,10 +16,7 @@ use tables::head::{final_state, set_size};
 pub(crate) fn hit_of(set: &[u32], last: usize) -> usize
     ensures { result ≡ length (matches_in last 0 (set.now ∷ [])) }
 {
-    if contains(set, last) {
-        return 1;
-    }
-    0
+    usize::from(contains(set, last))
 }
 
 // How many of the nodes from `from` to before `to` are hits, where a set has `size` words.
@@ -28,11 +25,9 @@ fn count_hits(marks: &[u32], size: usize, last: usize, from: usize, to: usize) -
     ensures { result ≡ length (matches_in last 0 (list_from (stored_set size marks.now) from (to - from))) }
 {
     let mut hits: usize = 0;
-    let mut i = from;
-    while i < to {
+    for i in from..to {
         let at = i * size;
         hits += hit_of(&marks[at..at + size], last);
-        i += 1;
     }
     hits
 }

@@ -1,11 +1,6 @@
 -- `totals::listed::list_ancestors` meets its contract: before each turn the ancestors before node j are listed.
-use Prim.Native.Nat.{◌-◌}
-use lib.ListN.{length}
 use Rattle.totals.proofs.ListedAncestors.{ListedTo}
 use Rattle.totals.proofs.listed.list_ancestors.Given as goal
 
 abbrev pub invariant-loop-j : goal.invariant-loop-j
 invariant-loop-j l = ListedTo l.alphabet l.nodes l.i l.initial.list l.list l.listed.reach l.listed.found l.j
-
-abbrev pub decreases-loop-j : goal.decreases-loop-j
-decreases-loop-j l = length l.nodes - l.j
