@@ -10,7 +10,9 @@ use lib.ListN.{length, length-append}
 use lib.Dec.{ltb}
 use borrow.Author.Tests.{lt-ltb, le-ltb, ltb-false}
 use Rattle.encoding.specs.ByteWriting.{BytesWritten}
-use Rattle.encoding.specs.Decimal.{digit, digits_within, decimal}
+use Rattle.std.specs.Fmt.{decimal as printed}
+use Rattle.std.proofs.lemmas.Fmt.{decimal_by_steps}
+use Rattle.encoding.specs.Decimal.{digit, digits_within, decimal, field}
 use Rattle.encoding.proofs.ByteWritingLaws.{bytes-written-more, bytes-written-same}
 
 -- more room changes nothing where there is enough
@@ -41,17 +43,15 @@ decimal-several n h =
 
 -- ---- the writer of a number
 
-module _ (n at : ℕ) (out : List ℕ) where
-  pub number-one : (out' : List ℕ) (r : ℕ) → n < 10 → BytesWritten at (digit (n % 10) ∷ []) out out' r
-      → BytesWritten at (decimal n) out out' r
-  number-one out' r h w =
-      let e : n % 10 ≡ n = omega arith in
-      bytes-written-same w (ap (λ (d : ℕ). digit d ∷ []) e ∙ sym (decimal-one n h))
+-- std's decimal of a number is this one
+pub printed-decimal : (n : ℕ) → n < 2 ^ 64 → printed n ≡ decimal n
+printed-decimal n h =
+    decimal_by_steps (λ m ds. ds ≡ decimal m) (λ m l. sym (decimal-one m l))
+    (λ m ds l e. ap (λ (xs : List ℕ). xs ++ (digit (m % 10) ∷ [])) e ∙ sym (decimal-several m l)) n h
 
-  pub number-several : (out' : List ℕ) (next : ℕ) (out'' : List ℕ) (r : ℕ) → 10 ≤ n → BytesWritten at (decimal (n / 10)) out out' next
-      → BytesWritten next (digit (n % 10) ∷ []) out' out'' r → BytesWritten at (decimal n) out out'' r
-  number-several out' next out'' r h w v =
-      bytes-written-same (bytes-written-more w v) (sym (decimal-several n h))
+pub field-written : {at next r n end : ℕ} {digits out out' out'' : List ℕ} → n < 2 ^ 64 → digits ≡ printed n
+    → BytesWritten at digits out out' next → BytesWritten next (end ∷ []) out' out'' r → BytesWritten at (field n end) out out'' r
+field-written {n = n} h e w v = bytes-written-more (bytes-written-same w (e ∙ printed-decimal n h)) v
 
 -- ---- how many digits a number has
 

@@ -30,7 +30,7 @@ get_or-words_in bytes i h = get_or-list_from (word_at bytes) 0 (length bytes / w
 
 -- ---- stores past the end of a list change nothing
 
-pub sets-past : (vs l : List ℕ) (i : ℕ) → length l ≤ i → sets l i vs ≡ l
+sets-past : (vs l : List ℕ) (i : ℕ) → length l ≤ i → sets l i vs ≡ l
 sets-past [] l i h = refl
 sets-past (v ∷ vs) l i h = rw (set_out l i v) (sets-past vs l (suc i) (omega arith))
 
@@ -50,32 +50,24 @@ sets-take vs l at n h = go (dec_le n (length vs))
 
 pub record Keeping (words₀ : List ℕ) (at : ℕ) (bytes : List ℕ) (count : ℕ) (words : List ℕ) (i : ℕ) : Type 0 where
   pub few : i ≤ count
-  pub whole : word_bytes * count ≤ length bytes
-  pub fits : at + count ≤ length words₀
+  pub all : count ≡ min (length words₀ - at) (length bytes / word_bytes)
   pub long : length words ≡ length words₀
   pub same : words ≡ sets words₀ at (take i (words_in bytes))
 
 module _ (words₀ : List ℕ) (at : ℕ) (bytes : List ℕ) (count : ℕ) where
-  pub keeping_none : at < length words₀ → count ≡ min (length bytes / word_bytes) (length words₀ - at)
-      → Keeping words₀ at bytes count words₀ 0
-  keeping_none h e = record { few = omega arith; whole = omega arith; fits = omega arith; long = refl; same = refl }
-
-  -- the bytes of the next word are there
-  pub keeping-inside : (words : List ℕ) (i : ℕ) → Keeping words₀ at bytes count words i → i < count
-      → word_bytes * i + word_bytes ≤ length bytes
-  keeping-inside words i k h = let whole = k.whole in omega arith
+  pub keeping_none : count ≡ min (length words₀ - at) (length bytes / word_bytes) → Keeping words₀ at bytes count words₀ 0
+  keeping_none e = record { few = omega arith; all = e; long = refl; same = refl }
 
   pub keeping-more : (words : List ℕ) (i w : ℕ) → Keeping words₀ at bytes count words i → i < count → w ≡ word_at bytes i
       → Keeping words₀ at bytes count (set words (at + i) w) (i + 1)
   keeping-more words i w k h e =
-      let whole = k.whole in
+      let all = k.all in
       let low : i < length bytes / word_bytes = omega arith in
       let n : length (words_in bytes) ≡ length bytes / word_bytes = length-words_in bytes in
       let l : length (take i (words_in bytes)) ≡ i = length-take-le i (words_in bytes) (omega arith) in
       record {
         few = omega arith;
-        whole = whole;
-        fits = k.fits;
+        all = all;
         long = length-set words (at + i) w ∙ k.long;
         same =
             ap₂ (λ (l : List ℕ) (x : ℕ). set l (at + i) x) k.same (e ∙ sym (get_or-words_in bytes i low))
@@ -86,10 +78,11 @@ module _ (words₀ : List ℕ) (at : ℕ) (bytes : List ℕ) (count : ℕ) where
             ∙ ap (λ (j : ℕ). set (sets words₀ at (take i (words_in bytes))) (at + j) (get_or (words_in bytes) i 0)) l);
       }
 
-  pub keeping-end : (words : List ℕ) (i : ℕ) → Keeping words₀ at bytes count words i → count ≤ i → at < length words₀
-      → count ≡ min (length bytes / word_bytes) (length words₀ - at) → words ≡ sets words₀ at (words_in bytes)
-  keeping-end words i k h low e =
+  pub keeping-end : (words : List ℕ) (i : ℕ) → Keeping words₀ at bytes count words i → count ≤ i
+      → words ≡ sets words₀ at (words_in bytes)
+  keeping-end words i k low =
       let few = k.few in
+      let all = k.all in
       let q : i ≡ count = omega arith in
       let n : length (words_in bytes) ≡ length bytes / word_bytes = length-words_in bytes in
       k.same ∙ rw q (go (dec_le (length words₀) (at + count)) n)
@@ -97,7 +90,7 @@ module _ (words₀ : List ℕ) (at : ℕ) (bytes : List ℕ) (count : ℕ) where
       go : Dec (length words₀ ≤ at + count) → length (words_in bytes) ≡ length bytes / word_bytes
           → sets words₀ at (take count (words_in bytes)) ≡ sets words₀ at (words_in bytes)
       go (yes z) n = sets-take (words_in bytes) words₀ at count z
-      go (no z) n = ap (sets words₀ at) (take_all count (words_in bytes) (omega arith))
+      go (no z) n = let all = k.all in ap (sets words₀ at) (take_all count (words_in bytes) (omega arith))
 
 -- ---- the words of bytes behind bytes
 

@@ -35,10 +35,9 @@ fn write_head(out: &mut [u8], nodes: usize, states: usize, hits: usize) -> usize
 fn symbol_of(chapter: &[u32], node: usize) -> usize
     ensures { result ≡ symbol_of (get_or chapter.now node 0) }
 {
-    if node < chapter.len() {
-        return (chapter[node] % SYMBOL_RANGE) as usize;
-    }
-    0
+    chapter
+        .get(node)
+        .map_or(0, |word| (*word % SYMBOL_RANGE) as usize)
 }
 
 // The line of one hit: the element, its symbol and its subtree's element count.
@@ -69,10 +68,8 @@ pub fn write_lines(
         out.old out.new result }
 {
     let mut next = write_head(out, chapter.len(), states, hits.len());
-    let mut i = 0;
-    while i < hits.len() {
-        next = write_hit(out, next, alphabet, chapter, hits[i]);
-        i += 1;
+    for hit in hits {
+        next = write_hit(out, next, alphabet, chapter, *hit);
     }
     next
 }

@@ -4,7 +4,7 @@ ghost use Rattle.encoding.specs.Words.{word_bytes};
 ghost use Rattle.report.specs.Stages.{buffer_words};
 
 use super::CHAPTER_MOST;
-use encoding::word_bytes::{WORD_BYTES, least};
+use encoding::word_bytes::WORD_BYTES;
 use words::limits::{ALPHABET_MOST, EXPRESSION_MOST};
 
 // How many words are kept of each slice: one more than the most that is accepted. What follows makes no difference.
@@ -23,12 +23,12 @@ const BUFFER_WORDS: usize = BUFFER_LENGTH / WORD_BYTES;
 pub fn part_bytes(left: usize) -> usize
     ensures { result ≡ word_bytes * min left buffer_words }
 {
-    WORD_BYTES * least(left, BUFFER_WORDS)
+    WORD_BYTES * left.min(BUFFER_WORDS)
 }
 
 // How many words are kept of `count` in a slice of this length.
 pub fn kept_words(count: u32, slice_length: usize) -> usize
     ensures { result ≡ min count slice_length }
 {
-    least(count as usize, slice_length)
+    slice_length.min(count as usize)
 }
