@@ -4,12 +4,13 @@ use mathlib.Core.List.{List, [], ◌∷◌, ◌++◌, flat_map, append-nil}
 use Prim.Native.Nat.{ℕ, ◌-◌, ◌≤◌}
 use native.Mathlib.Omega.{arith}
 use lib.ListN.{length, get_or, take, drop, length-drop}
+use lib.Seq.{length-take-le}
 use borrow.Author.Tests.{eq-eqb, ne_eqb}
 use Rattle.words.specs.Limits.{rank_most}
-use Rattle.words.proofs.ScanLaws.{drop-part}
 use Rattle.automaton.specs.Transition.{epsilon, transition_words}
-use Rattle.automaton.specs.Numbering.{Port, entry_for, symbol_targets, union_targets, product_targets, closure_targets}
-use Rattle.ports.specs.Ports.{ports_in, child_in}
+use Rattle.automaton.specs.Numbering.{Port as States, entry_for, symbol_targets, union_targets, product_targets, closure_targets}
+use Rattle.ports.specs.declared.states.Port.{Port}
+use Rattle.ports.specs.Ports.{port_in, ports_in, child_in}
 use Rattle.emitter.specs.Writing.{WordsWritten}
 use Rattle.emitter.specs.declared.entries.Targets.{Targets}
 use Rattle.emitter.specs.Emission.{entry_words_most, targets_in, Targetable, Emittable}
@@ -18,60 +19,68 @@ use Rattle.emitter.proofs.EntryLaws.{epsilon_words, epsilon_words-append}
 
 -- ---- children that are one or two
 
-pub both : (ps : List ℕ) → length ps ≡ 2 → ps ≡ get_or ps 0 0 ∷ get_or ps 1 0 ∷ []
-both [] h = absurd (omega arith)
-both (p ∷ []) h = absurd (omega arith)
-both (p ∷ q ∷ []) h = refl
-both (p ∷ q ∷ x ∷ ps) h = absurd (omega arith)
+pub both : (cs : List ℕ) (ps : List Port) → length ps ≡ 2 → ports_in cs ps ≡ child_in cs ps 0 ∷ child_in cs ps 1 ∷ []
+both cs [] h = absurd (omega arith)
+both cs (p ∷ []) h = absurd (omega arith)
+both cs (p ∷ q ∷ []) h = refl
+both cs (p ∷ q ∷ x ∷ ps) h = absurd (omega arith)
 
-pub single : (ps : List ℕ) → length ps ≡ 1 → ps ≡ get_or ps 0 0 ∷ []
-single [] h = absurd (omega arith)
-single (p ∷ []) h = refl
-single (p ∷ x ∷ ps) h = absurd (omega arith)
+pub single : (cs : List ℕ) (ps : List Port) → length ps ≡ 1 → ports_in cs ps ≡ child_in cs ps 0 ∷ []
+single cs [] h = absurd (omega arith)
+single cs (p ∷ []) h = refl
+single cs (p ∷ x ∷ ps) h = absurd (omega arith)
 
 -- the part of a slice from its second word on
-abbrev pub behind_first : List ℕ → List ℕ
+abbrev pub behind_first : List Port → List Port
 behind_first ps = take (length ps - 1) (drop 1 ps)
 
-pub emittable-behind : (cs ps : List ℕ) (x at n : ℕ) → Emittable cs ps x at n → Emittable cs (behind_first ps) x at n
+pub emittable-behind : (cs : List ℕ) (ps : List Port) (x at n : ℕ) → Emittable cs ps x at n → Emittable cs (behind_first ps) x at n
 emittable-behind cs ps x at n p =
     let l = p.children in
     record {
       once = p.once;
       few = p.few;
-      children = rw (drop-part ps 1, length-drop 1 ps) (omega arith);
+      children = 
+          let rest : length (drop 1 ps) ≡ length ps - 1 = length-drop 1 ps in
+          let part : length (behind_first ps) ≡ length ps - 1 = length-take-le (length ps - 1) (drop 1 ps) (omega arith) in
+          omega arith;
       low = p.low;
       fits = p.fits;
     }
 
-module _ (cs ps : List ℕ) (b : ℕ) where
+module _ (cs : List ℕ) (ps : List Port) (b : ℕ) where
   -- the entries of both children are those of a union
   pub targets-both : length ps ≡ 2 → symbol_targets (ports_in cs ps) b ≡ union_targets (child_in cs ps 0) (child_in cs ps 1) b
   unfolding flat_map
   targets-both h =
-      ap (λ (l : List ℕ). symbol_targets (ports_in cs l) b) (both ps h)
+      ap (λ (l : List States). symbol_targets l b) (both cs ps h)
       ∙ ap (λ (l : List ℕ). entry_for (child_in cs ps 0) b ++ l) (append-nil (entry_for (child_in cs ps 1) b))
 
   targets-behind : length ps ≡ 2 → symbol_targets (ports_in cs (behind_first ps)) b ≡ entry_for (child_in cs ps 1) b
   unfolding flat_map
-  targets-behind h =
-      ap (λ (l : List ℕ). symbol_targets (ports_in cs (behind_first l)) b) (both ps h) ∙ append-nil (entry_for (child_in cs ps 1) b)
+  targets-behind h = behind ps h
+    where
+      behind : (ps : List Port) → length ps ≡ 2 → symbol_targets (ports_in cs (behind_first ps)) b ≡ entry_for (child_in cs ps 1) b
+      behind [] h = absurd (omega arith)
+      behind (p ∷ []) h = absurd (omega arith)
+      behind (p ∷ q ∷ []) h = append-nil (entry_for (port_in cs q) b)
+      behind (p ∷ q ∷ x ∷ ps) h = absurd (omega arith)
 
   targets-single : length ps ≡ 1 → symbol_targets (ports_in cs ps) b ≡ entry_for (child_in cs ps 0) b
   unfolding flat_map
-  targets-single h = ap (λ (l : List ℕ). symbol_targets (ports_in cs l) b) (single ps h) ∙ append-nil (entry_for (child_in cs ps 0) b)
+  targets-single h = ap (λ (l : List States). symbol_targets l b) (single cs ps h) ∙ append-nil (entry_for (child_in cs ps 0) b)
 
 -- ---- a product and a closure over c
 
-module _ (cs ps : List ℕ) (from b c at : ℕ) (out out' : List ℕ) (r : ℕ) where
-  abbrev F : Port
+module _ (cs : List ℕ) (ps : List Port) (from b c at : ℕ) (out out' : List ℕ) (r : ℕ) where
+  abbrev F : States
   F = child_in cs ps 0
 
-  abbrev G : Port
+  abbrev G : States
   G = child_in cs ps 1
 
   -- the transitions to the entries of these children are written
-  abbrev ToEntries : List ℕ → Type 0
+  abbrev ToEntries : List Port → Type 0
   ToEntries qs = WordsWritten rank_most at (epsilon_words from (symbol_targets (ports_in cs qs) b)) out out' r
 
   pub product-here : length ps ≡ 2 → b ≡ c → ToEntries (behind_first ps)
@@ -100,10 +109,10 @@ module _ (cs ps : List ℕ) (from b c at : ℕ) (out out' : List ℕ) (r : ℕ) 
 
 -- ---- any of the three
 
-pub targetable-said : (ps : List ℕ) (targets t : Targets) → targets ≡ t → Targetable targets ps → Targetable t ps
+pub targetable-said : (ps : List Port) (targets t : Targets) → targets ≡ t → Targetable targets ps → Targetable t ps
 targetable-said ps targets t e h = rw e at h
 
-pub targets-said : (cs ps : List ℕ) (x from b at : ℕ) (out out' : List ℕ) (r : ℕ) (targets t : Targets) (m : ℕ) → m ≤ entry_words_most
+pub targets-said : (cs : List ℕ) (ps : List Port) (x from b at : ℕ) (out out' : List ℕ) (r : ℕ) (targets t : Targets) (m : ℕ) → m ≤ entry_words_most
     → targets ≡ t → WordsWritten m at (epsilon_words from (targets_in cs ps x t b)) out out' r
     → WordsWritten entry_words_most at (epsilon_words from (targets_in cs ps x targets b)) out out' r
 targets-said cs ps x from b at out out' r targets t m le e w = rw e (words-written-same m entry_words_most at r _ _ out out' w le refl)

@@ -10,8 +10,8 @@ use Rattle.words.proofs.ListLaws.{map-append}
 use Rattle.automaton.specs.Transition.{on_symbol, transition_words, transitions_words}
 use Rattle.automaton.specs.Numbering.{full_entries, constant_transitions}
 use Rattle.automaton.proofs.TransitionLaws.{transitions_words-append}
-use Rattle.ports.specs.Ports.{every_entry, no_entry, exit_in, code_in, port_in, entry_state}
-use Rattle.ports.proofs.PortLaws.{entries-more, entries_in-every, entries_in-none, entries_in-own}
+use Rattle.ports.specs.Ports.{entry_state}
+use Rattle.ports.proofs.PortLaws.{entries-more}
 use Rattle.emitter.specs.Writing.{WordsWritten}
 use Rattle.emitter.proofs.WritingLaws.{words-written-none, words-written-same, EachWritten, each-written-more}
 
@@ -38,31 +38,3 @@ pub every-pushed-more : {cs : List ℕ} {x at : ℕ} {out out' : List ℕ} {next
     → (out'' : List ℕ) (r s : ℕ) → s ≡ entry_state x k → k < length cs → length out'' ≡ length out'
     → WordsWritten 1 next (transition_words (on_symbol (get_or cs k 0) [] s)) out' out'' r → EveryPushed cs x at out out'' r (k + 1)
 every-pushed-more {cs} {x} {k = k} w out'' r s e h l q = each-written-more w out'' r _ h l (every_words-more x cs k h) (rw e at q)
-
--- ---- the entries that a port has, where x is its exit and t its code
-
-module _ (cs : List ℕ) (p t at : ℕ) (out : List ℕ) (d : t ≡ code_in p) where
-  pub port-none : t ≡ no_entry → WordsWritten constants_most at (transitions_words (constant_transitions (port_in cs p).entries)) out out at
-  port-none f =
-      rw (entries_in-none cs (exit_in p) (code_in p) (sym d ∙ f))
-      (words-written-same 0 constants_most at at [] [] out out (words-written-none at out) (omega arith) refl)
-
-  module _ (out' : List ℕ) (r : ℕ) {x : ℕ} (e : x ≡ exit_in p) where
-    pub port-every : t ≡ every_entry → WordsWritten constants_most at (every_words x cs) out out' r
-        → WordsWritten constants_most at (transitions_words (constant_transitions (port_in cs p).entries)) out out' r
-    port-every f w = rw (entries_in-every cs (exit_in p) (code_in p) (sym d ∙ f), ← e) w
-
-    pub port-own : (t ≡ every_entry → ⊥) → (t ≡ no_entry → ⊥) → WordsWritten 1 at (transition_words (on_symbol t [] x)) out out' r
-        → WordsWritten constants_most at (transitions_words (constant_transitions (port_in cs p).entries)) out out' r
-    port-own n m w =
-        rw (entries_in-own cs (exit_in p) (code_in p) (λ g. n (d ∙ g)) (λ g. m (d ∙ g)), ← e, ← d)
-        (words-written-same 1 constants_most at r _ _ out out' w (omega arith) refl)
-
--- ---- a port without entries, for `grind`
-
-module _ (cs : List ℕ) (p : ℕ) (e : code_in p ≡ no_entry) where
-  pub none_many : length (transitions_words (constant_transitions (port_in cs p).entries)) ≡ 0
-  none_many = rw (entries_in-none cs (exit_in p) (code_in p) e)
-
-  pub none_set : (out : List ℕ) (at : ℕ) → sets out at (transitions_words (constant_transitions (port_in cs p).entries)) ≡ out
-  none_set out at = rw (entries_in-none cs (exit_in p) (code_in p) e)

@@ -1,6 +1,7 @@
 -- Laws of epsilon transitions to the entries of a word's children: one entry more, and the loop over the children.
 use mathlib.Core.Path.{◌≡◌, refl, ap, ◌∙◌, sym}
 use mathlib.Core.List.{List, [], ◌∷◌, ◌++◌, map, flat_map, append_assoc, append-nil}
+use Rattle.std.specs.Prelude.{Option, Some, None}
 use Prim.Native.Nat.{ℕ, suc, ◌+◌, ◌<◌}
 use native.Mathlib.Omega.{arith}
 use native.Mathlib.Numerals.{add-one}
@@ -8,10 +9,10 @@ use lib.ListN.{length, get_or, take}
 use lib.Seq.{take-suc}
 use Rattle.words.proofs.ListLaws.{map-append}
 use Rattle.automaton.specs.Transition.{epsilon, transition_words, transitions_words}
-use Rattle.automaton.specs.Numbering.{entry_for, epsilons, symbol_targets}
+use Rattle.automaton.specs.Numbering.{Port as States, entry_for, epsilons, symbol_targets}
 use Rattle.automaton.proofs.TransitionLaws.{transitions_words-append}
-use Rattle.ports.specs.declared.port.Entry.{Entry}
-use Rattle.ports.specs.declared.port.Entry.TheVariants.{Missing, State}
+use Rattle.ports.specs.declared.states.Port.{Port}
+use Rattle.ports.proofs.PortLaws.{child-at}
 use Rattle.ports.specs.Ports.{port_in, ports_in, child_in, states_of_entry, entry_range, Low, EntryRead}
 use Rattle.emitter.specs.Writing.{WordsWritten}
 use Rattle.emitter.proofs.WritingLaws.{words-written-none, words-written-same}
@@ -27,23 +28,26 @@ epsilon_words-append from qs rs =
 
 -- ---- to one entry
 
-module _ (to : Entry) (from at : ℕ) (out : List ℕ) where
-  pub to-missing : to ≡ Missing → WordsWritten 1 at (epsilon_words from (states_of_entry to)) out out at
+module _ (to : Option ℕ) (from at : ℕ) (out : List ℕ) where
+  pub to-missing : to ≡ None → WordsWritten 1 at (epsilon_words from (states_of_entry to)) out out at
   to-missing e = rw e (words-written-same 0 1 at at [] [] out out (words-written-none at out) (omega arith) refl)
 
-  pub to-state : (s : ℕ) → to ≡ State s → (out' : List ℕ) (r : ℕ) → WordsWritten 1 at (transition_words (epsilon from s)) out out' r
+  pub to-state : (s : ℕ) → to ≡ Some s → (out' : List ℕ) (r : ℕ) → WordsWritten 1 at (transition_words (epsilon from s)) out out' r
       → WordsWritten 1 at (epsilon_words from (states_of_entry to)) out out' r
   to-state s e out' r w = rw e w
 
-pub low-state : (to : Entry) (s : ℕ) → to ≡ State s → Low to → s < entry_range
+pub low-state : (to : Option ℕ) (s : ℕ) → to ≡ Some s → Low to → s < entry_range
 low-state to s e h = rw e at h
 
--- the entry of a port for the constant c
-pub to-entry : (cs : List ℕ) (p b c from at : ℕ) (to : Entry) (out out' : List ℕ) (r : ℕ) → EntryRead cs p b to → b ≡ c
+-- the entry of the child with index i for the constant c
+pub to-entry : (cs : List ℕ) (ps : List Port) (i : ℕ) (p : Port) (b c from at : ℕ) (to : Option ℕ) (out out' : List ℕ) (r : ℕ)
+    → i < length ps → p ≡ get_or ps i p → EntryRead cs p b to → b ≡ c
     → WordsWritten 1 at (epsilon_words from (states_of_entry to)) out out' r
-    → WordsWritten 1 at (epsilon_words from (entry_for (port_in cs p) c)) out out' r
-to-entry cs p b c from at to out out' r h e w =
-    words-written-same 1 1 at r _ _ out out' w (omega arith) (ap (epsilon_words from) (h.states ∙ ap (entry_for (port_in cs p)) e))
+    → WordsWritten 1 at (epsilon_words from (entry_for (child_in cs ps i) c)) out out' r
+to-entry cs ps i p b c from at to out out' r l d h e w =
+    words-written-same 1 1 at r _ _ out out' w (omega arith)
+    (ap (epsilon_words from)
+    (h.states ∙ ap (entry_for (port_in cs p)) e ∙ ap (λ (P : States). entry_for P c) (sym (child-at cs ps i p l d))))
 
 -- ---- to the children's entries
 
@@ -52,27 +56,30 @@ unfolding flat_map
 flat_map-append f [] k = refl
 flat_map-append f (x ∷ l) k = ap (λ (t : List ℕ). f x ++ t) (flat_map-append f l k) ∙ sym (append_assoc (f x) (flat_map f l) (flat_map f k))
 
-children-entries : (cs ps : List ℕ) (b i : ℕ) → i < length ps
-    → symbol_targets (ports_in cs (take (suc i) ps)) b ≡ symbol_targets (ports_in cs (take i ps)) b ++ entry_for (child_in cs ps i) b
+children-entries : (cs : List ℕ) (ps : List Port) (b i : ℕ) (p : Port) → i < length ps → p ≡ get_or ps i p
+    → symbol_targets (ports_in cs (take (suc i) ps)) b ≡ symbol_targets (ports_in cs (take i ps)) b ++ entry_for (port_in cs p) b
 unfolding flat_map
-children-entries cs ps b i h =
-    ap (λ (l : List ℕ). symbol_targets (ports_in cs l) b) (take-suc ps i 0 h)
-    ∙ ap (flat_map (λ P. entry_for P b)) (map-append (port_in cs) (take i ps) (get_or ps i 0 ∷ []))
-    ∙ flat_map-append (λ P. entry_for P b) (map (port_in cs) (take i ps)) (child_in cs ps i ∷ [])
-    ∙ ap (λ (l : List ℕ). symbol_targets (ports_in cs (take i ps)) b ++ l) (append-nil (entry_for (child_in cs ps i) b))
+children-entries cs ps b i p h d =
+    ap (λ (l : List Port). symbol_targets (ports_in cs l) b) (take-suc ps i p h)
+    ∙ ap (λ (q : Port). symbol_targets (ports_in cs (take i ps ++ q ∷ [])) b) (sym d)
+    ∙ ap (flat_map (λ P. entry_for P b)) (map-append (port_in cs) (take i ps) (p ∷ []))
+    ∙ flat_map-append (λ P. entry_for P b) (map (port_in cs) (take i ps)) (port_in cs p ∷ [])
+    ∙ ap (λ (l : List ℕ). symbol_targets (ports_in cs (take i ps)) b ++ l) (append-nil (entry_for (port_in cs p) b))
 
 -- the loop after i children
-abbrev pub ToChildren : List ℕ → List ℕ → ℕ → ℕ → ℕ → List ℕ → List ℕ → ℕ → ℕ → Type 0
+abbrev pub ToChildren : List ℕ → List Port → ℕ → ℕ → ℕ → List ℕ → List ℕ → ℕ → ℕ → Type 0
 ToChildren cs ps from b = EachWritten (λ l. epsilon_words from (symbol_targets (ports_in cs l) b)) 1 ps
 
-pub children-none : (cs ps : List ℕ) (from b at : ℕ) (out : List ℕ) → ToChildren cs ps from b at out out at 0
+pub children-none : (cs : List ℕ) (ps : List Port) (from b at : ℕ) (out : List ℕ) → ToChildren cs ps from b at out out at 0
 unfolding flat_map
 children-none cs ps from b at out = each-written-none _ 1 ps at out refl
 
-pub children-more : (cs ps : List ℕ) (from b : ℕ) {at : ℕ} {out out' : List ℕ} {next i : ℕ} → ToChildren cs ps from b at out out' next i
-    → (to : Entry) (out'' : List ℕ) (r : ℕ) → i < length ps → EntryRead cs (get_or ps i 0) b to → length out'' ≡ length out'
+pub children-more : (cs : List ℕ) (ps : List Port) (from b : ℕ) {at : ℕ} {out out' : List ℕ} {next i : ℕ}
+    → ToChildren cs ps from b at out out' next i
+    → (p : Port) (to : Option ℕ) (out'' : List ℕ) (r : ℕ) → i < length ps → p ≡ get_or ps i p → EntryRead cs p b to
+    → length out'' ≡ length out'
     → WordsWritten 1 next (epsilon_words from (states_of_entry to)) out' out'' r → ToChildren cs ps from b at out out'' r (i + 1)
-children-more cs ps from b {i = i} w to out'' r h e l q =
+children-more cs ps from b {i = i} w p to out'' r h d e l q =
     each-written-more w out'' r _ h l
-    (rw (add-one i, children-entries cs ps b i h, ← e.states)
+    (rw (add-one i, children-entries cs ps b i p h d, ← e.states)
     (epsilon_words-append from (symbol_targets (ports_in cs (take i ps)) b) (states_of_entry to))) q

@@ -13,41 +13,42 @@ use Rattle.words.specs.declared.word.Kind.TheVariants.{Symbol, Union, Product, C
 use Rattle.words.proofs.ListLaws.{length_none}
 use Rattle.words.proofs.DecodedLaws.{Left, left-all}
 use Rattle.automaton.specs.Transition.{Transition, transitions_words}
-use Rattle.automaton.specs.Numbering.{Port, symbol_transitions, union_transitions, product_transitions, closure_transitions}
+use Rattle.automaton.specs.Numbering.{Port as States, symbol_transitions, union_transitions, product_transitions, closure_transitions}
 use Rattle.automaton.specs.Numbering.{anything_transitions, own_at, own_transitions}
 use Rattle.automaton.proofs.EntryStates.{own-kind}
+use Rattle.ports.specs.declared.states.Port.{Port}
 use Rattle.ports.specs.Ports.{ports_in, child_in}
 use Rattle.emitter.specs.Writing.{WordsWritten}
 use Rattle.emitter.proofs.WritingLaws.{words-written-none, words-written-same}
 use Rattle.emitter.proofs.ChildTargetLaws.{both, single}
 
 -- a symbol over no children has none
-pub symbol-none : (f : ℕ) (E : Port) (cs ps : List ℕ) → length ps ≡ 0 → symbol_transitions f E (ports_in cs ps) ≡ []
+pub symbol-none : (f : ℕ) (E : States) (cs : List ℕ) (ps : List Port) → length ps ≡ 0 → symbol_transitions f E (ports_in cs ps) ≡ []
 symbol-none f E cs [] h = refl
 symbol-none f E cs (p ∷ ps) h = absurd (omega arith)
 
-module _ (a : List ℕ) (w : ℕ) (E : Port) (cs : List ℕ) where
-  abbrev own : List ℕ → List Transition
+module _ (a : List ℕ) (w : ℕ) (E : States) (cs : List ℕ) where
+  abbrev own : List Port → List Transition
   own ps = own_transitions a w E (ports_in cs ps)
 
-  pub own-symbol : (ps : List ℕ) → kind_of w ≡ symbol_kind → own ps ≡ symbol_transitions (low_byte w) E (ports_in cs ps)
+  pub own-symbol : (ps : List Port) → kind_of w ≡ symbol_kind → own ps ≡ symbol_transitions (low_byte w) E (ports_in cs ps)
   own-symbol ps e = own-kind a w symbol_kind E (ports_in cs ps) e
 
-  pub own-union : (ps : List ℕ) → length ps ≡ 2 → kind_of w ≡ union_kind → own ps ≡ union_transitions E (child_in cs ps 0) (child_in cs ps 1)
-  own-union ps h e = ap own (both ps h) ∙ own-kind a w union_kind E (child_in cs ps 0 ∷ child_in cs ps 1 ∷ []) e
+  pub own-union : (ps : List Port) → length ps ≡ 2 → kind_of w ≡ union_kind → own ps ≡ union_transitions E (child_in cs ps 0) (child_in cs ps 1)
+  own-union ps h e = ap (own_transitions a w E) (both cs ps h) ∙ own-kind a w union_kind E (child_in cs ps 0 ∷ child_in cs ps 1 ∷ []) e
 
-  pub own-product : (ps : List ℕ) → length ps ≡ 2 → kind_of w ≡ product_kind
+  pub own-product : (ps : List Port) → length ps ≡ 2 → kind_of w ≡ product_kind
       → own ps ≡ product_transitions (low_byte w) E (child_in cs ps 0) (child_in cs ps 1)
-  own-product ps h e = ap own (both ps h) ∙ own-kind a w product_kind E (child_in cs ps 0 ∷ child_in cs ps 1 ∷ []) e
+  own-product ps h e = ap (own_transitions a w E) (both cs ps h) ∙ own-kind a w product_kind E (child_in cs ps 0 ∷ child_in cs ps 1 ∷ []) e
 
-  pub own-closure : (ps : List ℕ) → length ps ≡ 1 → kind_of w ≡ closure_kind → own ps ≡ closure_transitions (low_byte w) E (child_in cs ps 0)
-  own-closure ps h e = ap own (single ps h) ∙ own-kind a w closure_kind E (child_in cs ps 0 ∷ []) e
+  pub own-closure : (ps : List Port) → length ps ≡ 1 → kind_of w ≡ closure_kind → own ps ≡ closure_transitions (low_byte w) E (child_in cs ps 0)
+  own-closure ps h e = ap (own_transitions a w E) (single cs ps h) ∙ own-kind a w closure_kind E (child_in cs ps 0 ∷ []) e
 
-  pub own-anything : (ps : List ℕ) → kind_of w ≡ anything_kind → own ps ≡ anything_transitions a E
+  pub own-anything : (ps : List Port) → kind_of w ≡ anything_kind → own ps ≡ anything_transitions a E
   own-anything ps e = own-kind a w anything_kind E (ports_in cs ps) e
 
   -- a word of any other kind has none
-  pub own-other : (ps : List ℕ) (k : Case) → kind_in k ≡ kind_of w → Left (Symbol ∷ Union ∷ Product ∷ Closure ∷ Anything ∷ []) k → own ps ≡ []
+  pub own-other : (ps : List Port) (k : Case) → kind_in k ≡ kind_of w → Left (Symbol ∷ Union ∷ Product ∷ Closure ∷ Anything ∷ []) k → own ps ≡ []
   own-other ps k decoded left =
       let Ps = ports_in cs ps in
       own-kind a w (kind_in k) E Ps (sym decoded)

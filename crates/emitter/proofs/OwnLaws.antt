@@ -1,15 +1,17 @@
 -- Laws of the own transitions of a word by its kind: they are what the writers leave one after the other.
 use mathlib.Core.Path.{◌≡◌, refl, ap, ◌∙◌, sym}
 use mathlib.Core.List.{List, [], ◌∷◌, ◌++◌, map, append_assoc}
-use Prim.Native.Nat.{ℕ, ◌+◌, ◌≤◌}
+use Prim.Native.Nat.{ℕ, ◌+◌, ◌<◌, ◌≤◌}
 use native.Mathlib.Omega.{arith}
 use lib.ListN.{length, get_or}
 use Rattle.words.specs.Limits.{rank_most}
 use Rattle.automaton.specs.Transition.{Transition, on_symbol, epsilon, source_words, transition_words, transitions_words}
-use Rattle.automaton.specs.Numbering.{Port, full_entries, entry_for, epsilons, symbol_targets, union_targets, product_targets, closure_targets}
+use Rattle.automaton.specs.Numbering.{Port as States, full_entries, entry_for, epsilons, symbol_targets, union_targets, product_targets, closure_targets}
 use Rattle.automaton.specs.Numbering.{symbol_transitions, union_transitions, product_transitions, closure_transitions, full_port}
 use Rattle.automaton.proofs.TransitionLaws.{transitions_words-append, entry_epsilons-same}
+use Rattle.ports.specs.declared.states.Port.{Port}
 use Rattle.ports.specs.Ports.{exit_in, exits_in, ports_in, child_in}
+use Rattle.ports.proofs.PortLaws.{child-at}
 use Rattle.emitter.specs.Writing.{WordsWritten}
 use Rattle.emitter.specs.Emission.{every_symbol_most, entries_words_most, own_words_most, Emittable}
 use Rattle.emitter.proofs.WritingLaws.{words-written-more, words-written-same}
@@ -19,7 +21,7 @@ use Rattle.emitter.proofs.EntryEpsilonLaws.{entry_epsilon_words}
 use Rattle.emitter.proofs.SourceLaws.{sources-exits}
 
 -- what is left of the room behind a word's first transitions
-pub emittable-later : (cs ps : List ℕ) (x at next : ℕ) → Emittable cs ps x at own_words_most → next ≤ at + every_symbol_most
+pub emittable-later : (cs : List ℕ) (ps : List Port) (x at next : ℕ) → Emittable cs ps x at own_words_most → next ≤ at + every_symbol_most
     → Emittable cs ps x next entries_words_most
 emittable-later cs ps x at next p h =
     let fits = p.fits in
@@ -31,19 +33,24 @@ emittable-later cs ps x at next p h =
       fits = omega arith;
     }
 
+-- the exit of the child with index i
+pub child-exit : (cs : List ℕ) (ps : List Port) (i : ℕ) (p : Port) {x : ℕ} → i < length ps → p ≡ get_or ps i p → x ≡ exit_in p
+    → x ≡ (child_in cs ps i).exit
+child-exit cs ps i p h d e = e ∙ ap (λ (P : States). P.exit) (sym (child-at cs ps i p h d))
+
 -- ---- what the writers leave, kind by kind
 
-module _ (cs ps : List ℕ) (x at : ℕ) where
-  abbrev E : Port
+module _ (cs : List ℕ) (ps : List Port) (x at : ℕ) where
+  abbrev E : States
   E = full_port cs x
 
-  abbrev F : Port
+  abbrev F : States
   F = child_in cs ps 0
 
-  abbrev G : Port
+  abbrev G : States
   G = child_in cs ps 1
 
-  pub union-own : (out o₁ o₂ : List ℕ) (n r y z : ℕ) → length ps ≡ 2 → y ≡ exit_in (get_or ps 0 0) → z ≡ exit_in (get_or ps 1 0)
+  pub union-own : (out o₁ o₂ : List ℕ) (n r y z : ℕ) → length ps ≡ 2 → y ≡ F.exit → z ≡ G.exit
       → WordsWritten 2 at (transitions_words (epsilon y x ∷ epsilon z x ∷ [])) out o₁ n
       → WordsWritten entries_words_most n (entry_epsilon_words x cs (symbol_targets (ports_in cs ps))) o₁ o₂ r
       → WordsWritten own_words_most at (transitions_words (union_transitions E F G)) out o₂ r
@@ -74,14 +81,14 @@ module _ (cs ps : List ℕ) (x at : ℕ) where
         (sources-exits cs ps)
         ∙ some ps h)
       where
-        some : (ps : List ℕ) → (length ps ≡ 0 → ⊥)
+        some : (ps : List Port) → (length ps ≡ 0 → ⊥)
             → transition_words (on_symbol f [] x)
             ++ (source_words (map (λ P. P.exit) (ports_in cs ps)) ++ entry_epsilon_words x cs (symbol_targets (ports_in cs ps)))
             ≡ transitions_words (symbol_transitions f E (ports_in cs ps))
         some [] h = absurd (h refl)
         some (p ∷ ps) h = refl
 
-    pub product-own : (y z c : ℕ) → y ≡ exit_in (get_or ps 0 0) → z ≡ exit_in (get_or ps 1 0)
+    pub product-own : (y z c : ℕ) → y ≡ F.exit → z ≡ G.exit
         → WordsWritten 1 at (transition_words (epsilon y x)) out o₁ n₁ → WordsWritten 1 n₁ (epsilon_words z (entry_for F c)) o₁ o₂ n₂
         → WordsWritten entries_words_most n₂ (entry_epsilon_words x cs (product_targets c F G)) o₂ o₃ r
         → WordsWritten own_words_most at (transitions_words (product_transitions c E F G)) out o₃ r
@@ -91,7 +98,7 @@ module _ (cs ps : List ℕ) (x at : ℕ) where
         (ap (λ (l : List ℕ). transition_words (epsilon F.exit x) ++ l)
         (sym (transitions_words-append (epsilons G.exit (entry_for F c)) _))))
 
-    pub closure-own : (y c : ℕ) → y ≡ exit_in (get_or ps 0 0)
+    pub closure-own : (y c : ℕ) → y ≡ F.exit
         → WordsWritten 1 at (epsilon_words y (entry_for F c)) out o₁ n₁ → WordsWritten 1 n₁ (transition_words (epsilon y x)) o₁ o₂ n₂
         → WordsWritten entries_words_most n₂ (entry_epsilon_words x cs (closure_targets c x F)) o₂ o₃ r
         → WordsWritten own_words_most at (transitions_words (closure_transitions c E F)) out o₃ r

@@ -58,12 +58,12 @@ words-written-one at w out out' e = record { words = e; next = refl; short = ome
 
 -- ---- the loop over members, each of at most `most` words, after k of them
 
-pub record EachWritten (words_of : List ℕ → List ℕ) (most : ℕ) (members : List ℕ) (at : ℕ) (out out' : List ℕ) (next k : ℕ) : Type 0 where
+pub record EachWritten {A : Type 0} (words_of : List A → List ℕ) (most : ℕ) (members : List A) (at : ℕ) (out out' : List ℕ) (next k : ℕ) : Type 0 where
   pub within : k ≤ length members
   pub long : length out' ≡ length out
   pub written : WordsWritten (k * most) at (words_of (take k members)) out out' next
 
-pub each-written-none : (words_of : List ℕ → List ℕ) (most : ℕ) (members : List ℕ) (at : ℕ) (out : List ℕ) → words_of [] ≡ []
+pub each-written-none : {A : Type 0} (words_of : List A → List ℕ) (most : ℕ) (members : List A) (at : ℕ) (out : List ℕ) → words_of [] ≡ []
     → EachWritten words_of most members at out out at 0
 each-written-none words_of most members at out e =
     record {
@@ -72,7 +72,7 @@ each-written-none words_of most members at out e =
       written = words-written-same 0 (0 * most) at at [] (words_of []) out out (words-written-none at out) (omega arith) (sym e);
     }
 
-module _ {words_of : List ℕ → List ℕ} {most : ℕ} {members : List ℕ} {at : ℕ} {out out' : List ℕ} {next k : ℕ}
+module _ {A : Type 0} {words_of : List A → List ℕ} {most : ℕ} {members : List A} {at : ℕ} {out out' : List ℕ} {next k : ℕ}
     (w : EachWritten words_of most members at out out' next k) where
   pub each-written-more : (out'' : List ℕ) (r : ℕ) (ws : List ℕ) → k < length members → length out'' ≡ length out'
       → words_of (take (k + 1) members) ≡ words_of (take k members) ++ ws → WordsWritten most next ws out' out'' r

@@ -4,6 +4,7 @@ use Rattle.words.specs.Limits.{alphabet_most, constants_most, rank_most}
 use Rattle.words.specs.Alphabet.{rank_of}
 use Rattle.words.specs.Word.{low_byte, closure_kind, product_kind, union_kind, symbol_range, kind_of}
 use Rattle.automaton.specs.Numbering.{symbol_targets, product_targets, closure_targets, anything_targets}
+use Rattle.ports.specs.declared.states.Port.{Port}
 use Rattle.ports.specs.Ports.{exit_range, EachOnce, ports_in, child_in}
 use Rattle.emitter.specs.Writing.{last_index}
 use Rattle.emitter.specs.declared.entries.Targets.{Targets}
@@ -31,21 +32,21 @@ abbrev pub own_words_most : ℕ
 own_words_most = every_symbol_most + entries_words_most
 
 -- where the entry for a constant leads, by what is said of the word, which has exit x and children with ports ps
-abbrev pub targets_in : List ℕ → List ℕ → ℕ → Targets → ℕ → List ℕ
+abbrev pub targets_in : List ℕ → List Port → ℕ → Targets → ℕ → List ℕ
 targets_in cs ps x Children b = symbol_targets (ports_in cs ps) b
 targets_in cs ps x (Product c) b = product_targets c (child_in cs ps 0) (child_in cs ps 1) b
 targets_in cs ps x (Closure c) b = closure_targets c x (child_in cs ps 0) b
 targets_in cs ps x Exit b = anything_targets x b
 
 -- a word with these targets has as many children as ps has ports
-abbrev pub Targetable : Targets → List ℕ → Type 0
+abbrev pub Targetable : Targets → List Port → Type 0
 Targetable Children ps = Unit {0}
 Targetable (Product c) ps = length ps ≡ 2
 Targetable (Closure c) ps = length ps ≡ 1
 Targetable Exit ps = Unit {0}
 
 -- the constants cs, a word's children with ports ps, its exit x, and an index from which on n words may be written
-pub record Emittable (cs ps : List ℕ) (x at n : ℕ) : Type 0 where
+pub record Emittable (cs : List ℕ) (ps : List Port) (x at n : ℕ) : Type 0 where
   pub once : EachOnce cs
   pub few : length cs ≤ constants_most
   pub children : length ps ≤ rank_most
@@ -62,7 +63,7 @@ abbrev pub ListedConstant : List ℕ → ℕ → Type 0
 ListedConstant cs c = (k : ℕ) × (k < length cs) × (get_or cs k 0 ≡ c)
 
 -- word w takes children with ports ps, and its c is one of the constants
-pub record OwnEmittable (cs ps : List ℕ) (w : ℕ) : Type 0 where
+pub record OwnEmittable (cs : List ℕ) (ps : List Port) (w : ℕ) : Type 0 where
   pub union : kind_of w ≡ union_kind → length ps ≡ 2
   pub product : kind_of w ≡ product_kind → (length ps ≡ 2) × ListedConstant cs (low_byte w)
   pub closure : kind_of w ≡ closure_kind → (length ps ≡ 1) × ListedConstant cs (low_byte w)

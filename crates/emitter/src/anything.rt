@@ -10,6 +10,7 @@ ghost use Rattle.emitter.specs.Emission.{symbol_words_most, every_symbol_most, o
 use super::entries::{Targets, push_entries};
 use super::writer::{push, push_transition};
 use alphabet::rank;
+use ports::states::Port;
 use words::word::{KIND_UNIT, SOURCE};
 
 // The part states of a symbol move over so many children: the exit in every part.
@@ -18,10 +19,8 @@ fn push_exits(out: &mut [u32], at: usize, exit: u32, children: usize) -> usize
     ensures { WordsWritten rank_most at (source_words (replicate children exit)) out.old out.new result }
 {
     let mut next = at;
-    let mut i = 0;
-    while i < children {
+    for _ in 0..children {
         next = push(out, next, SOURCE * KIND_UNIT + exit);
-        i += 1;
     }
     next
 }
@@ -50,10 +49,8 @@ fn push_every_symbol(alphabet: &[u32], out: &mut [u32], at: usize, exit: u32) ->
         out.old out.new result }
 {
     let mut next = at;
-    let mut symbol = 0;
-    while symbol < alphabet.len() {
+    for symbol in 0..alphabet.len() {
         next = push_on_symbol(alphabet, out, next, exit, symbol);
-        symbol += 1;
     }
     next
 }
@@ -62,7 +59,7 @@ fn push_every_symbol(alphabet: &[u32], out: &mut [u32], at: usize, exit: u32) ->
 pub(crate) fn push_anything(
     alphabet: &[u32],
     constants: &[u32],
-    ports: &[u32],
+    ports: &[Port],
     out: &mut [u32],
     at: usize,
     exit: u32,

@@ -8,7 +8,8 @@ ghost use Rattle.emitter.specs.Writing.{WordsWritten};
 ghost use Rattle.emitter.specs.Emission.{ConstantsEmittable};
 
 use super::writer::push_transition;
-use ports::port::{EVERY_ENTRY, NO_ENTRY, code_of, entry_state, exit_of};
+use ports::port::{code_of, entry_state, exit_of};
+use ports::states::{Entries, Port};
 
 // Into an entry for each constant.
 fn push_every(constants: &[u32], out: &mut [u32], at: usize, exit: u32) -> usize
@@ -19,30 +20,24 @@ fn push_every(constants: &[u32], out: &mut [u32], at: usize, exit: u32) -> usize
         out.old out.new result }
 {
     let mut next = at;
-    let mut k = 0;
-    while k < constants.len() {
+    for k in 0..constants.len() {
         let entry = entry_state(exit, k);
         next = push_transition(out, next, constants[k], entry);
-        k += 1;
     }
     next
 }
 
 // Into the entries of a port.
-#[tactic(auto, using(crate::proofs::ConstantTransitionLaws::none_many, crate::proofs::ConstantTransitionLaws::none_set))]
-pub fn push_constants(constants: &[u32], port: u32, out: &mut [u32], at: usize) -> usize
+pub fn push_constants(constants: &[u32], port: Port, out: &mut [u32], at: usize) -> usize
     requires { ConstantsEmittable constants.now at }
     ensures { WordsWritten constants_most at
         (transitions_words (constant_transitions (port_in constants.now port).entries))
         out.old out.new result }
 {
     let exit = exit_of(port);
-    let code = code_of(port);
-    if code == EVERY_ENTRY {
-        return push_every(constants, out, at, exit);
+    match code_of(port) {
+        Entries::Every => push_every(constants, out, at, exit),
+        Entries::Single(c) => push_transition(out, at, u32::from(c), exit),
+        Entries::Missing => at,
     }
-    if code == NO_ENTRY {
-        return at;
-    }
-    push_transition(out, at, code, exit)
 }

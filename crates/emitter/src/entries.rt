@@ -8,7 +8,8 @@ ghost use Rattle.emitter.specs.Writing.{WordsWritten, last_index};
 ghost use Rattle.emitter.specs.Emission.{entry_words_most, entries_words_most, targets_in, Targetable, Emittable};
 
 use super::writer::push_epsilon;
-use ports::port::{Entry, entry_at, entry_state};
+use ports::port::{entry_at, entry_state};
+use ports::states::Port;
 
 // Where a word's entry for a constant leads: to the children's entries for it, in a product over c at c not to the first
 // child's, in a closure over c at c also to the word's own exit; for anything to its own exit.
@@ -21,20 +22,20 @@ pub(crate) enum Targets {
 }
 
 // "A move that names a missing entry is omitted."
-pub(crate) fn push_to(out: &mut [u32], at: usize, from: u32, to: Entry) -> usize
+pub(crate) fn push_to(out: &mut [u32], at: usize, from: u32, to: Option<u32>) -> usize
     requires { (at < last_index) × ((from < entry_range) × Low to) }
     ensures { WordsWritten 1 at (transitions_words (epsilons from (states_of_entry to))) out.old out.new result }
 {
     match to {
-        Entry::Missing => at,
-        Entry::State(state) => push_epsilon(out, at, from, state),
+        Some(state) => push_epsilon(out, at, from, state),
+        None => at,
     }
 }
 
 // From the entry for constant k to the children's entries for it.
 fn push_to_children(
     constants: &[u32],
-    ports: &[u32],
+    ports: &[Port],
     out: &mut [u32],
     at: usize,
     exit: u32,
@@ -49,11 +50,8 @@ fn push_to_children(
 {
     let from = entry_state(exit, k);
     let mut next = at;
-    let mut i = 0;
-    while i < ports.len() {
-        let to = entry_at(constants, ports[i], k);
-        next = push_to(out, next, from, to);
-        i += 1;
+    for port in ports {
+        next = push_to(out, next, from, entry_at(constants, *port, k));
     }
     next
 }
@@ -61,7 +59,7 @@ fn push_to_children(
 // The same for a product over c: at c not to the first child.
 fn push_product_entry(
     constants: &[u32],
-    ports: &[u32],
+    ports: &[Port],
     out: &mut [u32],
     at: usize,
     exit: u32,
@@ -85,7 +83,7 @@ fn push_product_entry(
 // The same for a closure over c: at c also to its own exit.
 fn push_closure_entry(
     constants: &[u32],
-    ports: &[u32],
+    ports: &[Port],
     out: &mut [u32],
     at: usize,
     exit: u32,
@@ -109,7 +107,7 @@ fn push_closure_entry(
 // From the entry for constant k.
 fn push_entry(
     constants: &[u32],
-    ports: &[u32],
+    ports: &[Port],
     out: &mut [u32],
     at: usize,
     exit: u32,
@@ -134,7 +132,7 @@ fn push_entry(
 // From each entry of a word with this exit.
 pub(crate) fn push_entries(
     constants: &[u32],
-    ports: &[u32],
+    ports: &[Port],
     out: &mut [u32],
     at: usize,
     exit: u32,
@@ -148,10 +146,8 @@ pub(crate) fn push_entries(
         out.old out.new result }
 {
     let mut next = at;
-    let mut k = 0;
-    while k < constants.len() {
+    for k in 0..constants.len() {
         next = push_entry(constants, ports, out, next, exit, targets, k);
-        k += 1;
     }
     next
 }

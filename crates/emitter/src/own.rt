@@ -13,6 +13,7 @@ use super::anything::push_anything;
 use super::entries::{Targets, push_entries, push_to};
 use super::writer::{push, push_epsilon, push_transition};
 use ports::port::{entry_at, exit_of};
+use ports::states::Port;
 use words::word::{KIND_UNIT, Kind, SOURCE, SYMBOL_RANGE, kind_of};
 
 // The index of a constant.
@@ -20,26 +21,17 @@ fn constant_index(constants: &[u32], c: u32) -> usize
     requires { ListedConstant constants.now c }
     ensures { (result < length constants.now) × (get_or constants.now result 0 ≡ c) }
 {
-    let mut k = 0;
-    while k < constants.len() {
-        if constants[k] == c {
-            return k;
-        }
-        k += 1;
-    }
-    k
+    constants.iter().position(|&w| w == c).unwrap_or(0)
 }
 
 // The part states of a symbol move: the children's exits.
-fn push_sources(ports: &[u32], out: &mut [u32], at: usize) -> usize
+fn push_sources(ports: &[Port], out: &mut [u32], at: usize) -> usize
     requires { (length ports.now ≤ rank_most) × (at + rank_most ≤ last_index) }
     ensures { WordsWritten rank_most at (source_words (exits_in ports.now)) out.old out.new result }
 {
     let mut next = at;
-    let mut i = 0;
-    while i < ports.len() {
-        next = push(out, next, SOURCE * KIND_UNIT + exit_of(ports[i]));
-        i += 1;
+    for port in ports {
+        next = push(out, next, SOURCE * KIND_UNIT + exit_of(*port));
     }
     next
 }
@@ -47,7 +39,7 @@ fn push_sources(ports: &[u32], out: &mut [u32], at: usize) -> usize
 // A symbol over its children; a constant has no transitions.
 fn push_symbol(
     constants: &[u32],
-    ports: &[u32],
+    ports: &[Port],
     out: &mut [u32],
     at: usize,
     exit: u32,
@@ -80,7 +72,7 @@ fn push_both(out: &mut [u32], at: usize, first: u32, second: u32, to: u32) -> us
 }
 
 // A union of two children.
-fn push_union(constants: &[u32], ports: &[u32], out: &mut [u32], at: usize, exit: u32) -> usize
+fn push_union(constants: &[u32], ports: &[Port], out: &mut [u32], at: usize, exit: u32) -> usize
     requires emittable { Emittable constants.now ports.now exit at own_words_most }
     requires ports_len { length ports.now ≡ 2 }
     ensures { WordsWritten own_words_most at
@@ -98,7 +90,7 @@ fn push_union(constants: &[u32], ports: &[u32], out: &mut [u32], at: usize, exit
 // A product over c.
 fn push_product(
     constants: &[u32],
-    ports: &[u32],
+    ports: &[Port],
     out: &mut [u32],
     at: usize,
     exit: u32,
@@ -112,8 +104,9 @@ fn push_product(
         (child_in constants.now ports.now 1)))
         out.old out.new result }
 {
-    let entry = entry_at(constants, ports[0], constant_index(constants, c));
-    let second = push_epsilon(out, at, exit_of(ports[0]), exit);
+    let first = ports[0];
+    let entry = entry_at(constants, first, constant_index(constants, c));
+    let second = push_epsilon(out, at, exit_of(first), exit);
     let next = push_to(out, second, exit_of(ports[1]), entry);
     push_entries(constants, ports, out, next, exit, Targets::Product(c))
 }
@@ -121,7 +114,7 @@ fn push_product(
 // A closure over c.
 fn push_closure(
     constants: &[u32],
-    ports: &[u32],
+    ports: &[Port],
     out: &mut [u32],
     at: usize,
     exit: u32,
@@ -134,9 +127,10 @@ fn push_closure(
         (child_in constants.now ports.now 0)))
         out.old out.new result }
 {
-    let entry = entry_at(constants, ports[0], constant_index(constants, c));
-    let second = push_to(out, at, exit_of(ports[0]), entry);
-    let next = push_epsilon(out, second, exit_of(ports[0]), exit);
+    let first = ports[0];
+    let entry = entry_at(constants, first, constant_index(constants, c));
+    let second = push_to(out, at, exit_of(first), entry);
+    let next = push_epsilon(out, second, exit_of(first), exit);
     push_entries(constants, ports, out, next, exit, Targets::Closure(c))
 }
 
@@ -144,7 +138,7 @@ fn push_closure(
 pub fn push_own(
     alphabet: &[u32],
     constants: &[u32],
-    ports: &[u32],
+    ports: &[Port],
     out: &mut [u32],
     at: usize,
     exit: u32,

@@ -1,5 +1,4 @@
 -- `emitter::entries::push_entries` meets its contract: before each turn the transitions for the first k constants are written.
-use Prim.Native.Nat.{◌-◌}
 use lib.ListN.{length}
 use Rattle.emitter.specs.Emission.{targets_in}
 use Rattle.emitter.proofs.EntryEpsilonLaws.{EntriesWritten}
@@ -8,6 +7,3 @@ use Rattle.emitter.proofs.entries.push_entries.Given as goal
 abbrev pub invariant-loop-k : goal.invariant-loop-k
 invariant-loop-k l =
     EntriesWritten l.constants (targets_in l.constants l.ports l.exit l.targets) l.exit l.at l.initial.out l.out l.next l.k
-
-abbrev pub decreases-loop-k : goal.decreases-loop-k
-decreases-loop-k l = length l.constants - l.k

@@ -1,12 +1,8 @@
 -- `emitter::entries::push_to_children` meets its contract: before each turn the transitions to the first i children are written.
-use Prim.Native.Nat.{◌-◌}
 use lib.ListN.{length, get_or}
 use Rattle.emitter.proofs.EntryLaws.{ToChildren}
 use Rattle.emitter.proofs.entries.push_to_children.Given as goal
 
-abbrev pub invariant-loop-i : goal.invariant-loop-i
-invariant-loop-i l =
-    ToChildren l.constants l.ports l.from (get_or l.constants l.k 0) l.at l.initial.out l.out l.next l.i
-
-abbrev pub decreases-loop-i : goal.decreases-loop-i
-decreases-loop-i l = length l.ports - l.i
+abbrev pub invariant-loop-port : goal.invariant-loop-port
+invariant-loop-port l =
+    ToChildren l.constants l.ports l.from (get_or l.constants l.k 0) l.at l.initial.out l.out l.next l.port-index

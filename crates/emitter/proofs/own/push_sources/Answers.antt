@@ -6,30 +6,30 @@ use Rattle.emitter.proofs.WritingLaws.{words-written-next, each-written-none, ea
 use Rattle.emitter.proofs.SourceLaws.{sourced-more}
 use Rattle.emitter.proofs.own.push_sources.Goals as goal
 
-pub loop-i-init : goal.loop-i-init
-loop-i-init c = each-written-none _ _ _ _ _ refl
+pub loop-port-init : goal.loop-port-init
+loop-port-init c = each-written-none _ _ _ _ _ refl
 
 pub push-next-requires : goal.push-next-requires
 push-next-requires c =
-    let w = c.loop-i.invariant in
+    let w = c.loop-port.invariant in
     let p = c.requires in
     let n = words-written-next _ _ _ _ _ _ w.written in
-    let t = c.loop-i-test.true in
+    let t = c.loop-port-test.true in
     let l = p.0 in
     let fits = p.1 in
     omega arith
 
-pub loop-i-preserved : goal.loop-i-preserved
-loop-i-preserved c =
-    sourced-more c.loop-i.invariant _ _ _
-    c.loop-i-test.true c.exit_of.ensures.0
+pub loop-port-preserved : goal.loop-port-preserved
+loop-port-preserved c =
+    sourced-more c.loop-port.invariant _ _ _ _
+    c.loop-port-test.true c.port-item.is c.exit_of.ensures.0
     c.push-next.auto.out c.push-next.ensures
 
 pub shape_of-out : goal.shape_of-out
-shape_of-out c = c.loop-i.invariant.long
+shape_of-out c = c.loop-port.invariant.long
 
 pub returns : goal.returns
 returns c =
-    let i = c.loop-i.invariant.within in
+    let i = c.loop-port.invariant.within in
     let few = c.requires.0 in
-    each-written-end c.loop-i.invariant rank_most c.loop-i-test.false (omega arith)
+    each-written-end c.loop-port.invariant rank_most c.loop-port-test.false (omega arith)
