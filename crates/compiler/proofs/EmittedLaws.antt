@@ -25,9 +25,10 @@ use Rattle.words.proofs.AcceptedAlphabet.{AcceptedAlphabet, arity-most}
 use Rattle.words.proofs.ExpressionWordLaws.{ExpressionWord, symbol_word, empty_word, union_word, product_word, closure_word, anything_word}
 use Rattle.words.proofs.ExpressionWordLaws.{expression_word}
 use Rattle.automaton.specs.Transition.{Transition, transitions_words}
-use Rattle.automaton.specs.Numbering.{Port, entries_at, states_of, port_of, own_transitions, transitions_from, full_port}
+use Rattle.automaton.specs.Numbering.{Port as States, entries_at, states_of, port_of, own_transitions, transitions_from, full_port}
 use Rattle.automaton.proofs.TransitionLaws.{transitions_words-append}
 use Rattle.automaton.proofs.EntryStates.{entries-kind, port-full, own-kind}
+use Rattle.ports.specs.declared.states.Port.{Port}
 use Rattle.ports.specs.Ports.{port_in, ports_in}
 use Rattle.emitter.specs.Writing.{WordsWritten, last_index}
 use Rattle.emitter.specs.Emission.{own_words_most, Emittable, OwnEmittable}
@@ -39,37 +40,37 @@ use Rattle.compiler.proofs.KnownConstants.{constants-once, word-emittable}
 
 module _ (cs : List ℕ) where
   -- the ports of the numbers, the last on top
-  abbrev pub stack_in : List ℕ → List Port
+  abbrev pub stack_in : List Port → List States
   stack_in ps = reverse (ports_in cs ps)
 
-  stack-pushed : (f k : List ℕ) → stack_in (f ++ k) ≡ reverse_aux (ports_in cs k) (stack_in f)
+  stack-pushed : (f k : List Port) → stack_in (f ++ k) ≡ reverse_aux (ports_in cs k) (stack_in f)
   stack-pushed f k = ap reverse (map-append (port_in cs) f k) ∙ reverse_aux-append (ports_in cs f) (ports_in cs k) []
 
 -- the first h members are those below index b and the part from b to h
-first-parts : (l : List ℕ) (b h : ℕ) → b ≤ h → take h l ≡ take b l ++ take (h - b) (drop b l)
+first-parts : {A : Type 0} (l : List A) (b h : ℕ) → b ≤ h → take h l ≡ take b l ++ take (h - b) (drop b l)
 first-parts l b h le =
     let e : b + (h - b) ≡ h = omega arith in
     ap (λ (n : ℕ). take n l) (sym e) ∙ take-add b (h - b) l
 
-length_part : (l : List ℕ) (b h : ℕ) → b ≤ h → h ≤ length l → length (take (h - b) (drop b l)) ≡ h - b
+length_part : {A : Type 0} (l : List A) (b h : ℕ) → b ≤ h → h ≤ length l → length (take (h - b) (drop b l)) ≡ h - b
 length_part l b h le few = length-take-le (h - b) (drop b l) (rw (length-drop b l) (omega arith))
 
 -- ---- one word more
 
 module _ (a cs : List ℕ) (known : cs ≡ constants_of a) where
   -- the own transitions of a word are those of one with an entry for each constant, or there are none
-  own-full : (n w : ℕ) (ps : List ℕ) → is_expression_word a w ≡ true → length ps ≡ arity a w
+  own-full : (n w : ℕ) (ps : List Port) → is_expression_word a w ≡ true → length ps ≡ arity a w
       → own_transitions a w (port_of a n w) (ports_in cs ps) ≡ own_transitions a w (full_port cs n) (ports_in cs ps)
   own-full n w ps h r = go ps r (expression_word a w h)
     where
       full : (k : Kind) → kind_of w ≡ k → entries_at (rank_of a (low_byte w)) k ≡ true → port_of a n w ≡ full_port cs n
       full k e f = port-full a w n (entries-kind a w k e ∙ f) ∙ ap (λ (ds : List ℕ). full_port ds n) (sym known)
 
-      alike : (ps : List ℕ) → port_of a n w ≡ full_port cs n
+      alike : (ps : List Port) → port_of a n w ≡ full_port cs n
           → own_transitions a w (port_of a n w) (ports_in cs ps) ≡ own_transitions a w (full_port cs n) (ports_in cs ps)
-      alike ps e = ap (λ (E : Port). own_transitions a w E (ports_in cs ps)) e
+      alike ps e = ap (λ (E : States). own_transitions a w E (ports_in cs ps)) e
 
-      go : (ps : List ℕ) → length ps ≡ arity a w → ExpressionWord a w
+      go : (ps : List Port) → length ps ≡ arity a w → ExpressionWord a w
           → own_transitions a w (port_of a n w) (ports_in cs ps) ≡ own_transitions a w (full_port cs n) (ports_in cs ps)
       go [] r (symbol_word e l q) = own-kind a w symbol_kind (port_of a n w) [] e ∙ sym (own-kind a w symbol_kind (full_port cs n) [] e)
       go (p ∷ ps) r (symbol_word e l q) = alike (p ∷ ps) (full symbol_kind e (rw (sym q ∙ sym r) (ap not (eqb-suc-zero (length ps)))))
@@ -80,7 +81,7 @@ module _ (a cs : List ℕ) (known : cs ≡ constants_of a) where
       go ps r (closure_word e c q) = alike ps (full closure_kind e refl)
       go ps r (anything_word e q) = alike ps (full anything_kind e refl)
 
-  transitions-more : (n w : ℕ) (ws f k : List ℕ) (p : ℕ) → is_expression_word a w ≡ true → length k ≡ arity a w → port_in cs p ≡ port_of a n w
+  transitions-more : (n w : ℕ) (ws : List ℕ) (f k : List Port) (p : Port) → is_expression_word a w ≡ true → length k ≡ arity a w → port_in cs p ≡ port_of a n w
       → transitions_from a n (w ∷ ws) (stack_in cs (f ++ k))
       ≡ own_transitions a w (full_port cs n) (ports_in cs k) ++ transitions_from a (n + states_of a w) ws (stack_in cs (f ++ p ∷ []))
   unfolding transitions_from
@@ -88,9 +89,9 @@ module _ (a cs : List ℕ) (known : cs ≡ constants_of a) where
       let m : arity a w ≡ length (ports_in cs k) = sym (length-map k (port_in cs) ∙ r) in
       let s = stack-pushed cs f k in
       let c : reverse (take (arity a w) (stack_in cs (f ++ k))) ≡ ports_in cs k =
-      ap (λ (l : List Port). reverse (take (arity a w) l)) s ∙ take-pushed (ports_in cs k) (stack_in cs f) (arity a w) m in
+      ap (λ (l : List States). reverse (take (arity a w) l)) s ∙ take-pushed (ports_in cs k) (stack_in cs f) (arity a w) m in
       let d : port_of a n w ∷ drop (arity a w) (stack_in cs (f ++ k)) ≡ stack_in cs (f ++ p ∷ []) =
-      ap₂ (λ (P : Port) (l : List Port). P ∷ l) (sym e)
+      ap₂ (λ (P : States) (l : List States). P ∷ l) (sym e)
       (ap (drop (arity a w)) s ∙ drop-pushed (ports_in cs k) (stack_in cs f) (arity a w) m)
       ∙ sym (stack-pushed cs f (p ∷ [])) in
       ap₂ (λ (x y : List Transition). x ++ y) (ap (own_transitions a w (port_of a n w)) c ∙ own-full n w k h r)
@@ -98,7 +99,7 @@ module _ (a cs : List ℕ) (known : cs ≡ constants_of a) where
 
 -- ---- the loop after i words
 
-pub record Emitted (a cs e : List ℕ) (at : ℕ) (out out' stack : List ℕ) (height state next i : ℕ) : Type 0 where
+pub record Emitted (a cs e : List ℕ) (at : ℕ) (out out' : List ℕ) (stack : List Port) (height state next i : ℕ) : Type 0 where
   pub within : i ≤ length e
   pub words : all (is_expression_word a) (drop i e) ≡ true
   pub shape : trees a height (drop i e) 1 ≡ true
@@ -110,7 +111,7 @@ pub record Emitted (a cs e : List ℕ) (at : ℕ) (out out' stack : List ℕ) (h
   pub written : WordsWritten (own_words_most * i) at (transitions_words done) out out' next
   pub left : transitions_from a 0 e [] ≡ done ++ transitions_from a state (drop i e) (stack_in cs (take height stack))
 
-pub emitted-none : (a cs e : List ℕ) (at : ℕ) (out stack : List ℕ) → all (is_expression_word a) e ≡ true → trees a 0 e 1 ≡ true
+pub emitted-none : (a cs e : List ℕ) (at : ℕ) (out : List ℕ) (stack : List Port) → all (is_expression_word a) e ≡ true → trees a 0 e 1 ≡ true
     → length stack ≡ expression_most
     → Emitted a cs e at out out stack 0 0 at 0
 emitted-none a cs e at out stack h t l =
@@ -127,7 +128,7 @@ emitted-none a cs e at out stack h t l =
       left = refl;
     }
 
-module _ {a cs e : List ℕ} {at : ℕ} {out out' stack : List ℕ} {height state next i : ℕ}
+module _ {a cs e : List ℕ} {at : ℕ} {out out' : List ℕ} {stack : List Port} {height state next i : ℕ}
     (m : Emitted a cs e at out out' stack height state next i) where
   -- word i is a rule word whose children are on the stack
   pub emitted-word : i < length e → is_expression_word a (get_or e i 0) ≡ true
@@ -178,7 +179,7 @@ module _ {a cs e : List ℕ} {at : ℕ} {out out' stack : List ℕ} {height stat
       word-emittable a cs known (take (height - base) (drop base stack)) (get_or e i 0) (emitted-word h)
       (length_part stack base height (omega arith) (omega arith) ∙ t ∙ q)
 
-  pub emitted-more : (r base p s n : ℕ) (out'' : List ℕ) → cs ≡ constants_of a → i < length e → length e ≤ expression_most
+  pub emitted-more : (r base : ℕ) (p : Port) (s n : ℕ) (out'' : List ℕ) → cs ≡ constants_of a → i < length e → length e ≤ expression_most
       → r ≡ arity a (get_or e i 0) → base ≡ height - r
       → WordsWritten own_words_most next
       (transitions_words (own_transitions a (get_or e i 0) (full_port cs state) (ports_in cs (take (height - base) (drop base stack)))))
@@ -215,13 +216,13 @@ module _ {a cs e : List ℕ} {at : ℕ} {out out' stack : List ℕ} {height stat
             (sym (transitions_words-append m.done own));
         left =
             m.left
-            ∙ ap₂ (λ (x y : List ℕ). m.done ++ transitions_from a state x (stack_in cs y)) (drop-step e i h)
+            ∙ ap₂ (λ (x : List ℕ) (y : List Port). m.done ++ transitions_from a state x (stack_in cs y)) (drop-step e i h)
             (first-parts stack base height b≤)
             ∙ ap (λ (x : List Transition). m.done ++ x) (transitions-more a cs known state word (drop (i + 1) e)
             (take base stack) part p (emitted-word h) len ep)
             ∙ sym (append_assoc m.done own (transitions_from a (state + states_of a word) (drop (i + 1) e) (stack_in cs
             (take base stack ++ p ∷ []))))
-            ∙ ap₂ (λ (k : ℕ) (x : List ℕ). (m.done ++ own) ++ transitions_from a (state + k) (drop (i + 1) e) (stack_in cs x)) (sym es)
+            ∙ ap₂ (λ (k : ℕ) (x : List Port). (m.done ++ own) ++ transitions_from a (state + k) (drop (i + 1) e) (stack_in cs x)) (sym es)
             (sym new);
       }
 

@@ -10,12 +10,15 @@ use lib.Seq.{sets}
 use borrow.Author.Tests.{lt-ltb, le-ltb}
 use Rattle.words.specs.Limits.{states_most, table_most}
 use Rattle.words.specs.Refusal.{refusal}
+use Rattle.words.specs.Decoded.{number_in}
+use Rattle.words.specs.declared.refusal.Refusal.{Refusal}
+use Rattle.words.specs.declared.refusal.Refusal.TheVariants.{NoAlphabet, WrongConstants, WrongLength, NotExpressionWords, NotOneExpression, TooManyStates, TableTooLong, NoTable, WrongCount, NotNodes}
+use Rattle.words.specs.declared.refusal.Refusal.TheVariants.{NotOneTree, MarksTooShort, ListTooShort, NoElement, NoReplacement, ResultTooLong, TooHigh, TooManyWords, HasHoles, WrongTotals}
 use Rattle.words.specs.Answer.{refused, accepted}
-use Rattle.words.proofs.RefusalLaws.{here, next, found-refusal, passes}
 use Rattle.words.proofs.ListLaws.{sets-whole}
 use Rattle.words.proofs.AnswerLaws.{answer-refused, answer-accepted, exit-refused, exit-accepted}
 use Rattle.automaton.specs.Numbering.{states_after, compiled}
-use Rattle.operations.specs.Compile.{compiled_table, too_many_states, too_many_words, table_too_long, rule_refusals, compile_refusals, compile_fault}
+use Rattle.operations.specs.Compile.{compiled_table, too_many_states, too_many_words, table_too_long, rule_refusals, compile_fault}
 use Rattle.operations.specs.Compile.{compile_answer, compile_exit}
 use Rattle.operations.proofs.AcceptedLaws.{compile-accepted}
 
@@ -48,35 +51,44 @@ module _ (a e : List ℕ) (table_length n : ℕ) (t : n ≡ 0 + length (compiled
   unfolding table_too_long
   table-within l = le-ltb table_length (length (compiled_table a e)) (omega arith)
 
--- a rule of which no number applies, for `grind`: 25, and then 7
-module _ (a e : List ℕ) (table_length f n : ℕ) (rule : f ≡ refusal (rule_refusals a e)) (z : f ≡ 0)
-    (t : n ≡ 0 + length (compiled_table a e)) where
-  pub refused_25 : table_most < n → 25 ≡ compile_fault a e table_length
-  refused_25 l =
-      found-refusal (compile_refusals a e table_length) (passes (rule_refusals a e) refl rule z (here (words-above a e n t l)))
-
-  pub refused_7 : n ≤ table_most → table_length < n → 7 ≡ compile_fault a e table_length
-  refused_7 l m =
-      found-refusal (compile_refusals a e table_length)
-      (passes (rule_refusals a e) refl rule z (next (words-within a e n t l) (here (table-over a e table_length n t m))))
-
-pub ruleset refused_size = (refused_25, refused_7)
-
 -- ---- the answer and the table slice at exit
 
-module _ (a e slice : List ℕ) (f : ℕ) (h : f ≡ compile_fault a e (length slice)) where
-  pub compile-refused : (f ≡ 0 → ⊥) → (refused f ≡ compile_answer a e slice) × (slice ≡ compile_exit a e slice)
-  unfolding compile_answer compile_exit
-  compile-refused n = (answer-refused h _ n, exit-refused h _ slice n)
+number-some : (d : Refusal) → number_in d ≡ 0 → ⊥
+number-some NoAlphabet h = omega arith
+number-some WrongConstants h = omega arith
+number-some WrongLength h = omega arith
+number-some NotExpressionWords h = omega arith
+number-some NotOneExpression h = omega arith
+number-some TooManyStates h = omega arith
+number-some TableTooLong h = omega arith
+number-some NoTable h = omega arith
+number-some WrongCount h = omega arith
+number-some NotNodes h = omega arith
+number-some NotOneTree h = omega arith
+number-some MarksTooShort h = omega arith
+number-some ListTooShort h = omega arith
+number-some NoElement h = omega arith
+number-some NoReplacement h = omega arith
+number-some ResultTooLong h = omega arith
+number-some TooHigh h = omega arith
+number-some TooManyWords h = omega arith
+number-some HasHoles h = omega arith
+number-some WrongTotals h = omega arith
 
-  module _ (z : f ≡ 0) where
+module _ (a e slice : List ℕ) where
+  pub compile-refused : (d : Refusal) → number_in d ≡ compile_fault a e (length slice)
+      → (refused (number_in d) ≡ compile_answer a e slice) × (slice ≡ compile_exit a e slice)
+  unfolding compile_answer compile_exit
+  compile-refused d h = (answer-refused h _ (number-some d), exit-refused h _ slice (number-some d))
+
+  module _ (h : 0 ≡ compile_fault a e (length slice)) where
     pub rule-passes : refusal (rule_refusals a e) ≡ 0
-    rule-passes = (compile-accepted a e (length slice) (sym h ∙ z)).rule_table.rule
+    rule-passes = (compile-accepted a e (length slice) (sym h)).rule_table.rule
 
     pub compile-accepts : (n : ℕ) (out : List ℕ) → n ≡ 0 + length (compiled_table a e) → out ≡ sets slice 0 (compiled_table a e)
         → (accepted (n ∷ []) ≡ compile_answer a e slice) × (out ≡ compile_exit a e slice)
     unfolding compile_answer compile_exit
     compile-accepts n out t w = (
-      ap (λ (k : ℕ). accepted (k ∷ [])) (t ∙ zero-add _) ∙ answer-accepted h _ z,
-      w ∙ sets-whole (compiled_table a e) slice (compile-accepted a e (length slice) (sym h ∙ z)).fits ∙ exit-accepted h _ slice z,
+      ap (λ (k : ℕ). accepted (k ∷ [])) (t ∙ zero-add _) ∙ answer-accepted h _ refl,
+      w ∙ sets-whole (compiled_table a e) slice (compile-accepted a e (length slice) (sym h)).fits ∙ exit-accepted h _ slice refl,
     )

@@ -18,6 +18,7 @@ use Rattle.words.proofs.HoleLaws.{may_name-listed}
 use Rattle.words.proofs.ConstantLaws.{constants-ascending}
 use Rattle.words.proofs.WordLaws.{arity-kind, is_expression_word-facts}
 use Rattle.automaton.specs.Numbering.{numbered, lookup}
+use Rattle.ports.specs.declared.states.Port.{Port}
 use Rattle.ports.specs.Ports.{EachOnce}
 use Rattle.emitter.specs.Emission.{ListedConstant, OwnEmittable}
 
@@ -56,7 +57,7 @@ module _ (a cs : List ℕ) (known : cs ≡ constants_of a) where
   substitution-listed : (c : ℕ) → may_name a c ≡ true → ListedConstant cs c
   substitution-listed c h = rw known (member-listed c (constants_of a) (may_name-listed a c h))
 
-  pub word-emittable : (ps : List ℕ) (w : ℕ) → is_expression_word a w ≡ true → length ps ≡ arity a w → OwnEmittable cs ps w
+  pub word-emittable : (ps : List Port) (w : ℕ) → is_expression_word a w ≡ true → length ps ≡ arity a w → OwnEmittable cs ps w
   word-emittable ps w h r =
       record {
         union = λ t. r ∙ arity-kind a w union_kind t;

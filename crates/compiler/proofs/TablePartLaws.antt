@@ -13,12 +13,13 @@ use Rattle.words.specs.Alphabet.{constants_of}
 use Rattle.words.specs.ExpressionWords.{is_expression_word}
 use Rattle.words.proofs.TestLaws.{and-true, all_right}
 use Rattle.automaton.specs.Transition.{transitions_words, length_word}
-use Rattle.automaton.specs.Numbering.{Port, states_of, port_of, states_after, transitions_from, last_port, compiled}
+use Rattle.automaton.specs.Numbering.{Port as States, states_of, port_of, states_after, transitions_from, last_port, compiled}
 use Rattle.automaton.specs.Numbering.{constant_transitions}
 use Rattle.automaton.proofs.EntryStates.{port-exit}
 use Rattle.automaton.proofs.TransitionLaws.{transitions_words-append}
 use Rattle.automaton.proofs.WordNumbering.{last_port-snoc}
 use Rattle.operations.specs.Compile.{compiled_table}
+use Rattle.ports.specs.declared.states.Port.{Port}
 use Rattle.ports.specs.Ports.{port_in}
 use Rattle.emitter.specs.Writing.{WordsWritten}
 use Rattle.emitter.proofs.WritingLaws.{words-written-more, words-written-same, words-written-around}
@@ -70,7 +71,7 @@ table-parts a e ms h =
 
 -- the four writers one after the other, that of the length word last; x and s are the last word's exit and the state count, p its
 -- port
-pub table-written : (a cs e : List ℕ) (some : 0 < length e) (x s p : ℕ) (out o₁ o₂ o₃ o₄ : List ℕ) (n₁ n₂ r n₄ : ℕ) → cs ≡ constants_of a
+pub table-written : (a cs e : List ℕ) (some : 0 < length e) (x s : ℕ) (p : Port) (out o₁ o₂ o₃ o₄ : List ℕ) (n₁ n₂ r n₄ : ℕ) → cs ≡ constants_of a
     → x ≡ states_after a 0 (take (length e - 1) e) → s ≡ states_of a (get_or e (length e - 1) 0)
     → port_in (constants_of a) p ≡ port_of a x (get_or e (length e - 1) 0)
     → WordsWritten 1 0 (word_of head_kind (above_state (x + s) x) ∷ []) out o₁ n₁
@@ -82,7 +83,7 @@ table-written a cs e some x s p out o₁ o₂ o₃ o₄ n₁ n₂ r n₄ known e
     let w₀ = get_or e (length e - 1) 0 in
     let port : port_in cs p ≡ last_port a e =
     ap (λ (ds : List ℕ). port_in ds p) known ∙ ep ∙ ap (λ (n : ℕ). port_of a n w₀) ex ∙ sym (last_port-last a e some) in
-    let exit : x ≡ (last_port a e).exit = sym (port-exit a w₀ x) ∙ ap (λ (P : Port). P.exit) (sym ep ∙ ap (λ (ds : List ℕ). port_in ds p)
+    let exit : x ≡ (last_port a e).exit = sym (port-exit a w₀ x) ∙ ap (λ (P : States). P.exit) (sym ep ∙ ap (λ (ds : List ℕ). port_in ds p)
     (sym known) ∙ port) in
     let states : x + s ≡ states_after a 0 e = ap₂ (λ (m n : ℕ). m + n) ex es ∙ sym (states-last a e some) in
     let own = transitions_words (transitions_from a 0 e []) in
@@ -92,4 +93,4 @@ table-written a cs e some x s p out o₁ o₂ o₃ o₄ n₁ n₂ r n₄ known e
     words-written-same compiled_words_most compiled_words_most 0 r _ _ out o₄
     (words-written-around (constants_most + all_own_words_most) r _ _ n₁ n₄ _ out o₁ o₃ o₄ h moves l) (omega arith)
     (ap₂ (λ (k n : ℕ). word_of head_kind k ∷ length_word n ∷ ms) (ap₂ above_state states exit) moves.next
-    ∙ table-parts a e ms (ap (λ (P : Port). transitions_words (constant_transitions P.entries) ++ own) port))
+    ∙ table-parts a e ms (ap (λ (P : States). transitions_words (constant_transitions P.entries) ++ own) port))

@@ -1,9 +1,8 @@
 -- Compile's answer as document 01 has it: a refusal's number, or the table's word count.
-use Rattle.std.specs.Prelude.{[], ◌∷◌}
-use Rattle.words.specs.Answer.{Answer, refused, accepted}
-use Rattle.compiler.specs.declared.Compiled.{Compiled}
-use Rattle.compiler.specs.declared.Compiled.TheVariants.{Table, Refused}
+use Rattle.std.specs.Prelude.{ℕ, [], ◌∷◌, Result}
+use Rattle.words.specs.Answer.{Answer}
+use Rattle.words.specs.Decoded.{answer_in}
+use Rattle.words.specs.declared.refusal.Refusal.{Refusal}
 
-abbrev pub answer_in_compiled : Compiled → Answer
-answer_in_compiled (Table count) = accepted (count ∷ [])
-answer_in_compiled (Refused number) = refused number
+abbrev pub answer_in_compiled : Result ℕ Refusal → Answer
+answer_in_compiled = answer_in (λ count. count ∷ [])

@@ -1,11 +1,9 @@
 -- What the compiler's inner functions are given, and how many states and words there are at most. It serves these functions.
-use Rattle.std.specs.Prelude.{ℕ, ◌+◌, ◌*◌, ◌<◌, ◌≤◌, ◌≡◌, true, List, length}
-use Rattle.words.specs.Limits.{alphabet_most, constants_most, expression_most}
+use Rattle.std.specs.Prelude.{ℕ, ◌+◌, ◌*◌, ◌≤◌, ◌≡◌, List, length}
+use Rattle.words.specs.Limits.{constants_most, expression_most}
 use Rattle.words.specs.Refusal.{refusal}
 use Rattle.words.specs.Alphabet.{constants_of}
-use Rattle.words.specs.ExpressionWords.{is_expression_word}
 use Rattle.operations.specs.Compile.{rule_refusals}
-use Rattle.ports.specs.Ports.{exit_range}
 use Rattle.emitter.specs.Writing.{last_index}
 use Rattle.emitter.specs.Emission.{own_words_most}
 
@@ -25,12 +23,6 @@ compiled_words_most = 2 + constants_most + all_own_words_most
 pub record StatesCountable (a : List ℕ) (count : ℕ) : Type 0 where
   pub constants : count ≡ length (constants_of a)
   pub few : count ≤ constants_most
-
--- a word of a rule and its exit
-pub record PortMakeable (a : List ℕ) (exit w : ℕ) : Type 0 where
-  pub symbols : length a ≤ alphabet_most
-  pub word : is_expression_word a w ≡ true
-  pub low : exit < exit_range
 
 -- an alphabet and a rule that refusals 1 to 6 let pass, the alphabet's constants, and an index from which on the rule's own
 -- transitions may be written

@@ -2,6 +2,7 @@
 #![tactic(auto)]
 
 ghost use Rattle.std.specs.Prelude.{◌≡◌};
+ghost use Rattle.words.specs.Decoded.{fault_in};
 ghost use Rattle.words.specs.Refusal.{refusal};
 ghost use Rattle.operations.specs.Compile.{rule_refusals, compile_fault, compile_answer, compile_exit};
 ghost use Rattle.compiler.specs.CompileAnswer.{answer_in_compiled};
@@ -11,67 +12,49 @@ use states::states_after;
 use syntax::expression::expression_fault;
 use table::write_table;
 use words::limits::{STATES_MOST, TABLE_MOST};
+use words::refusal::Refusal;
 
 mod states;
 mod table;
 
-// The answer: the table's word count, or the documents' number of a refusal.
-#[derive(Drop)]
-pub enum Compiled {
-    Table(usize),
-    Refused(u32),
-}
-
-// Of an alphabet and a rule: the first number that applies, or 0.
-fn rule_fault(alphabet: &[u32], expression: &[u32]) -> u32
-    ensures { result ≡ refusal (rule_refusals alphabet.now expression.now) }
+// Of an alphabet and a rule: the first refusal that applies.
+#[tactic(auto, unfolding(operations::specs::Compile::too_many_states, automaton::specs::Numbering::compiled))]
+fn rule_fault(alphabet: &[u32], expression: &[u32]) -> Result<(), Refusal>
+    ensures { fault_in result ≡ refusal (rule_refusals alphabet.now expression.now) }
 {
-    let wrong_alphabet = alphabet_fault(alphabet);
-    if wrong_alphabet != 0 {
-        return wrong_alphabet;
-    }
-    let wrong_expression = expression_fault(alphabet, expression);
-    if wrong_expression != 0 {
-        return wrong_expression;
-    }
+    alphabet_fault(alphabet)?;
+    expression_fault(alphabet, expression)?;
     let count = count_constants(alphabet);
     let states = states_after(alphabet, count, expression);
     if states > STATES_MOST as u32 {
-        return 6;
+        return Err(Refusal::TooManyStates);
     }
-    0
+    Ok(())
 }
 
-// The documents' number of the first refusal that applies, or 0, for a table slice of this length. The table's words are counted by
-// writing them into a slice of one word; those past its end are left out.
-#[tactic(auto, using(crate::proofs::FaultLaws::refused_size))]
-fn compile_fault(alphabet: &[u32], expression: &[u32], table_length: usize) -> u32
-    ensures { result ≡ compile_fault alphabet.now expression.now table_length }
+// The first refusal that applies for a table slice of this length. The table's words are counted by writing them into a slice of one
+// word; those past its end are left out.
+#[tactic(auto, unfolding(operations::specs::Compile::too_many_words, operations::specs::Compile::table_too_long))]
+fn compile_fault(alphabet: &[u32], expression: &[u32], table_length: usize) -> Result<(), Refusal>
+    ensures { fault_in result ≡ compile_fault alphabet.now expression.now table_length }
 {
-    let fault = rule_fault(alphabet, expression);
-    if fault != 0 {
-        return fault;
-    }
+    rule_fault(alphabet, expression)?;
     let mut small = [0u32; 1];
     let size = write_table(alphabet, expression, &mut small);
     if size > TABLE_MOST {
-        return 25;
+        return Err(Refusal::TooManyWords);
     }
     if table_length < size {
-        return 7;
+        return Err(Refusal::TableTooLong);
     }
-    0
+    Ok(())
 }
 
 // Writes the table of the rule into the first words of the slice and answers its word count. A refused call changes no word.
-pub fn compile(alphabet: &[u32], rule: &[u32], table: &mut [u32]) -> Compiled
+pub fn compile(alphabet: &[u32], rule: &[u32], table: &mut [u32]) -> Result<usize, Refusal>
     ensures answer { answer_in_compiled result ≡ compile_answer alphabet.now rule.now table.old }
     ensures table { table.new ≡ compile_exit alphabet.now rule.now table.old }
 {
-    let fault = compile_fault(alphabet, rule, table.len());
-    if fault != 0 {
-        return Compiled::Refused(fault);
-    }
-    let size = write_table(alphabet, rule, table);
-    Compiled::Table(size)
+    compile_fault(alphabet, rule, table.len())?;
+    Ok(write_table(alphabet, rule, table))
 }

@@ -1,13 +1,14 @@
 // The states of rule words: how many each has, and a word's port.
-ghost use Rattle.std.specs.Prelude.{◌≡◌, ◌*◌, ◌≤◌, length};
+ghost use Rattle.std.specs.Prelude.{◌≡◌, ◌*◌, ◌<◌, ◌≤◌, length};
 ghost use Rattle.words.specs.Limits.{expression_most};
 ghost use Rattle.words.specs.Alphabet.{constants_of};
 ghost use Rattle.automaton.specs.Numbering.{has_entries, states_of, states_after, port_of};
-ghost use Rattle.ports.specs.Ports.{port_in};
-ghost use Rattle.compiler.specs.Compiling.{word_states_most, StatesCountable, PortMakeable};
+ghost use Rattle.ports.specs.Ports.{exit_range, port_in};
+ghost use Rattle.compiler.specs.Compiling.{word_states_most, StatesCountable};
 
 use alphabet::rank;
-use ports::port::{EVERY_ENTRY, NO_ENTRY, port_of};
+use ports::port::port_of;
+use ports::states::{Entries, Port};
 use words::word::{Kind, SYMBOL_RANGE, kind_of};
 
 // Whether a word has an entry for each constant.
@@ -44,25 +45,23 @@ pub(crate) fn states_after(alphabet: &[u32], count: usize, expression: &[u32]) -
         × (result ≤ word_states_most * length expression.now) }
 {
     let mut state: u32 = 0;
-    let mut i = 0;
-    while i < expression.len() {
-        state += states_of(alphabet, count, expression[i]);
-        i += 1;
+    for w in expression {
+        state += states_of(alphabet, count, *w);
     }
     state
 }
 
 // The port of a word with this exit.
-pub(crate) fn word_port(alphabet: &[u32], exit: u32, w: u32) -> u32
-    requires { PortMakeable alphabet.now exit w }
+pub(crate) fn word_port(alphabet: &[u32], exit: u32, w: u32) -> Port
+    requires { exit < exit_range }
     ensures { port_in (constants_of alphabet.now) result ≡ port_of alphabet.now exit w }
 {
     if has_entries(alphabet, w) {
-        return port_of(exit, EVERY_ENTRY);
+        return port_of(exit, Entries::Every);
     }
     let kind = kind_of(w);
     match kind {
-        Kind::Symbol => port_of(exit, w % SYMBOL_RANGE),
-        _ => port_of(exit, NO_ENTRY),
+        Kind::Symbol => port_of(exit, Entries::Single((w % SYMBOL_RANGE) as u8)),
+        _ => port_of(exit, Entries::Missing),
     }
 }

@@ -12,11 +12,18 @@ use alphabet::{arity, write_constants};
 use emitter::constants::push_constants;
 use emitter::own::push_own;
 use emitter::writer::push;
+use ports::states::{Entries, Port};
 use words::limits::{CONSTANTS_MOST, EXPRESSION_MOST};
 use words::word::{HEAD, KIND_UNIT, LENGTH, STATE_RANGE};
 
 // Where the moves begin: behind the head and the length word.
 const FIRST_MOVE: usize = 2;
+
+// What stands where no word waits.
+const NO_PORT: Port = Port {
+    exit: 0,
+    entries: Entries::Missing,
+};
 
 // The own transitions of the rule's words in order. The ports of the words that wait for their parent stand on a stack.
 fn write_words(
@@ -31,13 +38,11 @@ fn write_words(
         (transitions_words (transitions_from alphabet.now 0 expression.now []))
         out.old out.new result }
 {
-    let mut stack = [0u32; EXPRESSION_MOST];
+    let mut stack = [NO_PORT; EXPRESSION_MOST];
     let mut height: usize = 0;
     let mut state: u32 = 0;
     let mut next = at;
-    let mut i = 0;
-    while i < expression.len() {
-        let w = expression[i];
+    for &w in expression {
         let base = height - arity(alphabet, w);
         next = push_own(
             alphabet,
@@ -51,7 +56,6 @@ fn write_words(
         stack[base] = word_port(alphabet, state, w);
         height = base + 1;
         state += states_of(alphabet, constants.len(), w);
-        i += 1;
     }
     next
 }

@@ -3,7 +3,7 @@ use mathlib.Core.Path.{◌≡◌, refl, ap, ◌∙◌, sym}
 use mathlib.Core.List.{List, [], ◌∷◌, ◌++◌, flat_map, append-nil}
 use Prim.Native.Nat.{ℕ, ◌-◌, ◌≤◌}
 use native.Mathlib.Omega.{arith}
-use lib.ListN.{length, get_or, take, drop, length-drop}
+use lib.ListN.{length, take, drop, length-drop}
 use lib.Seq.{length-take-le}
 use borrow.Author.Tests.{eq-eqb, ne_eqb}
 use Rattle.words.specs.Limits.{rank_most}
@@ -40,7 +40,7 @@ emittable-behind cs ps x at n p =
     record {
       once = p.once;
       few = p.few;
-      children = 
+      children =
           let rest : length (drop 1 ps) ≡ length ps - 1 = length-drop 1 ps in
           let part : length (behind_first ps) ≡ length ps - 1 = length-take-le (length ps - 1) (drop 1 ps) (omega arith) in
           omega arith;

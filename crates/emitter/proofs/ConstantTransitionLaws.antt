@@ -1,11 +1,8 @@
 -- Laws of the constants' symbol moves into entries, and of the loop that writes them.
-use mathlib.Core.Path.{◌≡◌, refl, ap, ◌∙◌, sym}
+use mathlib.Core.Path.{◌≡◌, ap, ◌∙◌}
 use mathlib.Core.List.{List, [], ◌∷◌, ◌++◌}
 use Prim.Native.Nat.{ℕ, ◌+◌, ◌<◌}
-use native.Mathlib.Omega.{arith}
 use lib.ListN.{length, get_or, take}
-use lib.Seq.{sets}
-use Rattle.words.specs.Limits.{constants_most}
 use Rattle.words.proofs.ListLaws.{map-append}
 use Rattle.automaton.specs.Transition.{on_symbol, transition_words, transitions_words}
 use Rattle.automaton.specs.Numbering.{full_entries, constant_transitions}
@@ -13,7 +10,7 @@ use Rattle.automaton.proofs.TransitionLaws.{transitions_words-append}
 use Rattle.ports.specs.Ports.{entry_state}
 use Rattle.ports.proofs.PortLaws.{entries-more}
 use Rattle.emitter.specs.Writing.{WordsWritten}
-use Rattle.emitter.proofs.WritingLaws.{words-written-none, words-written-same, EachWritten, each-written-more}
+use Rattle.emitter.proofs.WritingLaws.{EachWritten, each-written-more}
 
 -- the words of the moves into the entries for the constants, where x is the word's exit
 abbrev every_words : ℕ → List ℕ → List ℕ

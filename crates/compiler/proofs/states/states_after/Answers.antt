@@ -2,16 +2,16 @@
 use Rattle.compiler.proofs.StateLaws.{counting-none, counting_more, counting-end}
 use Rattle.compiler.proofs.states.states_after.Goals as goal
 
-pub loop-i-init : goal.loop-i-init
-loop-i-init c = counting-none _ _
+pub loop-w-init : goal.loop-w-init
+loop-w-init c = counting-none _ _
 
 pub states_of-state-requires : goal.states_of-state-requires
 states_of-state-requires c = c.requires.states_countable
 
-pub loop-i-preserved : goal.loop-i-preserved
-loop-i-preserved c =
-    counting_more c.loop-i.invariant _ c.loop-i-test.true c.states_of-state.ensures.0
+pub loop-w-preserved : goal.loop-w-preserved
+loop-w-preserved c =
+    counting_more c.loop-w.invariant _ c.loop-w-test.true c.states_of-state.ensures.0
     c.states_of-state.ensures.1
 
 pub returns : goal.returns
-returns c = counting-end c.loop-i.invariant c.loop-i-test.false
+returns c = counting-end c.loop-w.invariant c.loop-w-test.false

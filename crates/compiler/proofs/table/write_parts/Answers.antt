@@ -8,7 +8,7 @@ use Rattle.words.proofs.ListLaws.{length-take-most}
 use Rattle.emitter.proofs.WritingLaws.{words-written-next}
 use Rattle.compiler.proofs.KnownConstants.{constants-symbols}
 use Rattle.compiler.proofs.AcceptedRuleLaws.{rule-alphabet, rule-expression, states-countable, states-few}
-use Rattle.compiler.proofs.TablePartLaws.{word-last, table-written}
+use Rattle.compiler.proofs.TablePartLaws.{table-written}
 use Rattle.compiler.proofs.table.write_parts.Goals as goal
 
 pub overflow_sub-last : goal.overflow_sub-last
@@ -44,15 +44,10 @@ states_of-requires c =
 
 pub word_port-port-requires : goal.word_port-port-requires
 word_port-port-requires c =
-    let e = rule-expression _ _ c.requires.accepted in
     let x =
     states-few c.args.expression.now (length c.args.expression.now - 1) _ (rule-expression _ _ c.requires.accepted).counted.few
     c.states_after-exit.ensures.1 in
-    record {
-      symbols = (rule-alphabet _ _ c.requires.accepted).counted.few;
-      word = word-last _ c.args.expression.now e.counted.some e.words;
-      low = omega arith;
-    }
+    omega arith
 
 pub push_constants-next-requires : goal.push_constants-next-requires
 push_constants-next-requires c =
@@ -75,7 +70,7 @@ pub returns : goal.returns
 returns c =
     let a = c.args in
     let e = rule-expression _ _ c.requires.accepted in
-    table-written a.alphabet.now a.constants.now a.expression.now e.counted.some _ _ _ _ _ _ _ _ _ _ _ _
+    table-written a.alphabet.now a.constants.now a.expression.now e.counted.some _ _ c.word_port-port.result _ _ _ _ _ _ _ _ _
     c.requires.constants
     c.states_after-exit.ensures.0
     c.states_of.ensures.0

@@ -1,5 +1,4 @@
 -- `emitter::anything::push_every_symbol` meets its contract: before each turn the moves on the first symbols are written.
-use lib.ListN.{length}
 use Rattle.emitter.proofs.AnythingLaws.{SymbolsPushed}
 use Rattle.emitter.proofs.anything.push_every_symbol.Given as goal
 

@@ -1,5 +1,4 @@
 -- `emitter::constants::push_every` meets its contract: before each turn the moves of the first k constants are written.
-use lib.ListN.{length}
 use Rattle.emitter.proofs.ConstantTransitionLaws.{EveryPushed}
 use Rattle.emitter.proofs.constants.push_every.Given as goal
 

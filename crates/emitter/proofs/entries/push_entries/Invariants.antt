@@ -1,5 +1,4 @@
 -- `emitter::entries::push_entries` meets its contract: before each turn the transitions for the first k constants are written.
-use lib.ListN.{length}
 use Rattle.emitter.specs.Emission.{targets_in}
 use Rattle.emitter.proofs.EntryEpsilonLaws.{EntriesWritten}
 use Rattle.emitter.proofs.entries.push_entries.Given as goal

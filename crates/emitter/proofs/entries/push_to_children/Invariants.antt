@@ -1,5 +1,5 @@
 -- `emitter::entries::push_to_children` meets its contract: before each turn the transitions to the first i children are written.
-use lib.ListN.{length, get_or}
+use lib.ListN.{get_or}
 use Rattle.emitter.proofs.EntryLaws.{ToChildren}
 use Rattle.emitter.proofs.entries.push_to_children.Given as goal
 

@@ -1,5 +1,4 @@
 -- `emitter::own::push_sources` meets its contract: before each turn the first i children's exits are written.
-use lib.ListN.{length}
 use Rattle.emitter.proofs.SourceLaws.{Sourced}
 use Rattle.emitter.proofs.own.push_sources.Given as goal
 
