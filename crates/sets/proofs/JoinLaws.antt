@@ -2,9 +2,8 @@
 use mathlib.Core.Path.{◌≡◌, refl, ap, ◌∙◌, sym}
 use mathlib.Core.Logic.{◌⊎◌, inl, inr}
 use mathlib.Core.Bool.{true, true≢false}
-use Prim.Native.Nat.{ℕ, zero, suc, ◌+◌, ◌<◌, ◌≤◌, ◌/◌, ◌%◌, ◌^◌, max}
+use Prim.Native.Nat.{ℕ, zero, suc, ◌<◌, ◌≤◌, ◌/◌, ◌%◌, ◌^◌, max}
 use native.Mathlib.Omega.{arith}
-use native.Mathlib.Numerals.{add-one}
 use native.Mathlib.Decide.{ℕ_discrete, dec_lt}
 use lib.Bits.{bit_or}
 use lib.Dec.{eqb}
@@ -17,16 +16,6 @@ use Rattle.words.proofs.AllLaws.{each_set}
 use Rattle.automaton.specs.StateSet.{StateSet, contains}
 use Rattle.automaton.proofs.BitLaws.{or-bit, contains-beyond, words-or}
 use Rattle.sets.specs.Joined.{joined_to, joined}
-
--- ---- one word after the other
-
-pub joined-none : (r t : StateSet) → r ≡ joined_to 0 r t
-unfolding joined_to
-joined-none r t = refl
-
-pub joined-more : (k : ℕ) (r t s : StateSet) → s ≡ joined_to k r t → set s k (bit_or (get_or s k 0) (get_or t k 0)) ≡ joined_to (k + 1) r t
-unfolding joined_to
-joined-more k r t s e = rw (e, add-one k)
 
 pub joined_length : (k : ℕ) (r t : StateSet) → length (joined_to k r t) ≡ length r
 unfolding joined_to

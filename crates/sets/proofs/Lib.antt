@@ -2,6 +2,5 @@ pub mod JoinLaws
 pub mod CompareLaws
 pub mod CellCountLaws
 pub mod RowLaws
-pub mod SetLaws
 pub mod SizeLaws
 pub mod StoredLaws

@@ -20,11 +20,12 @@ fn mask(b: usize) -> u32
 }
 
 // Document 01's S: the words of a set of this many states.
+#[tactic(auto, unfolding(automaton::specs::StateSet::size_for))]
 pub fn size_for(states: usize) -> usize
     requires { states < count_range }
     ensures { result ≡ size_for states }
 {
-    (states + 31) / WORD_BITS
+    states.div_ceil(WORD_BITS)
 }
 
 // Whether the set has state s; a state beyond the set's words is not in it. The bit is shifted to the lowest place, which needs
@@ -32,20 +33,17 @@ pub fn size_for(states: usize) -> usize
 pub fn contains(set: &[u32], s: usize) -> bool
     ensures { result ≡ StateSet·contains set.now s }
 {
-    let at = s / WORD_BITS;
-    if at < set.len() {
-        return (set[at] >> (s % WORD_BITS) as u32) % 2 == 1;
-    }
-    false
+    set.get(s / WORD_BITS)
+        .is_some_and(|&word| (word >> (s % WORD_BITS) as u32) % 2 == 1)
 }
 
 // Puts state s into the set; a state beyond the set's words changes nothing.
+#[tactic(auto, unfolding(automaton::specs::StateSet::insert))]
 pub fn insert(set: &mut [u32], s: usize)
     ensures { set.new ≡ StateSet·insert set.old s }
 {
     let at = s / WORD_BITS;
     if at < set.len() {
-        let one = mask(s % WORD_BITS);
-        set[at] = set[at] | one;
+        set[at] |= mask(s % WORD_BITS);
     }
 }

@@ -14,14 +14,13 @@ use slices::moves::copy_words;
 use words::word::WORD_RANGE;
 
 // Puts the states of another set into a set.
+#[tactic(auto, unfolding(crate::specs::Joined::joined_to))]
 pub fn join(set: &mut [u32], other: &[u32])
     requires { length other.now ≤ length set.old }
     ensures { set.new ≡ joined set.old other.now }
 {
-    let mut k = 0;
-    while k < other.len() {
-        set[k] = set[k] | other[k];
-        k += 1;
+    for (k, word) in other.iter().enumerate() {
+        set[k] |= *word;
     }
 }
 
@@ -53,27 +52,19 @@ pub fn copy_set(marks: &mut [u32], from: usize, to: usize, size: usize)
 }
 
 // Whether two sets have the same words.
+#[tactic(auto, using(crate::proofs::CompareLaws::pointwise_same))]
 pub fn same_words(left: &[u32], right: &[u32]) -> bool
     ensures { result ≡ same_words left.now right.now }
 {
-    if left.len() != right.len() {
-        return false;
-    }
-    let mut k = 0;
-    while k < left.len() {
-        if left[k] != right[k] {
-            return false;
-        }
-        k += 1;
-    }
-    true
+    left == right
 }
 
 // The ones of two words.
+#[tactic(auto, using(crate::proofs::CellCountLaws::pair_laws))]
 fn count_pair(low: u32, high: u32) -> usize
     ensures { result ≡ ones low + ones high }
 {
-    u64::count_ones(high as u64 * WORD_RANGE + low as u64) as usize
+    (u64::from(high) * WORD_RANGE + u64::from(low)).count_ones() as usize
 }
 
 // The number of ones in the words of all sets. Two words are counted at once, which takes half
@@ -82,14 +73,10 @@ pub fn count_cells(words: &[u32]) -> usize
     requires { length words.now ≤ marks_most }
     ensures { result ≡ cells_in words.now }
 {
+    let (pairs, last) = words.as_chunks::<2>();
     let mut cells: usize = 0;
-    let mut k = 0;
-    while k + 1 < words.len() {
-        cells += count_pair(words[k], words[k + 1]);
-        k += 2;
+    for pair in pairs {
+        cells += count_pair(pair[0], pair[1]);
     }
-    if k < words.len() {
-        cells += u32::count_ones(words[k]) as usize;
-    }
-    cells
+    cells + last.first().map_or(0, |word| word.count_ones() as usize)
 }

@@ -3,11 +3,9 @@ use mathlib.Core.Path.{◌≡◌, refl, ap, ap₂, ◌∙◌, sym}
 use mathlib.Core.List.{List, ◌++◌, append_assoc}
 use Prim.Native.Nat.{ℕ, ◌+◌, ◌-◌, ◌<◌, ◌≤◌}
 use native.Mathlib.Omega.{arith}
-use native.Mathlib.Nat.{zero-add}
 use native.Mathlib.Numerals.{add-one}
 use lib.ListN.{length, get_or, take, drop, set, length-set, take-append-drop}
-use lib.Seq.{paste, paste-zero, paste-suc, get_or-drop, drop-drop, drop-paste, take-length}
-use Rattle.words.specs.Lists.{written_over}
+use lib.Seq.{paste, paste-zero, paste-suc, get_or-drop, drop-drop, drop-paste}
 
 -- k of n words stand from index `at` on; the rest of the slice is as it was
 pub record Copied (s₀ : List ℕ) (at : ℕ) (ws : List ℕ) (n : ℕ) (s : List ℕ) (k : ℕ) : Type 0 where
@@ -45,11 +43,6 @@ copied_behind s₀ at ws n s k i g l fits enough =
     ∙ sym (get_or-drop (at + k) (paste s₀ at ws k) (i - (at + k)) 0)
     ∙ ap (λ (t : List ℕ). get_or t (i - (at + k)) 0) (drop-paste s₀ at ws k fits (omega arith))
     ∙ get_or-drop (at + k) s₀ (i - (at + k)) 0 ∙ ap (λ (j : ℕ). get_or s₀ j 0) q
-
--- ---- all words copied to the front
-
-pub paste-front : (s₀ ws : List ℕ) → paste s₀ 0 ws (length ws) ≡ written_over ws s₀
-paste-front s₀ ws = ap₂ (λ (l : List ℕ) (i : ℕ). l ++ drop i s₀) (take-length ws) (zero-add (length ws))
 
 -- ---- words copied onto themselves
 

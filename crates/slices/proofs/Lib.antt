@@ -1,4 +1,3 @@
 pub mod CopyLaws
 pub mod MoveLaws
 pub mod RefitLaws
-pub mod PartLaws
