@@ -1,22 +1,21 @@
 -- What is judged of a chapter on the way to its refusals. These definitions serve inner functions.
-use Rattle.std.specs.Prelude.{ℕ, ◌<◌, ◌≤◌, ◌≡◌, List, length}
+use Rattle.std.specs.Prelude.{ℕ, ◌<◌, ◌≤◌, ◌≡◌, List, length, Result, IfOk}
+use Rattle.words.specs.Decoded.{fault_in}
 use Rattle.words.specs.Limits.{nodes_most, height_most}
 use Rattle.words.specs.Postfix.{height_of, span_of, splice}
-use Rattle.words.specs.Chapter.{tree_fault, holes_in}
-use Rattle.bounds.specs.declared.shape.Shape.{Shape}
-use Rattle.refusals.specs.declared.exchange.JudgedCall.{JudgedCall}
+use Rattle.words.specs.Chapter.{tree_fault}
+use Rattle.words.specs.declared.refusal.Refusal.{Refusal}
 
--- the number of a refusal, or 0, and then a height that the chapter does not exceed; and whether it has a hole
-pub record JudgedShape (number : ℕ) (a ch : List ℕ) (s : Shape) : Type 0 where
-  pub fault : s.fault ≡ number
-  pub low : s.fault ≡ 0 → height_of a ch ≤ s.bound
-  pub most : s.fault ≡ 0 → s.bound ≤ height_most
-  pub holes : s.holes ≡ holes_in a ch
+-- a refusal with its number, or a height that the chapter does not exceed
+pub record JudgedBound (number : ℕ) (a ch : List ℕ) (r : Result ℕ Refusal) : Type 0 where
+  pub fault : fault_in r ≡ number
+  pub low : IfOk r (λ bound. height_of a ch ≤ bound)
+  pub most : IfOk r (λ bound. bound ≤ height_most)
 
--- the number of a refusal, or 0, and then where the element's subtree begins
-pub record JudgedChange (number : ℕ) (a used : List ℕ) (i : ℕ) (j : JudgedCall) : Type 0 where
-  pub fault : j.fault ≡ number
-  pub begins : j.fault ≡ 0 → j.start ≡ (span_of a used i).start
+-- a refusal with its number, or where the element's subtree begins
+pub record JudgedChange (number : ℕ) (a used : List ℕ) (i : ℕ) (r : Result ℕ Refusal) : Type 0 where
+  pub fault : fault_in r ≡ number
+  pub begins : IfOk r (λ start. start ≡ (span_of a used i).start)
 
 -- what judging a change asks: a chapter of no more elements than it may have, which is at most `bound` high
 pub record Changeable (a used : List ℕ) (bound : ℕ) : Type 0 where

@@ -1,4 +1,4 @@
-// Exchange's refusals, each with its number, in the documents' order.
+// Exchange's refusals in the documents' order.
 ghost use Rattle.std.specs.Prelude.{◌≡◌, length, take};
 ghost use Rattle.words.specs.Refusal.{refusal};
 ghost use Rattle.words.specs.Postfix.{splice};
@@ -6,30 +6,15 @@ ghost use Rattle.words.specs.Chapter.{too_high};
 ghost use Rattle.operations.specs.Exchange.{wrong_used_count, no_replacement, result_too_long, change_refusals, exchange_fault};
 ghost use Rattle.refusals.specs.Judged.{JudgedChange, Changeable, Spliceable};
 
-use super::shared::{marked_shape, marks_too_short, table_fault, wrong_count};
+use super::shared::{marked_bound, marks_too_short, table_fault, wrong_count};
 use syntax::chapter::{holes_in, tree_fault};
 use syntax::height::joined_height;
 use syntax::postfix::subtree_span;
 use words::limits::{HEIGHT_MOST, NODES_MOST};
-
-// The number of the first refusal that applies, or 0; and where it is 0, where the element's subtree begins.
-#[derive(Drop)]
-pub struct JudgedCall {
-    pub fault: u32,
-    pub start: usize,
-}
-
-// A refused call.
-fn refused(number: u32) -> JudgedCall
-    ensures { result ≡ record { fault = number; start = 0 } }
-{
-    JudgedCall {
-        fault: number,
-        start: 0,
-    }
-}
+use words::refusal::Refusal;
 
 // Whether so many elements are too few or too many, or do not fit a chapter slice of this length.
+#[tactic(auto, unfolding(operations::specs::Exchange::wrong_used_count))]
 fn wrong_used_count(count: usize, chapter_length: usize) -> bool
     ensures { result ≡ wrong_used_count count chapter_length }
 {
@@ -40,16 +25,18 @@ fn wrong_used_count(count: usize, chapter_length: usize) -> bool
 }
 
 // Whether the words are no replacement: none, too many, or no tree over the alphabet.
+#[tactic(auto, unfolding(operations::specs::Exchange::no_replacement))]
 fn no_replacement(alphabet: &[u32], replacement: &[u32]) -> bool
     ensures { result ≡ no_replacement alphabet.now replacement.now }
 {
     if wrong_count(replacement.len()) {
         return true;
     }
-    tree_fault(alphabet, replacement) != 0
+    tree_fault(alphabet, replacement).is_err()
 }
 
 // Whether a result of `count` elements is too long for chapter and marks slices of these lengths.
+#[tactic(auto, unfolding(operations::specs::Exchange::result_too_long))]
 fn result_too_long(table: &[u32], count: usize, chapter_length: usize, marks_length: usize) -> bool
     ensures { result ≡ result_too_long table.now count chapter_length marks_length }
 {
@@ -89,8 +76,10 @@ fn result_too_high(
     height > HEIGHT_MOST
 }
 
-// Of the element and the replacement: 14, 15, 26, 16 or 24, the first that applies, or 0, for a chapter that is at most `bound` high.
-// For 16 the result's length is known: what stands before the element's subtree, the replacement, and what stands behind.
+// Of the element and the replacement, for a chapter that is at most `bound` high: where the element's subtree begins, or 14, 15, 26, 16
+// or 24, the first that applies. For 16 the result's length is known: what stands before the element's subtree, the replacement, and
+// what stands behind.
+#[tactic(auto, using(crate::proofs::CountRefusalLaws::change_parts), unfolding(operations::specs::Exchange::no_element))]
 fn change_fault(
     alphabet: &[u32],
     table: &[u32],
@@ -100,7 +89,7 @@ fn change_fault(
     marks_length: usize,
     element: usize,
     replacement: &[u32],
-) -> JudgedCall
+) -> Result<usize, Refusal>
     requires { Changeable alphabet.now used.now bound }
     ensures { JudgedChange
         (refusal
@@ -109,20 +98,20 @@ fn change_fault(
         alphabet.now used.now element result }
 {
     if element >= used.len() {
-        return refused(14);
+        return Err(Refusal::NoElement);
     }
     if no_replacement(alphabet, replacement) {
-        return refused(15);
+        return Err(Refusal::NoReplacement);
     }
     if holes_in(alphabet, replacement) {
-        return refused(26);
+        return Err(Refusal::HasHoles);
     }
     let span = subtree_span(alphabet, used, element);
     let start = span.start;
     let behind = used.len() - element - 1;
     let count = start + replacement.len() + behind;
     if result_too_long(table, count, chapter_length, marks_length) {
-        return refused(16);
+        return Err(Refusal::ResultTooLong);
     }
     if result_too_high(
         alphabet,
@@ -133,12 +122,12 @@ fn change_fault(
         element,
         replacement,
     ) {
-        return refused(24);
+        return Err(Refusal::TooHigh);
     }
-    JudgedCall { fault: 0, start }
+    Ok(start)
 }
 
-// The documents' number of the first refusal that applies, or 0; and where it is 0, where the element's subtree begins.
+// Where the element's subtree begins, or the first of the documents' refusals that applies.
 #[tactic(auto, using(crate::proofs::CountRefusalLaws::used_length, crate::proofs::CountRefusalLaws::used_few))]
 pub fn exchange_fault(
     alphabet: &[u32],
@@ -148,29 +137,22 @@ pub fn exchange_fault(
     marks_length: usize,
     element: usize,
     replacement: &[u32],
-) -> JudgedCall
+) -> Result<usize, Refusal>
     ensures { JudgedChange
         (exchange_fault alphabet.now table.now count (take count chapter.now)
         (length chapter.now) marks_length element replacement.now)
         alphabet.now (take count chapter.now) element result }
 {
-    let first = table_fault(alphabet, table);
-    if first != 0 {
-        return refused(first);
-    }
+    table_fault(alphabet, table)?;
     if wrong_used_count(count, chapter.len()) {
-        return refused(9);
+        return Err(Refusal::WrongCount);
     }
-    let marked = marked_shape(alphabet, table, &chapter[..count], marks_length);
-    let fault = marked.fault;
-    if fault != 0 {
-        return refused(fault);
-    }
+    let bound = marked_bound(alphabet, table, &chapter[..count], marks_length)?;
     change_fault(
         alphabet,
         table,
         &chapter[..count],
-        marked.bound,
+        bound,
         chapter.len(),
         marks_length,
         element,

@@ -1,5 +1,5 @@
-// The refusals of the operations on a marked chapter (document 01's "Refused calls"): for Run, List and Exchange the number of
-// the first that applies, or 0.
+// The refusals of the operations on a marked chapter (document 01's "Refused calls"): for Run, List and Exchange the first that
+// applies.
 #![tactic(auto)]
 
 pub mod exchange;
