@@ -19,6 +19,7 @@ use Rattle.sets.proofs.StoredLaws.{stored-written, stored_other}
 use Rattle.sets.proofs.JoinLaws.{joined_length, words-joined, joined-cases, joined-left, joined-right}
 use Rattle.closures.specs.Closure.{PendingStack, Settled, Puttable, Put, Followed, Closable, ClosureOf, rows_most}
 use Rattle.closures.specs.Closure.{ClosedSet, Addable, Added, Keepable, Kept, Joinable, JoinedClosure}
+use Rattle.closures.specs.declared.KeptClosures.{KeptClosures}
 use Rattle.closures.proofs.TransitionStartLaws.{member-starts, table-transitions}
 use Rattle.closures.proofs.KeyedWordLaws.{closed_at}
 use Rattle.closures.proofs.PendingStackLaws.{missing-most, stack-puttable, stack-put, put-cases}
@@ -102,62 +103,62 @@ close-end a =
 
 -- ---- the row
 
-module _ {table index : List ℕ} {s : ℕ} {owners rows pending : List ℕ} (g : Keepable table index s owners rows pending) where
+module _ {table index : List ℕ} {s : ℕ} {kept : KeptClosures} {pending : List ℕ} (g : Keepable table index s kept pending) where
   row_small : s % rows_most < rows_most
   row_small = omega arith
 
-  pub owner-inside : s % rows_most < length owners
+  owner-inside : s % rows_most < length kept.owners
   owner-inside = omega (arith, g.closures.owners-are)
 
-  pub closure-fits : s % rows_most * set_most + set_most ≤ length rows
+  pub closure-fits : s % rows_most * set_most + set_most ≤ length kept.rows
   closure-fits = omega (arith, g.closures.rows_are)
 
-  pub keep_known : get_or owners (s % rows_most) 0 ≡ s + 1 → Kept table s true owners rows
+  pub keep_known : get_or kept.owners (s % rows_most) 0 ≡ s + 1 → Kept table s true kept
   keep_known e = record { closures = g.closures; closure = λ _. g.closures.filled (s % rows_most) s row_small e }
 
   -- the row is another state's
-  pub keep-other : Kept table s false owners rows
+  pub keep-other : Kept table s false kept
   keep-other = record { closures = g.closures; closure = λ e. absurd (true≢false (sym e)) }
 
-  pub keep-new : {closure rows' : List ℕ} → ClosureOf table s closure → rows' ≡ paste rows (s % rows_most * set_most) closure (length closure)
-      → Kept table s true (set owners (s % rows_most) (s + 1)) rows'
+  pub keep-new : {closure rows' : List ℕ} → ClosureOf table s closure → rows' ≡ paste kept.rows (s % rows_most * set_most) closure (length closure)
+      → Kept table s true (record { owners = set kept.owners (s % rows_most) (s + 1); rows = rows' })
   keep-new {closure} {rows'} c e =
       record {
         closures = record {
-          owners-are = length-set owners (s % rows_most) (s + 1) ∙ g.closures.owners-are;
+          owners-are = length-set kept.owners (s % rows_most) (s + 1) ∙ g.closures.owners-are;
           rows_are =
               ap length written
-              ∙ length-paste rows (s % rows_most * set_most) closure set_most (omega (arith, closure-fits)) (omega (arith, c.set.size))
+              ∙ length-paste kept.rows (s % rows_most * set_most) closure set_most (omega (arith, closure-fits)) (omega (arith, c.set.size))
               ∙ g.closures.rows_are;
           filled = λ k t h o. filled k t h o (ℕ_discrete k (s % rows_most));
         };
         closure = λ _. here;
       }
     where
-      written : rows' ≡ paste rows (s % rows_most * set_most) closure set_most
-      written = e ∙ ap (paste rows (s % rows_most * set_most) closure) c.set.size
+      written : rows' ≡ paste kept.rows (s % rows_most * set_most) closure set_most
+      written = e ∙ ap (paste kept.rows (s % rows_most * set_most) closure) c.set.size
 
       here : ClosureOf table s (stored_set set_most rows' (s % rows_most))
       here =
           subst (ClosureOf table s)
           (sym (ap (λ (l : List ℕ). stored_set set_most l (s % rows_most)) written
-          ∙ stored-written set_most rows (s % rows_most) closure c.set.size closure-fits)) c
+          ∙ stored-written set_most kept.rows (s % rows_most) closure c.set.size closure-fits)) c
 
-      filled : (k t : ℕ) → k < rows_most → get_or (set owners (s % rows_most) (s + 1)) k 0 ≡ t + 1 → Dec (k ≡ s % rows_most)
+      filled : (k t : ℕ) → k < rows_most → get_or (set kept.owners (s % rows_most) (s + 1)) k 0 ≡ t + 1 → Dec (k ≡ s % rows_most)
           → ClosureOf table t (stored_set set_most rows' k)
       filled k t h o (yes i) =
           let same : s ≡ t =
           omega (
             arith,
-            sym (get_or-set_same owners (s % rows_most) (s + 1) 0 owner-inside)
-                ∙ ap (λ (x : ℕ). get_or (set owners (s % rows_most) (s + 1)) x 0) (sym i) ∙ o,
+            sym (get_or-set_same kept.owners (s % rows_most) (s + 1) 0 owner-inside)
+                ∙ ap (λ (x : ℕ). get_or (set kept.owners (s % rows_most) (s + 1)) x 0) (sym i) ∙ o,
           ) in
           rw (i, ← same) here
       filled k t h o (no i) =
           let other =
           ap (λ (l : List ℕ). stored_set set_most l k) written
-          ∙ stored_other set_most rows (s % rows_most) closure c.set.size closure-fits k i in
-          subst (ClosureOf table t) (sym other) (g.closures.filled k t h (sym (get_or-set_other owners (s % rows_most) k (s + 1) 0 i) ∙ o))
+          ∙ stored_other set_most kept.rows (s % rows_most) closure c.set.size closure-fits k i in
+          subst (ClosureOf table t) (sym other) (g.closures.filled k t h (sym (get_or-set_other kept.owners (s % rows_most) k (s + 1) 0 i) ∙ o))
 
 -- ---- the closure in the set
 
@@ -180,20 +181,20 @@ added-joined {table} {r = r} {c = c} k d =
     }
 
 -- the stack has kept its length
-pub add-again : {table index : List ℕ} {s : ℕ} {owners rows pending : List ℕ} {r : StateSet} → Joinable table index s owners rows pending r
+pub add-again : {table index : List ℕ} {s : ℕ} {kept : KeptClosures} {pending : List ℕ} {r : StateSet} → Joinable table index s kept pending r
     → {pending' : List ℕ} → length pending' ≡ length pending → Addable table index s pending' r
 add-again g e =
     let k = g.keepable.closable in
     record { closable = record { checked = k.checked; state = k.state; fits = rw e k.fits }; set = g.set; below = g.below }
 
 -- the row as a part of the rows
-pub join-end : {table : List ℕ} {s : ℕ} {b : Bool} {owners rows : List ℕ} → b ≡ true → Kept table s b owners rows → {r t : StateSet}
+pub join-end : {table : List ℕ} {s : ℕ} {b : Bool} {kept : KeptClosures} → b ≡ true → Kept table s b kept → {r t : StateSet}
     → ClosedSet table r
-    → t ≡ joined r (take (s % rows_most * set_most + set_most - s % rows_most * set_most) (drop (s % rows_most * set_most) rows))
-    → JoinedClosure table s r t owners rows
+    → t ≡ joined r (take (s % rows_most * set_most + set_most - s % rows_most * set_most) (drop (s % rows_most * set_most) kept.rows))
+    → JoinedClosure table s r t kept
 unfolding stored_set
-join-end {table} {s} {rows = rows} y k {r} {t} c e =
+join-end {table} {s} {kept = kept} y k {r} {t} c e =
     let n : s % rows_most * set_most + set_most - s % rows_most * set_most ≡ set_most = omega arith in
-    let q : t ≡ joined r (stored_set set_most rows (s % rows_most)) =
-    e ∙ ap (λ (x : ℕ). joined r (take x (drop (s % rows_most * set_most) rows))) n in
+    let q : t ≡ joined r (stored_set set_most kept.rows (s % rows_most)) =
+    e ∙ ap (λ (x : ℕ). joined r (take x (drop (s % rows_most * set_most) kept.rows))) n in
     record { closures = k.closures; added = subst (Added table s r) (sym q) (added-joined c (k.closure y)) }

@@ -11,6 +11,7 @@ use Rattle.automaton.specs.StateSet.{StateSet, contains, insert, is_closed}
 use Rattle.operations.specs.Marks.{stored_set}
 use Rattle.sets.specs.Size.{set_most}
 use Rattle.index.specs.Index.{state_key, key_of, IndexedTable}
+use Rattle.closures.specs.declared.KeptClosures.{KeptClosures}
 
 -- ---- the closure of a state
 
@@ -42,10 +43,10 @@ abbrev pub rows_most : ℕ
 rows_most = 64
 
 -- Row k holds the closure of state s where its owner is s + 1, and nothing known where its owner is 0.
-pub record Closures (table owners rows : List ℕ) : Type 0 where
-  pub owners-are : length owners ≡ rows_most
-  pub rows_are : length rows ≡ rows_most * set_most
-  pub filled : (k s : ℕ) → k < rows_most → get_or owners k 0 ≡ s + 1 → ClosureOf table s (stored_set set_most rows k)
+pub record Closures (table : List ℕ) (kept : KeptClosures) : Type 0 where
+  pub owners-are : length kept.owners ≡ rows_most
+  pub rows_are : length kept.rows ≡ rows_most * set_most
+  pub filled : (k s : ℕ) → k < rows_most → get_or kept.owners k 0 ≡ s + 1 → ClosureOf table s (stored_set set_most kept.rows k)
 
 -- ---- one word of the table
 
@@ -148,22 +149,22 @@ pub record Added (table : List ℕ) (s : ℕ) (r t : StateSet) : Type 0 where
   pub within : (q : ℕ) → contains t q ≡ true → (contains r q ≡ true) ⊎ ReachedFrom (automaton_of table).transitions s q
 
 -- a state, and the closures that are kept
-pub record Keepable (table index : List ℕ) (s : ℕ) (owners rows pending : List ℕ) : Type 0 where
+pub record Keepable (table index : List ℕ) (s : ℕ) (kept : KeptClosures) (pending : List ℕ) : Type 0 where
   pub closable : Closable table index s pending
-  pub closures : Closures table owners rows
+  pub closures : Closures table kept
 
 -- if the answer is true, the closure of state s is in the row with its number modulo `rows_most`
-pub record Kept (table : List ℕ) (s : ℕ) (b : Bool) (owners rows : List ℕ) : Type 0 where
-  pub closures : Closures table owners rows
-  pub closure : b ≡ true → ClosureOf table s (stored_set set_most rows (s % rows_most))
+pub record Kept (table : List ℕ) (s : ℕ) (b : Bool) (kept : KeptClosures) : Type 0 where
+  pub closures : Closures table kept
+  pub closure : b ≡ true → ClosureOf table s (stored_set set_most kept.rows (s % rows_most))
 
 -- the same, and a closed set for the closure to be put into
-pub record Joinable (table index : List ℕ) (s : ℕ) (owners rows pending : List ℕ) (r : StateSet) : Type 0 where
-  pub keepable : Keepable table index s owners rows pending
+pub record Joinable (table index : List ℕ) (s : ℕ) (kept : KeptClosures) (pending : List ℕ) (r : StateSet) : Type 0 where
+  pub keepable : Keepable table index s kept pending
   pub set : ClosedSet table r
   pub below : StatesBelow table r
 
 -- the closure of state s was put into the set
-pub record JoinedClosure (table : List ℕ) (s : ℕ) (r t : StateSet) (owners rows : List ℕ) : Type 0 where
-  pub closures : Closures table owners rows
+pub record JoinedClosure (table : List ℕ) (s : ℕ) (r t : StateSet) (kept : KeptClosures) : Type 0 where
+  pub closures : Closures table kept
   pub added : Added table s r t

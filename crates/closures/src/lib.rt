@@ -95,8 +95,8 @@ impl KeptClosures {
     // Keeps the closure of a state in its row, if none is there. Answers whether the row has it. A row is never given to another
     // state, so that at most as many closures are worked out by themselves in a call as there are rows.
     fn keep(&mut self, indexed: Indexed, state: usize, pending: &mut [u32]) -> bool
-        requires { Keepable indexed.table.now indexed.index.now state self.old.owners self.old.rows pending.old }
-        ensures { Kept indexed.entry.table.now state result self.new.owners self.new.rows }
+        requires { Keepable indexed.table.now indexed.index.now state self.old pending.old }
+        ensures { Kept indexed.entry.table.now state result self.new }
     {
         let row = state % ROWS_MOST;
         let owner = state as u32 + 1;
@@ -122,9 +122,8 @@ pub fn join_closure(
     pending: &mut [u32],
     set: &mut [u32],
 )
-    requires { Joinable indexed.table.now indexed.index.now state closures.old.owners closures.old.rows pending.old set.old }
-    ensures { JoinedClosure indexed.entry.table.now state set.old set.new closures.new.owners
-        closures.new.rows }
+    requires { Joinable indexed.table.now indexed.index.now state closures.old pending.old set.old }
+    ensures { JoinedClosure indexed.entry.table.now state set.old set.new closures.new }
 {
     if !closures.keep(indexed, state, pending) {
         add_closure(indexed, state, set, pending);

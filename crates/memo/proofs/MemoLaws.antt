@@ -16,16 +16,22 @@ use Rattle.sets.specs.Copyable.{Copyable}
 use Rattle.sets.specs.Size.{set_most}
 use Rattle.sets.proofs.StoredLaws.{row_inside, stored-before}
 use Rattle.closures.specs.Closure.{Closures, rows_most}
+use Rattle.memo.specs.declared.Memo.{Memo as MemoWords}
 use Rattle.memo.specs.Key.{step_key}
 use Rattle.memo.specs.Memo.{set_over, Slot, empty, occupied, Remembered, NewMarkable, NextMarkable, MarkedNew, MarkedNext, places_most}
 use Rattle.memo.specs.Memo.{slots_most}
 use Rattle.memo.proofs.KeyLaws.{packed-same, step_key-symbol, key-nodes, key-some}
 use Rattle.memo.proofs.NodeWritingLaws.{length-set_over, size_few}
 
--- an array of zeros of every kind: nothing is remembered
+-- arrays of zeros: nothing is remembered
 pub nothing-remembered : (table marks : List ℕ) (i : ℕ)
-    → Remembered table marks i (replicate slots_most 0) (replicate slots_most 0) (replicate places_most 0) (replicate rows_most 0)
-    (replicate (rows_most * set_most) 0) (replicate states_most 0)
+    → Remembered table marks i (record {
+      keys = replicate slots_most 0;
+      known = replicate slots_most 0;
+      places = replicate places_most 0;
+      closures = record { owners = replicate rows_most 0; rows = replicate (rows_most * set_most) 0 };
+      pending = replicate states_most 0;
+    })
 nothing-remembered table marks i = record {
   memo = record {
     keys-are = length-replicate {A = ℕ} slots_most 0;
@@ -42,13 +48,13 @@ nothing-remembered table marks i = record {
 }
 
 -- node i is passed and its words stay
-pub remembered-later : {table marks : List ℕ} {i : ℕ} {keys known places owners rows pending : List ℕ}
-    → Remembered table marks i keys known places owners rows pending → Remembered table marks (i + 1) keys known places owners rows pending
-remembered-later {table} {marks} {i} {keys} {known} g = record {
+pub remembered-later : {table marks : List ℕ} {i : ℕ} {words : MemoWords} → Remembered table marks i words
+    → Remembered table marks (i + 1) words
+remembered-later {table} {marks} {i} {words} g = record {
   memo = record {
     keys-are = g.memo.keys-are;
     known-are = g.memo.known-are;
-    slots = λ s l. go (get_or keys s 0) (get_or known s 0) (g.memo.slots s l);
+    slots = λ s l. go (get_or words.keys s 0) (get_or words.known s 0) (g.memo.slots s l);
   };
   places-are = g.places-are;
   closures = g.closures;
@@ -81,8 +87,8 @@ module _ (table marks : List ℕ) (i : ℕ) (v : StateSet) (e : length v ≡ siz
 
 -- ---- marking node i
 
-module _ {table index : List ℕ} {f : ℕ} {marks four : List ℕ} {rank i : ℕ} {keys known places owners rows pending : List ℕ}
-    (g : NextMarkable table index f marks four rank i keys known places owners rows pending) where
+module _ {table index : List ℕ} {f : ℕ} {marks four : List ℕ} {rank i : ℕ} {words : MemoWords}
+    (g : NextMarkable table index f marks four rank i words) where
   abbrev cs : List ℕ
   cs = drop (rank_most - rank) four
 
@@ -100,22 +106,21 @@ module _ {table index : List ℕ} {f : ℕ} {marks four : List ℕ} {rank i : �
       take_all (rank_most - (rank_most - rank)) cs (rw (length-drop (rank_most - rank) four) (omega (arith, g.keyable.nodes.length-is)))
 
   -- what working it out asks
-  pub next-new : NewMarkable table index f marks (take (rank_most - (rank_most - rank)) (drop (rank_most - rank) four)) i places owners rows
-      pending
+  pub next-new : NewMarkable table index f marks (take (rank_most - (rank_most - rank)) (drop (rank_most - rank) four)) i words
   next-new = rw part-is g.new
 
   module _ (key : ℕ) (k : key ≡ step_key f (drop (rank_most - rank) four)) (s : ℕ) (l : s < slots_most) where
     -- a slot with the key holds a node that has the state set
-    module _ (h : get_or keys s 0 ≡ key) where
+    module _ (h : get_or words.keys s 0 ≡ key) where
       abbrev node : ℕ
-      node = get_or known s 0
+      node = get_or words.known s 0
 
-      slot-found : (get_or known s 0 < i)
-          × (stored_set (size_of table) marks (get_or known s 0) ≡ set_over table f marks (drop (rank_most - rank) four))
+      slot-found : (get_or words.known s 0 < i)
+          × (stored_set (size_of table) marks (get_or words.known s 0) ≡ set_over table f marks (drop (rank_most - rank) four))
       slot-found = go (g.remembered.memo.slots s l)
         where
-          go : Slot table marks i (get_or keys s 0) (get_or known s 0)
-              → (get_or known s 0 < i) × (stored_set (size_of table) marks (get_or known s 0) ≡ set_over table f marks cs)
+          go : Slot table marks i (get_or words.keys s 0) (get_or words.known s 0)
+              → (get_or words.known s 0 < i) × (stored_set (size_of table) marks (get_or words.known s 0) ≡ set_over table f marks cs)
           go (empty z) = absurd (key-some f cs (sym k ∙ sym h ∙ z))
           go (occupied f' cs' hf b k' m q) =
               let e : step_key f' cs' ≡ step_key f cs = sym k' ∙ h ∙ k in
@@ -126,28 +131,28 @@ module _ {table index : List ℕ} {f : ℕ} {marks four : List ℕ} {rank i : �
                     (packed-same i (omega arith) cs' cs b g.below (key-nodes f' f cs' cs hf hg e)),
               )
 
-      stored : take (size_of table) (drop (get_or known s 0 * size_of table) marks) ≡ set_over table f marks cs
+      stored : take (size_of table) (drop (get_or words.known s 0 * size_of table) marks) ≡ set_over table f marks cs
       unfolding stored_set
       stored = slot-found.1
 
-      pub found-few : get_or known s 0 < nodes_most
+      pub found-few : get_or words.known s 0 < nodes_most
       found-few = let few = g.new.few in omega (arith, slot-found.0)
 
       module _ (n : ℕ) (sn : n ≡ size_of table) where
-        pub found-copyable : Copyable marks (get_or known s 0 * n) (i * n) n
+        pub found-copyable : Copyable marks (get_or words.known s 0 * n) (i * n) n
         found-copyable = rw sn (
             let row = g.new.row in
             record {
               small = size_few g.new;
               inside =
                   record {
-                    source = row_inside (get_or known s 0) i (size_of table) (length marks) slot-found.0 (omega arith);
+                    source = row_inside (get_or words.known s 0) i (size_of table) (length marks) slot-found.0 (omega arith);
                     target = row;
                   };
             })
 
-        pub found-next : (marks' : List ℕ) → marks' ≡ paste marks (i * n) (take n (drop (get_or known s 0 * n) marks)) n
-            → MarkedNext table f marks (drop (rank_most - rank) four) i marks' (get_or known s 0) keys known places owners rows pending
+        pub found-next : (marks' : List ℕ) → marks' ≡ paste marks (i * n) (take n (drop (get_or words.known s 0 * n) marks)) n
+            → MarkedNext table f marks (drop (rank_most - rank) four) i marks' (get_or words.known s 0) words
         found-next marks' q =
             let w : marks' ≡ paste marks (i * size) v size =
             q ∙ ap (λ (x : ℕ). paste marks (i * x) (take x (drop (node * x) marks)) x) sn
@@ -166,7 +171,7 @@ module _ {table index : List ℕ} {f : ℕ} {marks four : List ℕ} {rank i : �
                   keys-are = g.remembered.memo.keys-are;
                   known-are = g.remembered.memo.known-are;
                   slots =
-                      λ t h. slot_kept table marks i v len row marks' w (get_or keys t 0) (get_or known t 0) (g.remembered.memo.slots t h);
+                      λ t h. slot_kept table marks i v len row marks' w (get_or words.keys t 0) (get_or words.known t 0) (g.remembered.memo.slots t h);
                 };
                 places-are = g.remembered.places-are;
                 closures = g.remembered.closures;
@@ -177,15 +182,16 @@ module _ {table index : List ℕ} {f : ℕ} {marks four : List ℕ} {rank i : �
     -- node i was worked out, and the step is remembered in this slot
     pub stored_next : (r : ℕ) (marks' : List ℕ)
         → MarkedNew table f marks (take (rank_most - (rank_most - rank)) (drop (rank_most - rank) four)) i marks' r
-        → {places' owners' rows' pending' : List ℕ} → length places' ≡ length places → Closures table owners' rows'
-        → length pending' ≡ length pending
-        → MarkedNext table f marks (drop (rank_most - rank) four) i marks' r (set keys s key) (set known s r) places' owners' rows' pending'
-    stored_next r marks' n₀ p c q = record {
+        → (left : MemoWords) → length left.places ≡ length words.places → Closures table left.closures
+        → length left.pending ≡ length words.pending
+        → MarkedNext table f marks (drop (rank_most - rank) four) i marks' r
+        (record left { keys = set words.keys s key; known = set words.known s r })
+    stored_next r marks' n₀ left p c q = record {
       new = n;
       remembered = record {
         memo = record {
-          keys-are = length-set keys s key ∙ g.remembered.memo.keys-are;
-          known-are = length-set known s r ∙ g.remembered.memo.known-are;
+          keys-are = length-set words.keys s key ∙ g.remembered.memo.keys-are;
+          known-are = length-set words.known s r ∙ g.remembered.memo.known-are;
           slots = λ t h. go t h (ℕ_discrete t s);
         };
         places-are = p ∙ g.remembered.places-are;
@@ -200,14 +206,14 @@ module _ {table index : List ℕ} {f : ℕ} {marks four : List ℕ} {rank i : �
         len : length (set_over table f marks cs) ≡ size_of table
         len = length-set_over table f marks cs
 
-        go : (t : ℕ) → t < slots_most → Dec (t ≡ s) → Slot table marks' (i + 1) (get_or (set keys s key) t 0) (get_or (set known s r) t 0)
+        go : (t : ℕ) → t < slots_most → Dec (t ≡ s) → Slot table marks' (i + 1) (get_or (set words.keys s key) t 0) (get_or (set words.known s r) t 0)
         go t h (yes e) =
             let ke = g.remembered.memo.keys-are in
             let ne = g.remembered.memo.known-are in
-            rw (e, get_or-set_same keys s key 0 (omega arith), get_or-set_same known s r 0 (omega arith))
+            rw (e, get_or-set_same words.keys s key 0 (omega arith), get_or-set_same words.known s r 0 (omega arith))
             (occupied f cs g.keyable.symbol (below_more i (i + 1) (omega arith) cs g.below) k n.low
             (n.same ∙ sym (set-kept table marks i v len g.new.row marks' n.words f cs g.below)))
         go t h (no e) =
-            rw (get_or-set_other keys s t key 0 e, get_or-set_other known s t r 0 e)
-            (slot_kept table marks i v len g.new.row marks' n.words (get_or keys t 0) (get_or known t 0)
+            rw (get_or-set_other words.keys s t key 0 e, get_or-set_other words.known s t r 0 e)
+            (slot_kept table marks i v len g.new.row marks' n.words (get_or words.keys t 0) (get_or words.known t 0)
             (g.remembered.memo.slots t h))

@@ -16,19 +16,20 @@ use Rattle.sets.specs.Size.{marks_most, set_most}
 use Rattle.sets.proofs.StoredLaws.{stored-written, stored-before}
 use Rattle.sets.proofs.SizeLaws.{words-few, set-small}
 use Rattle.step.specs.NodeSteppable.{child_sets}
+use Rattle.memo.specs.declared.Memo.{Memo as MemoWords}
 use Rattle.memo.specs.Memo.{set_over, Placeable, Represents, itself, earlier, NewMarkable, MarkedNew}
 
 pub length-set_over : (table : List ℕ) (f : ℕ) (marks cs : List ℕ) → length (set_over table f marks cs) ≡ size_of table
 unfolding set_over size_of
 length-set_over table f marks cs = length-state_set _ f _
 
-pub size_few : {table index : List ℕ} {f : ℕ} {marks cs : List ℕ} {i : ℕ} {places owners rows pending : List ℕ}
-    → NewMarkable table index f marks cs i places owners rows pending
+pub size_few : {table index : List ℕ} {f : ℕ} {marks cs : List ℕ} {i : ℕ} {words : MemoWords}
+    → NewMarkable table index f marks cs i words
     → size_of table ≤ set_most
 size_few {table} g = let r = g.steppable.node.indexed in set-small r.alphabet table r.checked
 
-module _ {table index : List ℕ} {f : ℕ} {marks cs : List ℕ} {i : ℕ} {places owners rows pending : List ℕ}
-    (g : NewMarkable table index f marks cs i places owners rows pending)
+module _ {table index : List ℕ} {f : ℕ} {marks cs : List ℕ} {i : ℕ} {words : MemoWords}
+    (g : NewMarkable table index f marks cs i words)
     (set : StateSet) (e : set ≡ state_set (automaton_of table) f (child_sets (size_of table) marks cs) ++ replicate (set_most - size_of table) 0)
     (size : ℕ) (s : size ≡ size_of table) where
   abbrev v : StateSet
@@ -55,7 +56,7 @@ module _ {table index : List ℕ} {f : ℕ} {marks cs : List ℕ} {i : ℕ} {pla
   pub set-fits : i * size + length (take size set) ≤ length marks
   set-fits = rw (← set-length, s) g.row
 
-  pub set-placeable : Placeable marks (take size set) i places
+  pub set-placeable : Placeable marks (take size set) i words.places
   set-placeable =
       let row = g.row in
       record {

@@ -12,6 +12,7 @@ use Rattle.closures.specs.Closure.{Closures}
 use Rattle.step.specs.NodeSteppable.{child_sets}
 use Rattle.step.specs.Node.{Steppable}
 use Rattle.memo.specs.Key.{step_key, Keyable}
+use Rattle.memo.specs.declared.Memo.{Memo as MemoWords}
 
 -- the state set of a node with symbol f over children with the stored sets of these nodes
 unfoldable pub set_over : List ℕ → ℕ → List ℕ → List ℕ → StateSet
@@ -55,20 +56,20 @@ pub record Memo (table marks : List ℕ) (i : ℕ) (keys known : List ℕ) : Typ
 
 -- what is kept from node to node, before node i is marked: the memo, the places of the nodes that represent others, closures of
 -- states, and a stack of states, which may hold anything
-pub record Remembered (table marks : List ℕ) (i : ℕ) (keys known places owners rows pending : List ℕ) : Type 0 where
-  pub memo : Memo table marks i keys known
-  pub places-are : length places ≡ places_most
-  pub closures : Closures table owners rows
-  pub pending-are : length pending ≡ states_most
+pub record Remembered (table marks : List ℕ) (i : ℕ) (words : MemoWords) : Type 0 where
+  pub memo : Memo table marks i words.keys words.known
+  pub places-are : length words.places ≡ places_most
+  pub closures : Closures table words.closures
+  pub pending-are : length words.pending ≡ states_most
 
 -- ---- marking node i
 
 -- what working it out asks
-pub record NewMarkable (table index : List ℕ) (f : ℕ) (marks cs : List ℕ) (i : ℕ) (places owners rows pending : List ℕ) : Type 0 where
-  pub steppable : Steppable table index f marks cs owners rows pending
+pub record NewMarkable (table index : List ℕ) (f : ℕ) (marks cs : List ℕ) (i : ℕ) (words : MemoWords) : Type 0 where
+  pub steppable : Steppable table index f marks cs words.closures words.pending
   pub few : i < nodes_most
   pub row : i * size_of table + size_of table ≤ length marks
-  pub places-are : length places ≡ places_most
+  pub places-are : length words.places ≡ places_most
 
 -- the marks with node i's words, and a node up to i that has the same
 pub record MarkedNew (table : List ℕ) (f : ℕ) (marks cs : List ℕ) (i : ℕ) (marks' : List ℕ) (r : ℕ) : Type 0 where
@@ -77,15 +78,13 @@ pub record MarkedNew (table : List ℕ) (f : ℕ) (marks cs : List ℕ) (i : ℕ
   pub same : stored_set (size_of table) marks' r ≡ set_over table f marks cs
 
 -- what marking it by the memo asks; its children are represented by the last `rank` of four nodes
-pub record NextMarkable (table index : List ℕ) (f : ℕ) (marks four : List ℕ) (rank i : ℕ)
-    (keys known places owners rows pending : List ℕ) : Type 0 where
-  pub new : NewMarkable table index f marks (drop (rank_most - rank) four) i places owners rows pending
+pub record NextMarkable (table index : List ℕ) (f : ℕ) (marks four : List ℕ) (rank i : ℕ) (words : MemoWords) : Type 0 where
+  pub new : NewMarkable table index f marks (drop (rank_most - rank) four) i words
   pub keyable : Keyable f four rank
   pub below : AllBelow i (drop (rank_most - rank) four)
-  pub remembered : Remembered table marks i keys known places owners rows pending
+  pub remembered : Remembered table marks i words
 
 -- what it leaves
-pub record MarkedNext (table : List ℕ) (f : ℕ) (marks cs : List ℕ) (i : ℕ) (marks' : List ℕ) (r : ℕ)
-    (keys known places owners rows pending : List ℕ) : Type 0 where
+pub record MarkedNext (table : List ℕ) (f : ℕ) (marks cs : List ℕ) (i : ℕ) (marks' : List ℕ) (r : ℕ) (words : MemoWords) : Type 0 where
   pub new : MarkedNew table f marks cs i marks' r
-  pub remembered : Remembered table marks' (i + 1) keys known places owners rows pending
+  pub remembered : Remembered table marks' (i + 1) words

@@ -24,10 +24,9 @@ fn mark_new(
     i: usize,
     memo: &mut Memo,
 ) -> usize
-    requires { NewMarkable indexed.table.now indexed.index.now symbol marks.old children.now i memo.old.places
-        memo.old.closures.owners memo.old.closures.rows memo.old.pending }
+    requires { NewMarkable indexed.table.now indexed.index.now symbol marks.old children.now i memo.old }
     ensures answer { MarkedNew indexed.entry.table.now symbol marks.old children.now i marks.new result }
-    ensures closures { Closures indexed.entry.table.now memo.new.closures.owners memo.new.closures.rows }
+    ensures closures { Closures indexed.entry.table.now memo.new.closures }
     ensures keys { memo.new.keys ≡ memo.old.keys }
     ensures known { memo.new.known ≡ memo.old.known }
     ensures places { length memo.new.places ≡ length memo.old.places }
@@ -71,11 +70,9 @@ pub fn mark_next(
     i: usize,
     memo: &mut Memo,
 ) -> usize
-    requires { NextMarkable indexed.table.now indexed.index.now symbol marks.old four.now rank i memo.old.keys memo.old.known
-        memo.old.places memo.old.closures.owners memo.old.closures.rows memo.old.pending }
+    requires { NextMarkable indexed.table.now indexed.index.now symbol marks.old four.now rank i memo.old }
     ensures { MarkedNext indexed.entry.table.now symbol marks.old (drop (rank_most - rank) four.now) i marks.new result
-        memo.new.keys memo.new.known memo.new.places memo.new.closures.owners memo.new.closures.rows
-        memo.new.pending }
+        memo.new }
 {
     let key = step_key(symbol, four, rank);
     let slot = slot_of(key);

@@ -21,6 +21,7 @@ use Rattle.operations.specs.Marks.{size_of}
 use Rattle.sets.specs.Size.{set_most}
 use Rattle.sets.proofs.SizeLaws.{set-small}
 use Rattle.index.specs.Index.{IndexedTable}
+use Rattle.closures.specs.declared.KeptClosures.{KeptClosures}
 use Rattle.closures.proofs.TransitionStartLaws.{member-starts, table-transitions}
 use Rattle.closures.proofs.KeyedWordLaws.{starts-symbol, starts-target}
 use Rattle.closures.proofs.KeptClosureLaws.{empty-closed}
@@ -29,9 +30,9 @@ use Rattle.step.specs.Node.{Steppable, SymbolFollowable, SymbolFollowed}
 
 -- ---- before the first transition
 
-pub node-followable : {table index : List ℕ} {f size : ℕ} {marks children owners rows pending : List ℕ}
-    → Steppable table index f marks children owners rows pending
-    → size ≡ size_of table → SymbolFollowable table index f size marks children owners rows pending (replicate set_most 0)
+pub node-followable : {table index : List ℕ} {f size : ℕ} {marks children : List ℕ} {kept : KeptClosures} {pending : List ℕ}
+    → Steppable table index f marks children kept pending
+    → size ≡ size_of table → SymbolFollowable table index f size marks children kept pending (replicate set_most 0)
 node-followable {table} g e =
     record {
       steppable = g;
@@ -61,7 +62,7 @@ contains-zeros x n q = rw (zeros-at x n (q / 32))
 -- ---- the node's state set
 
 module _ {table index : List ℕ} {f : ℕ} (indexed : IndexedTable table index) (rs : List StateSet) (r : StateSet)
-    (owners rows : List ℕ) (g : SymbolFollowed table f rs r owners rows) where
+    (kept : KeptClosures) (g : SymbolFollowed table f rs r kept) where
   A : Automaton
   A = automaton_of table
 
@@ -97,10 +98,10 @@ module _ {table index : List ℕ} {f : ℕ} (indexed : IndexedTable table index)
       (λ e. contains-zeros x (set_most - size_for A.states) q ∙ (state_set-reached A f rs below q).1 (g.growing.reached q e))
       (λ e. has-reached ((state_set-reached A f rs below q).0 (sym (contains-zeros x (set_most - size_for A.states) q) ∙ e))))
 
-pub node_end : {table index : List ℕ} {f size : ℕ} {marks children owners rows : List ℕ} → NodeSteppable table index f marks children
+pub node_end : {table index : List ℕ} {f size : ℕ} {marks children : List ℕ} {kept : KeptClosures} → NodeSteppable table index f marks children
     → size ≡ size_of table
-    → {r : StateSet} → SymbolFollowed table f (child_sets size marks children) r owners rows
+    → {r : StateSet} → SymbolFollowed table f (child_sets size marks children) r kept
     → r ≡ state_set (automaton_of table) f (child_sets (size_of table) marks children) ++ replicate (set_most - size_of table) 0
-node_end {table} {index} {f} {size} {marks} {children} {owners} {rows} p e {r} g =
-    whole p.indexed (child_sets size marks children) r owners rows g
+node_end {table} {index} {f} {size} {marks} {children} {kept} p e {r} g =
+    whole p.indexed (child_sets size marks children) r kept g
     ∙ ap (λ (k : ℕ). state_set (automaton_of table) f (child_sets k marks children) ++ replicate (set_most - size_of table) 0) e

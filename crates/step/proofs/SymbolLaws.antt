@@ -19,6 +19,7 @@ use Rattle.index.specs.Index.{key_of, key_count, IndexedTable}
 use Rattle.index.proofs.ChainLaws.{FirstWith, SymbolWord, next_with, next-some, next-none, keyed-symbol}
 use Rattle.index.proofs.IndexLaws.{keyed}
 use Rattle.closures.specs.Closure.{ReachedFrom, itself, onward, Joinable, JoinedClosure}
+use Rattle.closures.specs.declared.KeptClosures.{KeptClosures}
 use Rattle.closures.proofs.KeyedWordLaws.{symbol-below, symbol-reached, symbol-sources}
 use Rattle.closures.proofs.FollowLaws.{left, chain_first, chain_next, left_less}
 use Rattle.step.specs.NodeSteppable.{RowsInside, child_sets}
@@ -32,8 +33,8 @@ reached-on (onward m d) h = by_epsilon m (reached-on d h)
 
 -- ---- one transition
 
-module _ {table index : List ℕ} {size : ℕ} {marks children owners rows pending : List ℕ} {r : StateSet} {i : ℕ}
-    (g : TransitionFollowable table index size marks children owners rows pending r i) where
+module _ {table index : List ℕ} {size : ℕ} {marks children : List ℕ} {kept : KeptClosures} {pending : List ℕ} {r : StateSet} {i : ℕ}
+    (g : TransitionFollowable table index size marks children kept pending r i) where
   f : ℕ
   f = key_of (get_or table i 0)
 
@@ -61,7 +62,7 @@ module _ {table index : List ℕ} {size : ℕ} {marks children owners rows pendi
         rows = subst (λ k. RowsInside k marks children) (sym g.followable.size_is) g.followable.steppable.node.rows;
       }
 
-  pub transition-joinable : Joinable table index (state_below (get_or table i 0)) owners rows pending r
+  pub transition-joinable : Joinable table index (state_below (get_or table i 0)) kept pending r
   unfolding checked
   transition-joinable =
       let k = g.followable.growing in
@@ -78,14 +79,14 @@ module _ {table index : List ℕ} {size : ℕ} {marks children owners rows pendi
 
   -- the set stays: it has the target, or the part states are not in the children's sets
   pub transition-still : Satisfied table (child_sets size marks children) r i
-      → TransitionFollowed table (key_of (get_or table i 0)) (child_sets size marks children) i r r owners rows
+      → TransitionFollowed table (key_of (get_or table i 0)) (child_sets size marks children) i r r kept
   transition-still h =
       record { closures = g.followable.steppable.closures; growing = g.followable.growing; grown = λ q e. e; satisfied = h }
 
   pub transition-more : all_contained (sources_at (drop (i + 1) table)) (child_sets size marks children) ≡ true
-      → {t : StateSet} {owners' rows' : List ℕ}
-      → JoinedClosure table (state_below (get_or table i 0)) r t owners' rows'
-      → TransitionFollowed table (key_of (get_or table i 0)) (child_sets size marks children) i r t owners' rows'
+      → {t : StateSet} {kept' : KeptClosures}
+      → JoinedClosure table (state_below (get_or table i 0)) r t kept'
+      → TransitionFollowed table (key_of (get_or table i 0)) (child_sets size marks children) i r t kept'
   transition-more h {t} j =
       let a = j.added in
       let target = symbol-reached checked i g.inside symbol (child_sets size marks children) h in
@@ -102,17 +103,17 @@ module _ {table index : List ℕ} {size : ℕ} {marks children owners rows pendi
 -- ---- all of them
 
 -- at word i of the chain, or at its end, where i is 0: the words before are followed
-pub record SymbolAt (table index : List ℕ) (f size : ℕ) (marks children owners rows pending : List ℕ) (r : StateSet)
+pub record SymbolAt (table index : List ℕ) (f size : ℕ) (marks children : List ℕ) (kept : KeptClosures) (pending : List ℕ) (r : StateSet)
     (pending_length i : ℕ) : Type 0 where
-  pub followable : SymbolFollowable table index f size marks children owners rows pending r
+  pub followable : SymbolFollowable table index f size marks children kept pending r
   pub from : ℕ
   pub at : i ≡ next_with table f from
   pub pending-long : length pending ≡ pending_length
   pub followed : (j : ℕ) → j < from → j < length table → key_of (get_or table j 0) ≡ f → Satisfied table (child_sets size marks children) r j
 
-module _ {table index : List ℕ} {f size : ℕ} {marks children owners rows pending : List ℕ} {r : StateSet} where
-  pub symbol-first : SymbolFollowable table index f size marks children owners rows pending r
-      → SymbolAt table index f size marks children owners rows pending r (length pending) (get_or index f 0)
+module _ {table index : List ℕ} {f size : ℕ} {marks children : List ℕ} {kept : KeptClosures} {pending : List ℕ} {r : StateSet} where
+  pub symbol-first : SymbolFollowable table index f size marks children kept pending r
+      → SymbolAt table index f size marks children kept pending r (length pending) (get_or index f 0)
   symbol-first g =
       let c = g.steppable.node.indexed in
       let small = g.steppable.node.symbol-below in
@@ -124,14 +125,14 @@ module _ {table index : List ℕ} {f size : ℕ} {marks children owners rows pen
         followed = λ j h l e. absurd (omega arith);
       }
 
-  module _ {pending_length i : ℕ} (s : SymbolAt table index f size marks children owners rows pending r pending_length i) where
+  module _ {pending_length i : ℕ} (s : SymbolAt table index f size marks children kept pending r pending_length i) where
     pub symbol-checked : IndexedTable table index
     symbol-checked = s.followable.steppable.node.indexed
 
     key_below : f < key_count
     key_below = let small = s.followable.steppable.node.symbol-below in omega arith
 
-    pub symbol_end : i ≤ 0 → SymbolFollowed table f (child_sets size marks children) r owners rows
+    pub symbol_end : i ≤ 0 → SymbolFollowed table f (child_sets size marks children) r kept
     symbol_end h =
         record {
           closures = s.followable.steppable.closures;
@@ -151,11 +152,11 @@ module _ {table index : List ℕ} {f size : ℕ} {marks children owners rows pen
       pub symbol-inside : i < length table
       symbol-inside = symbol-next.inside
 
-      pub symbol-at : TransitionFollowable table index size marks children owners rows pending r i
+      pub symbol-at : TransitionFollowable table index size marks children kept pending r i
       symbol-at =
           record {
             followable =
-                subst (λ k. SymbolFollowable table index k size marks children owners rows pending r) (sym symbol-next.keyed)
+                subst (λ k. SymbolFollowable table index k size marks children kept pending r) (sym symbol-next.keyed)
                 s.followable;
             inside = symbol-next.inside;
           }
@@ -163,10 +164,10 @@ module _ {table index : List ℕ} {f size : ℕ} {marks children owners rows pen
       pub symbol-less : left table (get_or index (key_count + i) 0) < left table i
       symbol-less = left_less symbol-checked symbol-next key_below h
 
-      pub symbol-more : {t : StateSet} {owners' rows' pending' : List ℕ} → length pending' ≡ length pending
-          → TransitionFollowed table (key_of (get_or table i 0)) (child_sets size marks children) i r t owners' rows'
-          → SymbolAt table index f size marks children owners' rows' pending' t pending_length (get_or index (key_count + i) 0)
-      symbol-more {t} {owners'} {rows'} {pending'} e j =
+      pub symbol-more : {t : StateSet} {kept' : KeptClosures} {pending' : List ℕ} → length pending' ≡ length pending
+          → TransitionFollowed table (key_of (get_or table i 0)) (child_sets size marks children) i r t kept'
+          → SymbolAt table index f size marks children kept' pending' t pending_length (get_or index (key_count + i) 0)
+      symbol-more {t} {kept'} {pending'} e j =
           record {
             followable = record {
               steppable = record {

@@ -46,11 +46,10 @@ fn follow_transition(
     pending: &mut [u32],
     set: &mut [u32],
 )
-    requires { TransitionFollowable indexed.table.now indexed.index.now size marks.now children.now closures.old.owners
-        closures.old.rows pending.old set.old i }
+    requires { TransitionFollowable indexed.table.now indexed.index.now size marks.now children.now closures.old pending.old set.old i }
     ensures { TransitionFollowed indexed.entry.table.now (key_of (get_or indexed.entry.table.now i 0))
         (child_sets size marks.now children.now) i set.old set.new
-        closures.new.owners closures.new.rows }
+        closures.new }
 {
     let target = indexed.target(i);
     if contains(set, target) {
@@ -73,10 +72,9 @@ fn follow_symbol(
     pending: &mut [u32],
     set: &mut [u32],
 )
-    requires { SymbolFollowable indexed.table.now indexed.index.now symbol size marks.now children.now closures.old.owners
-        closures.old.rows pending.old set.old }
+    requires { SymbolFollowable indexed.table.now indexed.index.now symbol size marks.now children.now closures.old pending.old set.old }
     ensures { SymbolFollowed indexed.entry.table.now symbol (child_sets size marks.now children.now) set.new
-        closures.new.owners closures.new.rows }
+        closures.new }
 {
     let mut i = indexed.first(symbol as usize);
     while 0 < i {
@@ -95,13 +93,12 @@ pub fn node_set(
     closures: &mut KeptClosures,
     pending: &mut [u32],
 ) -> [u32; SET_MOST]
-    requires { Steppable indexed.table.now indexed.index.now symbol marks.now children.now closures.old.owners
-        closures.old.rows pending.old }
+    requires { Steppable indexed.table.now indexed.index.now symbol marks.now children.now closures.old pending.old }
     ensures answer { result
         ≡ state_set (automaton_of indexed.entry.table.now) symbol
         (child_sets (size_of indexed.entry.table.now) marks.now children.now)
         ++ replicate (set_most - size_of indexed.entry.table.now) 0 }
-    ensures closures { Closures indexed.entry.table.now closures.new.owners closures.new.rows }
+    ensures closures { Closures indexed.entry.table.now closures.new }
 {
     let size = set_size(indexed.table);
     let mut set = [0u32; SET_MOST];

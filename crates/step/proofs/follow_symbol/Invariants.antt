@@ -6,7 +6,7 @@ use Rattle.step.proofs.follow_symbol.Given as goal
 
 abbrev pub invariant-loop-i : goal.invariant-loop-i
 invariant-loop-i l =
-    SymbolAt l.indexed.table.now l.indexed.index.now l.symbol l.size l.marks l.children l.closures.owners l.closures.rows l.pending l.set
+    SymbolAt l.indexed.table.now l.indexed.index.now l.symbol l.size l.marks l.children l.closures l.pending l.set
     (length l.initial.pending) l.i
 
 abbrev pub decreases-loop-i : goal.decreases-loop-i

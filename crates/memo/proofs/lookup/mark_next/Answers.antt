@@ -19,4 +19,4 @@ pub returns : goal.returns
 returns c =
     rw (c.remember.ensures, c.mark_new-node.ensures.keys, c.mark_new-node.ensures.known)
     (stored_next c.requires _ c.step_key-key.ensures _ c.slot_of-slot.ensures _ _ c.mark_new-node.ensures.answer
-    c.mark_new-node.ensures.places c.mark_new-node.ensures.closures c.mark_new-node.ensures.pending)
+    c.mark_new-node.new.memo c.mark_new-node.ensures.places c.mark_new-node.ensures.closures c.mark_new-node.ensures.pending)
