@@ -2,7 +2,7 @@
 -- the loop's invariant; and of the span that it leads to.
 use mathlib.Core.Path.{◌≡◌, refl, ap, ap₂, ◌∙◌, sym}
 use mathlib.Core.List.{List, []}
-use Prim.Native.Nat.{ℕ, zero, suc, ◌+◌, ◌-◌, ◌<◌, ◌≤◌}
+use Prim.Native.Nat.{ℕ, suc, ◌+◌, ◌-◌, ◌*◌, ◌<◌, ◌≤◌}
 use native.Mathlib.Omega.{arith}
 use lib.ListN.{length, get_or, take, drop, get_or-eq_default, drop_of_length-le}
 use lib.Seq.{slice, take_all}
@@ -31,13 +31,6 @@ arity-missing a = refl
 
 -- ---- where subtrees begin
 
--- where there are not more words than trees asked for, the words go to their beginning
-start_from-short : (arity : ℕ → ℕ) (ws : List ℕ) (j n : ℕ) → j ≤ n → start_from_by arity ws j n ≡ 0
-unfolding start_from_by
-start_from-short arity ws zero n h = refl
-start_from-short arity ws (suc j) zero h = absurd (omega arith)
-start_from-short arity ws (suc j) (suc n) h = start_from-short arity ws j (n + arity (get_or ws j 0)) (omega arith)
-
 -- behind the words, a missing one that takes no children is a subtree of its own
 start-missing : (arity : ℕ → ℕ) (ws : List ℕ) (i : ℕ) → arity 0 ≡ 0 → length ws ≤ i → (span_of_by arity ws i).start ≡ i
 start-missing arity ws i z h =
@@ -48,39 +41,40 @@ start-missing arity ws i z h =
 -- ---- backward from behind a node: `needed` trees still end before `start`
 
 pub record Backward (arity : ℕ → ℕ) (ws : List ℕ) (node start needed : ℕ) : Type 0 where
-  pub low : start ≤ node + 1
+  pub within : start ≤ node + 1
+  pub some : 0 < needed
+  pub few : needed ≤ 1 + symbol_range * (node + 1 - start)
   pub same : (span_of_by arity ws node).start ≡ start_from_by arity ws start needed
 
 pub backward-first : (arity : ℕ → ℕ) (ws : List ℕ) (node : ℕ) → Backward arity ws node (node + 1) 1
-backward-first arity ws node = record { low = omega arith; same = refl }
+backward-first arity ws node = record { within = omega arith; some = omega arith; few = omega arith; same = refl }
 
 module _ {arity : ℕ → ℕ} {ws : List ℕ} {node start needed : ℕ} (b : Backward arity ws node start needed) where
-  -- no more words than trees needed: the subtree goes to the beginning
-  pub backward-all : start ≤ needed → Backward arity ws node 0 0
-  backward-all h = record {
-    low = omega arith;
-    same = b.same ∙ start_from-short arity ws start needed h ∙ sym (start_from-none arity ws 0);
-  }
+  -- no words are left
+  pub backward-all : start ≤ 0 → 0 ≡ (span_of_by arity ws node).start
+  unfolding start_from_by
+  backward-all h = let z : start ≡ 0 = omega arith in sym (b.same ∙ ap (λ (j : ℕ). start_from_by arity ws j needed) z)
 
-  pub backward-more : (r : ℕ) → 0 < needed → 0 < start → r ≡ arity (get_or ws (start - 1) 0)
-      → Backward arity ws node (start - 1) (needed - 1 + r)
-  backward-more r hn hs e =
-      let low = b.low in
-      let p : start ≡ suc (start - 1) = omega arith in
-      let q : needed ≡ suc (needed - 1) = omega arith in
-      record {
-        low = omega arith;
-        same =
-            b.same
-            ∙ ap₂ (start_from_by arity ws) p q
-            ∙ start_from-more arity ws (start - 1) (needed - 1)
-            ∙ ap (λ (n : ℕ). start_from_by arity ws (start - 1) (needed - 1 + n)) (sym e);
-      }
+  -- the word before `start` is passed, which takes r trees
+  module _ (h : 0 < start) (r : ℕ) (e : r ≡ arity (get_or ws (start - 1) 0)) where
+    passed : (span_of_by arity ws node).start ≡ start_from_by arity ws (start - 1) (needed - 1 + r)
+    passed =
+        let some = b.some in
+        let p : start ≡ suc (start - 1) = omega arith in
+        let q : needed ≡ suc (needed - 1) = omega arith in
+        b.same
+        ∙ ap₂ (start_from_by arity ws) p q
+        ∙ start_from-more arity ws (start - 1) (needed - 1)
+        ∙ ap (λ (n : ℕ). start_from_by arity ws (start - 1) (needed - 1 + n)) (sym e)
 
-  pub backward-end : needed ≤ 0 → start ≡ (span_of_by arity ws node).start
-  backward-end h =
-      let z : needed ≡ 0 = omega arith in
-      sym (b.same ∙ ap (start_from_by arity ws start) z ∙ start_from-none arity ws start)
+    pub backward-more : r < symbol_range → (needed - 1 + r ≡ 0 → ⊥) → Backward arity ws node (start - 1) (needed - 1 + r)
+    backward-more l n =
+        let within = b.within in
+        let few = b.few in
+        record { within = omega arith; some = omega arith; few = omega arith; same = passed }
+
+    pub backward-end : needed - 1 + r ≡ 0 → start - 1 ≡ (span_of_by arity ws node).start
+    backward-end z = sym (passed ∙ ap (start_from_by arity ws (start - 1)) z ∙ start_from-none arity ws (start - 1))
 
 -- ---- the span that is answered
 

@@ -1,21 +1,19 @@
--- `syntax::postfix::one_tree` meets its contract: before each turn the words from `i` on, after the trees so far, make one tree
+-- `syntax::postfix::one_tree` meets its contract: before each turn the words that are left, after the trees so far, make one tree
 -- exactly if all words do.
 use mathlib.Core.Path.{◌∙◌, sym}
 use native.Mathlib.Omega.{arith}
-use borrow.Author.Rules.{rules}
 use Rattle.words.proofs.ScanLaws.{trees-lacks, trees-continues, trees-end}
 use Rattle.syntax.proofs.postfix.one_tree.Goals as goal
 
 pub returns-then-made-children : goal.returns-then-made-children
 returns-then-made-children c =
-    sym (c.loop-i.invariant.2 ∙ trees-lacks _ _ _ _ _ _ c.loop-i-test.true c.arity-children.ensures c.if-made-children.true)
+    sym (c.loop-w.invariant.same ∙ trees-lacks _ _ _ _ _ _ c.loop-w-test.true c.arity-children.ensures c.if-made-children.true)
 
-pub loop-i-preserved : goal.loop-i-preserved
-loop-i-preserved c = (
-  search rules,
-  omega (arith, c.loop-i.invariant),
-  c.loop-i.invariant.2 ∙ trees-continues _ _ _ _ _ _ c.loop-i-test.true c.arity-children.ensures c.if-made-children.false,
-)
+pub loop-w-preserved : goal.loop-w-preserved
+loop-w-preserved c = record {
+  below = omega (arith, c.loop-w.invariant);
+  same = c.loop-w.invariant.same ∙ trees-continues _ _ _ _ _ _ c.loop-w-test.true c.arity-children.ensures c.if-made-children.false;
+}
 
 pub returns : goal.returns
-returns c = sym (c.loop-i.invariant.2 ∙ trees-end _ _ _ _ _ c.loop-i-test.false)
+returns c = sym (c.loop-w.invariant.same ∙ trees-end _ _ _ _ _ c.loop-w-test.false)
