@@ -8,33 +8,33 @@ use Rattle.words.specs.Limits.{states_most}
 use Rattle.words.specs.Postfix.{roots_of}
 use Rattle.sets.specs.Size.{set_most}
 use Rattle.closures.specs.Closure.{rows_most}
+use Rattle.memo.specs.declared.Memo.{Memo}
 use Rattle.memo.specs.Memo.{places_most, slots_most}
 use Rattle.memo.proofs.MemoLaws.{nothing-remembered}
-use Rattle.nodes.specs.Nodes.{stack_length, Held, marked_at, marked_from}
+use Rattle.nodes.specs.declared.stack.Roots.{Roots}
+use Rattle.nodes.specs.Nodes.{Held, marked_at, marked_from}
 use Rattle.nodes.specs.Marking.{Maintained, NodeMarkable, NodesMarkable}
 use Rattle.nodes.proofs.WorkableLaws.{workable-long}
 use Rattle.nodes.proofs.RootStackLaws.{represent-roots}
 
-pub record NodesMarking (a table ch : List ℕ) (from to : ℕ) (marks₀ marks array : List ℕ) (height : ℕ)
-    (keys known places owners rows pending : List ℕ) (i : ℕ) : Type 0 where
+pub record NodesMarking (a table ch : List ℕ) (from to : ℕ) (marks₀ marks : List ℕ) (roots : Roots) (memo : Memo) (i : ℕ) : Type 0 where
   pub low : from ≤ i
   pub high : i ≤ to
   pub long : length marks ≡ length marks₀
   pub marks-are : marks ≡ marked_from a table ch from (i - from) marks₀
-  pub maintained : Maintained a table ch i marks array height keys known places owners rows pending
+  pub maintained : Maintained a table ch i marks roots memo
 
-module _ {a table index ch : List ℕ} {from to : ℕ} {marks₀ array₀ : List ℕ} {height₀ : ℕ}
-    {keys₀ known₀ places₀ owners₀ rows₀ pending₀ : List ℕ}
-    (pre : NodesMarkable a table index ch from to marks₀ array₀ height₀ keys₀ known₀ places₀ owners₀ rows₀ pending₀) where
-  pub marking-none : NodesMarking a table ch from to marks₀ marks₀ array₀ height₀ keys₀ known₀ places₀ owners₀ rows₀ pending₀ from
+module _ {a table index ch : List ℕ} {from to : ℕ} {marks₀ : List ℕ} {roots₀ : Roots} {memo₀ : Memo}
+    (pre : NodesMarkable a table index ch from to marks₀ roots₀ memo₀) where
+  pub marking-none : NodesMarking a table ch from to marks₀ marks₀ roots₀ memo₀ from
   unfolding marked_from
   marking-none =
       let z : from - from ≡ 0 = omega arith in
       record { low = omega arith; high = pre.order; long = refl; marks-are = rw z refl; maintained = pre.maintained }
 
-  module _ {marks array : List ℕ} {height : ℕ} {keys known places owners rows pending : List ℕ} {i : ℕ}
-      (g : NodesMarking a table ch from to marks₀ marks array height keys known places owners rows pending i) where
-    pub marking-at : i < to → NodeMarkable a table index ch i marks array height keys known places owners rows pending
+  module _ {marks : List ℕ} {roots : Roots} {memo : Memo} {i : ℕ}
+      (g : NodesMarking a table ch from to marks₀ marks roots memo i) where
+    pub marking-at : i < to → NodeMarkable a table index ch i marks roots memo
     marking-at l =
         record {
           workable = workable-long g.long pre.workable;
@@ -44,11 +44,11 @@ module _ {a table index ch : List ℕ} {from to : ℕ} {marks₀ array₀ : List
           maintained = g.maintained;
         }
 
-    pub marking-more : i < to → {marks' array' : List ℕ} {height' : ℕ} {keys' known' places' owners' rows' pending' : List ℕ}
+    pub marking-more : i < to → {marks' : List ℕ} {roots' : Roots} {memo' : Memo}
         → length marks' ≡ length marks
         → marks' ≡ marked_at a table ch i marks
-        → Maintained a table ch (i + 1) marks' array' height' keys' known' places' owners' rows' pending'
-        → NodesMarking a table ch from to marks₀ marks' array' height' keys' known' places' owners' rows' pending' (i + 1)
+        → Maintained a table ch (i + 1) marks' roots' memo'
+        → NodesMarking a table ch from to marks₀ marks' roots' memo' (i + 1)
     unfolding marked_from
     marking-more l m w p =
         let low = g.low in
@@ -66,7 +66,7 @@ module _ {a table index ch : List ℕ} {from to : ℕ} {marks₀ array₀ : List
 
     pub marking-end : to ≤ i
         → (marks ≡ marked_from a table ch from (to - from) marks₀)
-        × Maintained a table ch to marks array height keys known places owners rows pending
+        × Maintained a table ch to marks roots memo
     marking-end l =
         let high = g.high in
         let q : i ≡ to = omega arith in
@@ -74,11 +74,19 @@ module _ {a table index ch : List ℕ} {from to : ℕ} {marks₀ array₀ : List
 
 -- ---- with nothing remembered
 
-pub nothing-maintained : {a table ch marks array : List ℕ} {i height : ℕ} → length array ≡ stack_length → i ≤ length ch
-    → Held array height (reverse (roots_of a ch i))
-    → Maintained a table ch i marks array height (replicate slots_most 0) (replicate slots_most 0) (replicate places_most 0)
-    (replicate rows_most 0) (replicate (rows_most * set_most) 0) (replicate states_most 0)
-nothing-maintained {table = table} {marks = marks} {i = i} l h g = record {
-  represented = represent-roots l h g;
+abbrev pub empty_memo : Memo
+empty_memo = record {
+  keys = replicate slots_most 0;
+  known = replicate slots_most 0;
+  places = replicate places_most 0;
+  closures = record { owners = replicate rows_most 0; rows = replicate (rows_most * set_most) 0 };
+  pending = replicate states_most 0;
+}
+
+pub nothing-maintained : {a table ch marks : List ℕ} {i : ℕ} {roots : Roots} → i ≤ length ch
+    → Held roots.nodes roots.height (reverse (roots_of a ch i))
+    → Maintained a table ch i marks roots empty_memo
+nothing-maintained {table = table} {marks = marks} {i = i} h g = record {
+  represented = represent-roots h g;
   remembered = nothing-remembered table marks i;
 }

@@ -4,7 +4,7 @@ use mathlib.Core.List.{List, [], ◌∷◌, ◌++◌, reverse, map, reverse-cons
 use Prim.Native.Nat.{ℕ, suc, ◌+◌, ◌-◌, ◌<◌, ◌≤◌}
 use native.Mathlib.Omega.{arith}
 use native.Mathlib.Numerals.{add-one}
-use lib.ListN.{length, get_or, take, drop, set, replicate, length-append, length-drop, length-reverse, length-set}
+use lib.ListN.{length, get_or, take, drop, set, replicate, length-append, length-drop, length-reverse}
 use lib.Seq.{length-take-le, take-append-add}
 use Rattle.words.specs.Shape.{stack_given_by}
 use Rattle.words.specs.Postfix.{arity, roots_of}
@@ -14,7 +14,8 @@ use Rattle.words.proofs.ChildLaws.{roots-more, roots-below, arity-fits, roots_fe
 use Rattle.words.proofs.AllLaws.{map_below, below_more, each_append, each_take, each-reverse}
 use Rattle.automaton.specs.StateSet.{StateSet}
 use Rattle.operations.specs.Marks.{size_of, stored_set}
-use Rattle.nodes.specs.Nodes.{Held, Pushable, BoundedTree, Stackable, stack_base, stack_length}
+use Rattle.nodes.specs.declared.stack.Roots.{Roots}
+use Rattle.nodes.specs.Nodes.{Held, Pushable, BoundedTree, Stackable, stack_base}
 use Rattle.nodes.specs.Marking.{Represented}
 
 -- r nodes are taken and one is put in their place: one store
@@ -48,19 +49,18 @@ module _ (a ch : List ℕ) (tree : BoundedTree a ch) (i : ℕ) (inside : i < len
 -- ---- representatives
 
 -- the roots themselves
-pub represent-roots : {a table ch marks array : List ℕ} {i height : ℕ} → length array ≡ stack_length → i ≤ length ch
-    → Held array height (reverse (roots_of a ch i)) → Represented a table ch i marks array height
-represent-roots {a} {table} {ch} {marks} {array} {i} l h g =
+pub represent-roots : {a table ch marks : List ℕ} {i : ℕ} {roots : Roots} → i ≤ length ch
+    → Held roots.nodes roots.height (reverse (roots_of a ch i)) → Represented a table ch i marks roots
+represent-roots {a} {table} {ch} {marks} {i} h g =
     record {
       nodes = reverse (roots_of a ch i);
       held = g;
-      long = l;
       count = length-reverse (roots_of a ch i);
       below = each-reverse (λ x. x < i) (roots_of a ch i) (roots-below (arity a) ch i h);
       same = refl;
     }
 
-module _ {a table ch : List ℕ} {i : ℕ} {marks array : List ℕ} {height : ℕ} (g : Represented a table ch i marks array height)
+module _ {a table ch : List ℕ} {i : ℕ} {marks : List ℕ} {stack : Roots} (g : Represented a table ch i marks stack)
     (tree : BoundedTree a ch)
     (inside : i < length ch) (r : ℕ) (e : r ≡ arity a (get_or ch i 0)) where
   abbrev roots : List ℕ
@@ -72,21 +72,21 @@ module _ {a table ch : List ℕ} {i : ℕ} {marks array : List ℕ} {height : �
   pub nodes-fit : r ≤ length g.nodes
   nodes-fit = omega (arith, children-fit a ch tree i inside r e, g.count)
 
-  stack-fits : r ≤ height
+  stack-fits : r ≤ stack.height
   stack-fits = let f = nodes-fit in omega (arith, g.held.height-is)
 
   -- the stack has a place above its top
-  pub stack-height : height < length array
+  pub stack-height : stack.height < length stack.nodes
   stack-height =
       let few = tree.few in
       let f = roots_few (arity a) ch i (omega arith) in
-      omega (arith, g.held.height-is, g.count, g.long)
+      omega (arith, g.held.height-is, g.count, stack.long)
 
   -- node i is put in the place of its children, or an earlier node
-  pub stack-pushable : (node : ℕ) → node < i + 1 → Pushable array height r node
+  pub stack-pushable : (node : ℕ) → node < i + 1 → Pushable stack.nodes stack.height r node
   stack-pushable node low =
       let few = tree.few in
-      record { few = omega arith; fits = stack-fits; height-inside = stack-height; small = omega (arith, g.long) }
+      record { few = omega arith; fits = stack-fits; height-inside = stack-height; small = omega (arith, stack.long) }
 
   -- the node has the same words; earlier words have not changed
   module _ (node : ℕ) (low : node < i + 1) (marks' : List ℕ)
@@ -110,13 +110,13 @@ module _ {a table ch : List ℕ} {i : ℕ} {marks array : List ℕ} {height : �
         ∙ sym (map-take stored (length nodes - r) (reverse roots))
         ∙ ap (map stored) (ap (λ (k : ℕ). take (k - r) (reverse roots)) g.count ∙ take-reverse r roots)
 
-    pub represented-more : Represented a table ch (i + 1) marks' (set array (height - r) node) (height - r + 1)
-    represented-more =
+    pub represented-more : {stack' : Roots} → stack'.height ≡ stack.height - r + 1 → stack'.nodes ≡ set stack.nodes (stack.height - r) node
+        → Represented a table ch (i + 1) marks' stack'
+    represented-more p q =
         let next = roots-next a ch tree i inside r e in
         record {
           nodes = left ++ node ∷ [];
-          held = held-push array height nodes r node g.held nodes-fit stack-height;
-          long = length-set array (height - r) node ∙ g.long;
+          held = rw (p, q) (held-push stack.nodes stack.height nodes r node g.held nodes-fit stack-height);
           count =
               length-append left (node ∷ []) ∙ ap (λ (k : ℕ). k + 1) (length-take-le (length nodes - r) nodes (omega arith))
               ∙ add-one (length nodes - r) ∙ ap (λ (k : ℕ). suc (k - r)) g.count ∙ sym (ap length next ∙ ap suc (length-drop r roots));
@@ -131,46 +131,44 @@ module _ {a table ch : List ℕ} {i : ℕ} {marks array : List ℕ} {height : �
 
 -- ---- the roots of the first nodes, one after the other
 
-pub record Stacking (a ch array : List ℕ) (height count i : ℕ) : Type 0 where
+pub record Stacking (a ch : List ℕ) (stack : Roots) (count i : ℕ) : Type 0 where
   pub high : i ≤ count
-  pub long : length array ≡ stack_length
-  pub held : Held array height (reverse (roots_of a ch i))
+  pub held : Held stack.nodes stack.height (reverse (roots_of a ch i))
 
-pub stacking-none : {a ch : List ℕ} {count : ℕ} {array : List ℕ} → Stackable a ch count array → Stacking a ch array stack_base count 0
+pub stacking-none : {a ch : List ℕ} {count : ℕ} {stack : Roots} → stack.height ≡ stack_base → Stackable a ch count stack.nodes → Stacking a ch stack count 0
 unfolding stack_given_by
-stacking-none g = record { high = omega arith; long = g.long; held = record { words = g.zeros; height-is = refl } }
+stacking-none e g = record { high = omega arith; held = record { words = rw e g.zeros; height-is = e } }
 
-module _ {a ch : List ℕ} {count : ℕ} {array₀ : List ℕ} (pre : Stackable a ch count array₀) {array : List ℕ} {height i : ℕ}
-    (g : Stacking a ch array height count i) where
-  itself : i ≤ length ch → Represented a ch ch i array array height
-  itself h = represent-roots g.long h g.held
+module _ {a ch : List ℕ} {count : ℕ} {array₀ : List ℕ} (pre : Stackable a ch count array₀) {stack : Roots} {i : ℕ}
+    (g : Stacking a ch stack count i) where
+  itself : i ≤ length ch → Represented a ch ch i stack.nodes stack
+  itself h = represent-roots h g.held
 
   module _ (l : i < count) (r : ℕ) (e : r ≡ arity a (get_or ch i 0)) where
     inside : i < length ch
     inside = omega (arith, pre.within)
 
-    pub stacking-pushable : Pushable array height r i
+    pub stacking-pushable : Pushable stack.nodes stack.height r i
     stacking-pushable = stack-pushable (itself (omega (arith, inside))) pre.tree inside r e i (omega arith)
 
-    pub stacking-more : (array' : List ℕ) (height' : ℕ) → height' ≡ height - r + 1 → array' ≡ set array (height - r) i
-        → Stacking a ch array' height' count (i + 1)
-    stacking-more array' height' p q =
+    pub stacking-more : {stack' : Roots} → stack'.height ≡ stack.height - r + 1 → stack'.nodes ≡ set stack.nodes (stack.height - r) i
+        → Stacking a ch stack' count (i + 1)
+    stacking-more {stack'} p q =
         let roots = roots_of a ch i in
         let rep = itself (omega (arith, inside)) in
         let pushed =
-        held-push array height (reverse roots) r i g.held
+        held-push stack.nodes stack.height (reverse roots) r i g.held
         (omega (arith, children-fit a ch pre.tree i inside r e, length-reverse roots))
         (stack-height rep pre.tree inside r e) in
         let same : take (length (reverse roots) - r) (reverse roots) ++ i ∷ [] ≡ reverse (roots_of a ch (i + 1))
         = ap (λ (l : List ℕ). l ++ i ∷ []) (ap (λ (k : ℕ). take (k - r) (reverse roots)) (length-reverse roots) ∙ take-reverse r roots)
         ∙ sym (ap reverse (roots-next a ch pre.tree i inside r e) ∙ reverse-cons i (drop r roots)) in
-        rw (p, q) (record {
+        record {
           high = omega arith;
-          long = length-set array (height - r) i ∙ g.long;
-          held = subst (Held (set array (height - r) i) (height - r + 1)) same pushed;
-        })
+          held = rw (p, q) (subst (Held (set stack.nodes (stack.height - r) i) (stack.height - r + 1)) same pushed);
+        }
 
-  pub stacking-end : count ≤ i → Held array height (reverse (roots_of a ch count))
+  pub stacking-end : count ≤ i → Held stack.nodes stack.height (reverse (roots_of a ch count))
   stacking-end l =
       let high = g.high in
       let q : i ≡ count = omega arith in

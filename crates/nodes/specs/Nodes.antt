@@ -47,6 +47,11 @@ pub record Pushable (array : List ℕ) (height children node : ℕ) : Type 0 whe
   pub height-inside : height < length array
   pub small : length array ≤ stack_length
 
+-- what reading the words on top of the stack asks
+pub record Readable (height : ℕ) : Type 0 where
+  pub based : stack_base ≤ height
+  pub inside : height ≤ stack_length
+
 -- a tree over the alphabet, of no more nodes than a chapter may have
 pub record BoundedTree (a ch : List ℕ) : Type 0 where
   pub accepted : tree_fault a ch ≡ 0
@@ -56,7 +61,6 @@ pub record BoundedTree (a ch : List ℕ) : Type 0 where
 pub record Stackable (a ch : List ℕ) (count : ℕ) (array : List ℕ) : Type 0 where
   pub tree : BoundedTree a ch
   pub within : count ≤ length ch
-  pub long : length array ≡ stack_length
   pub zeros : take stack_base array ≡ replicate stack_base 0
 
 -- ---- what working out nodes asks

@@ -4,88 +4,52 @@ ghost use Rattle.std.specs.Prelude.{◌≡◌, ◌+◌, ◌-◌};
 ghost use Rattle.nodes.specs.Nodes.{marked_at, marked_from};
 ghost use Rattle.nodes.specs.Marking.{Maintained, NodeMarkable, NodesMarkable};
 
-use super::stack::{STACK_BASE, push_node};
+use super::stack::Roots;
 use alphabet::node_arity;
+use index::Indexed;
+use memo::Memo;
 use memo::lookup::mark_next;
 use words::word::SYMBOL_RANGE;
 
-// Marks node i, and puts its representative on the stack in the place of its children's; answers the stack's height.
+// Marks node i, and puts its representative on the stack in the place of its children's.
 pub fn mark_node(
     alphabet: &[u32],
-    table: &[u32],
-    index: &[u32],
+    indexed: Indexed,
     nodes: &[u32],
     i: usize,
     marks: &mut [u32],
-    stack: &mut [u32],
-    height: usize,
-    keys: &mut [u64],
-    known: &mut [u32],
-    places: &mut [u32],
-    owners: &mut [u32],
-    rows: &mut [u32],
-    pending: &mut [u32],
-) -> usize
-    requires { NodeMarkable alphabet.now table.now index.now nodes.now i marks.old stack.old height keys.old known.old places.old
-        owners.old rows.old pending.old }
-    ensures marks { marks.new ≡ marked_at alphabet.now table.now nodes.now i marks.old }
-    ensures maintained { Maintained alphabet.now table.now nodes.now (i + 1) marks.new stack.new result
-        keys.new known.new places.new owners.new rows.new pending.new }
+    roots: &mut Roots,
+    memo: &mut Memo,
+)
+    requires { NodeMarkable alphabet.now indexed.table.now indexed.index.now nodes.now i marks.old roots.old memo.old }
+    ensures marks { marks.new
+        ≡ marked_at alphabet.now indexed.entry.table.now nodes.now i marks.old }
+    ensures maintained { Maintained alphabet.now indexed.entry.table.now nodes.now (i + 1) marks.new roots.new memo.new }
 {
     let w = nodes[i];
     let symbol = w % SYMBOL_RANGE;
     let children = node_arity(alphabet, w);
-    let node = mark_next(
-        table,
-        index,
-        symbol,
-        marks,
-        &stack[height - STACK_BASE..height],
-        children,
-        i,
-        keys,
-        known,
-        places,
-        owners,
-        rows,
-        pending,
-    );
-    push_node(stack, height, children, node)
+    let node = mark_next(indexed, symbol, marks, roots.top(), children, i, memo);
+    roots.push(children, node);
 }
 
-// Marks the nodes from `from` up to `to`, one after the other; answers the stack's height.
+// Marks the nodes from `from` up to `to`, one after the other.
 pub fn mark_nodes(
     alphabet: &[u32],
-    table: &[u32],
-    index: &[u32],
+    indexed: Indexed,
     nodes: &[u32],
     from: usize,
     to: usize,
     marks: &mut [u32],
-    stack: &mut [u32],
-    height: usize,
-    keys: &mut [u64],
-    known: &mut [u32],
-    places: &mut [u32],
-    owners: &mut [u32],
-    rows: &mut [u32],
-    pending: &mut [u32],
-) -> usize
-    requires { NodesMarkable alphabet.now table.now index.now nodes.now from to marks.old stack.old height keys.old known.old
-        places.old owners.old rows.old pending.old }
+    roots: &mut Roots,
+    memo: &mut Memo,
+)
+    requires { NodesMarkable alphabet.now indexed.table.now indexed.index.now nodes.now from to marks.old roots.old memo.old }
     ensures marks { marks.new
-        ≡ marked_from alphabet.now table.now nodes.now from (to - from) marks.old }
-    ensures maintained { Maintained alphabet.now table.now nodes.now to marks.new stack.new result
-        keys.new known.new places.new owners.new rows.new pending.new }
+        ≡ marked_from alphabet.now indexed.entry.table.now nodes.now from (to - from) marks.old }
+    ensures maintained { Maintained alphabet.now indexed.entry.table.now nodes.now to marks.new roots.new memo.new }
 {
-    let mut top = height;
-    let mut i = from;
-    while i < to {
-        top = mark_node(
-            alphabet, table, index, nodes, i, marks, stack, top, keys, known, places, owners, rows,
-            pending,
-        );
-        i += 1;
+    for i in from..to {
+        mark_node(alphabet, indexed, nodes, i, marks, roots, memo);
     }
-    top
 }

@@ -7,27 +7,26 @@ use Prim.Native.Nat.{ℕ, suc, ◌+◌, ◌-◌, ◌<◌, ◌≤◌}
 use native.Mathlib.Omega.{arith}
 use native.Mathlib.Numerals.{add-one}
 use lib.ListN.{length}
+use Rattle.memo.specs.declared.Memo.{Memo}
+use Rattle.nodes.specs.declared.stack.Roots.{Roots}
 use Rattle.nodes.specs.Marking.{Maintained}
 use Rattle.nodes.proofs.WorkableLaws.{workable-long, bounded-tree}
 use Rattle.propagation.specs.declared.Progress.{Progress}
 use Rattle.propagation.specs.Propagation.{propagate_step, propagate_from, initial, Propagable, PropagationStartable}
 use Rattle.propagation.proofs.PropagateNodeLaws.{step_small, propagate-continues, propagate-stops}
 
-pub record Propagating (a table ch : List ℕ) (root count : ℕ) (marks₀ marks array : List ℕ) (t : Progress) (top : ℕ)
-    (keys known places owners rows pending : List ℕ) (i : ℕ) : Type 0 where
+pub record Propagating (a table ch : List ℕ) (root count : ℕ) (marks₀ marks : List ℕ) (roots : Roots) (t : Progress) (memo : Memo) (i : ℕ) : Type 0 where
   pub low : root ≤ i
   pub high : i ≤ length ch
   pub marks-long : length marks ≡ length marks₀
-  pub maintained : Maintained a table ch i marks array top keys known places owners rows pending
+  pub maintained : Maintained a table ch i marks roots memo
   pub few-reached : t.reach ≤ i
   pub few-recomputed : t.recomputed ≤ count + i
   pub same : propagate_from a table ch root (length ch - root) marks₀ (initial count) ≡ propagate_from a table ch i (length ch - i) marks t
 
-module _ {a table index ch : List ℕ} {root count : ℕ} {marks₀ array₀ : List ℕ} {height : ℕ}
-    {keys₀ known₀ places₀ owners₀ rows₀ pending₀ : List ℕ}
-    (pre : PropagationStartable a table index ch root marks₀ array₀ height count keys₀ known₀ places₀ owners₀ rows₀ pending₀) where
-  pub propagating-none : Propagating a table ch root count marks₀ marks₀ array₀
-      (initial count) height keys₀ known₀ places₀ owners₀ rows₀ pending₀ root
+module _ {a table index ch : List ℕ} {root count : ℕ} {marks₀ : List ℕ} {roots₀ : Roots} {memo₀ : Memo}
+    (pre : PropagationStartable a table index ch root marks₀ roots₀ count memo₀) where
+  pub propagating-none : Propagating a table ch root count marks₀ marks₀ roots₀ (initial count) memo₀ root
   propagating-none = record {
     low = omega arith;
     high = pre.nodes.order;
@@ -38,10 +37,10 @@ module _ {a table index ch : List ℕ} {root count : ℕ} {marks₀ array₀ : L
     same = refl;
   }
 
-  module _ {marks array : List ℕ} {t : Progress} {top : ℕ} {keys known places owners rows pending : List ℕ} {i : ℕ}
-      (g : Propagating a table ch root count marks₀ marks array t top keys known places owners rows pending i) where
+  module _ {marks : List ℕ} {roots : Roots} {t : Progress} {memo : Memo} {i : ℕ}
+      (g : Propagating a table ch root count marks₀ marks roots t memo i) where
     module _ (l : i < length ch) where
-      pub propagating-at : Propagable a table index ch i marks array top t keys known places owners rows pending
+      pub propagating-at : Propagable a table index ch i marks roots t memo
       propagating-at =
           let few = (bounded-tree pre.nodes.workable).few in
           let o = g.few-reached in
@@ -70,9 +69,9 @@ module _ {a table index ch : List ℕ} {root count : ℕ} {marks₀ array₀ : L
             ∙ propagate-stops a table ch i marks t (length ch - suc i) m next e h)
 
         pub propagating-more : next.active ≡ true → length m ≡ length marks
-            → {array' : List ℕ} {top' : ℕ} {keys' known' places' owners' rows' pending' : List ℕ}
-            → Maintained a table ch (i + 1) m array' top' keys' known' places' owners' rows' pending'
-            → Propagating a table ch root count marks₀ m array' next top' keys' known' places' owners' rows' pending' (i + 1)
+            → {roots' : Roots} {memo' : Memo}
+            → Maintained a table ch (i + 1) m roots' memo'
+            → Propagating a table ch root count marks₀ m roots' next memo' (i + 1)
         propagating-more h p d =
             let low = g.low in
             let o = g.few-reached in

@@ -6,8 +6,10 @@ ghost use Rattle.nodes.specs.Marking.{Maintained, NodeMarkable};
 ghost use Rattle.propagation.specs.Propagation.{recompute_at, propagate_step, propagate_from, initial, Propagable, PropagationStartable};
 
 use alphabet::node_arity;
+use index::Indexed;
+use memo::Memo;
 use nodes::marking::mark_node;
-use nodes::stack::push_node;
+use nodes::stack::Roots;
 use sets::state::SET_MOST;
 use sets::whole::{same_words, write_set};
 use tables::head::set_size;
@@ -21,113 +23,63 @@ pub struct Progress {
     pub active: bool,
 }
 
-// A node that was recomputed: whether its words changed, and the stack's height behind it.
-#[derive(Drop)]
-struct Recomputed {
-    pub changed: bool,
-    pub height: usize,
-}
-
-// A node that was passed: how far the loop is behind it, and the stack's height.
-#[derive(Drop)]
-struct Passed {
-    pub progress: Progress,
-    pub height: usize,
-}
-
 // Recomputes node i from the marks as they stand. The node's own words there are still those stored before the call: they are
-// kept beside until the new ones are compared with them.
+// kept beside until the new ones are compared with them. Answers whether they differ.
 fn recompute(
     alphabet: &[u32],
-    table: &[u32],
-    index: &[u32],
+    indexed: Indexed,
     nodes: &[u32],
     i: usize,
     marks: &mut [u32],
-    stack: &mut [u32],
-    height: usize,
-    keys: &mut [u64],
-    known: &mut [u32],
-    places: &mut [u32],
-    owners: &mut [u32],
-    rows: &mut [u32],
-    pending: &mut [u32],
-) -> Recomputed
-    requires { NodeMarkable alphabet.now table.now index.now nodes.now i marks.old stack.old height keys.old known.old places.old
-        owners.old rows.old pending.old }
-    ensures marks { (marks.new, result.changed)
-        ≡ recompute_at alphabet.now table.now nodes.now i marks.old }
-    ensures maintained { Maintained alphabet.now table.now nodes.now (i + 1) marks.new stack.new
-        result.height keys.new known.new places.new owners.new rows.new
-        pending.new }
+    roots: &mut Roots,
+    memo: &mut Memo,
+) -> bool
+    requires { NodeMarkable alphabet.now indexed.table.now indexed.index.now nodes.now i marks.old roots.old memo.old }
+    ensures marks { (marks.new, result)
+        ≡ recompute_at alphabet.now indexed.entry.table.now nodes.now i marks.old }
+    ensures maintained { Maintained alphabet.now indexed.entry.table.now nodes.now (i + 1) marks.new roots.new memo.new }
 {
-    let size = set_size(table);
+    let size = set_size(indexed.table);
     let at = i * size;
     let mut before = [0u32; SET_MOST];
     write_set(&mut before, &marks[at..at + size]);
-    let top = mark_node(
-        alphabet, table, index, nodes, i, marks, stack, height, keys, known, places, owners, rows,
-        pending,
-    );
-    let same = same_words(&marks[at..at + size], &before[..size]);
-    Recomputed {
-        changed: !same,
-        height: top,
-    }
+    mark_node(alphabet, indexed, nodes, i, marks, roots, memo);
+    !same_words(&marks[at..at + size], &before[..size])
 }
 
 // Passes node i. A node that takes only roots above the one whose tree holds the replacement is no ancestor of it: its
 // words stay. The replacement's root and its ancestors are recomputed.
 fn propagate_node(
     alphabet: &[u32],
-    table: &[u32],
-    index: &[u32],
+    indexed: Indexed,
     nodes: &[u32],
     i: usize,
     marks: &mut [u32],
-    stack: &mut [u32],
-    height: usize,
+    roots: &mut Roots,
     progress: Progress,
-    keys: &mut [u64],
-    known: &mut [u32],
-    places: &mut [u32],
-    owners: &mut [u32],
-    rows: &mut [u32],
-    pending: &mut [u32],
-) -> Passed
-    requires { Propagable alphabet.now table.now index.now nodes.now i marks.old stack.old height progress keys.old known.old
-        places.old owners.old rows.old pending.old }
-    ensures marks { (marks.new, result.progress)
-        ≡ propagate_step alphabet.now table.now nodes.now i marks.old progress }
-    ensures maintained { Maintained alphabet.now table.now nodes.now (i + 1) marks.new stack.new
-        result.height keys.new known.new places.new owners.new rows.new
-        pending.new }
+    memo: &mut Memo,
+) -> Progress
+    requires { Propagable alphabet.now indexed.table.now indexed.index.now nodes.now i marks.old roots.old progress memo.old }
+    ensures marks { (marks.new, result)
+        ≡ propagate_step alphabet.now indexed.entry.table.now nodes.now i marks.old progress }
+    ensures maintained { Maintained alphabet.now indexed.entry.table.now nodes.now (i + 1) marks.new roots.new memo.new }
 {
     let children = node_arity(alphabet, nodes[i]);
     let reach = progress.reach;
     let recomputed = progress.recomputed;
     if children < reach {
-        let top = push_node(stack, height, children, i);
-        return Passed {
-            progress: Progress {
-                reach: reach - children + 1,
-                recomputed,
-                active: true,
-            },
-            height: top,
+        roots.push(children, i);
+        return Progress {
+            reach: reach - children + 1,
+            recomputed,
+            active: true,
         };
     }
-    let node = recompute(
-        alphabet, table, index, nodes, i, marks, stack, height, keys, known, places, owners, rows,
-        pending,
-    );
-    Passed {
-        progress: Progress {
-            reach: 1,
-            recomputed: recomputed + 1,
-            active: node.changed,
-        },
-        height: node.height,
+    let changed = recompute(alphabet, indexed, nodes, i, marks, roots, memo);
+    Progress {
+        reach: 1,
+        recomputed: recomputed + 1,
+        active: changed,
     }
 }
 
@@ -135,26 +87,18 @@ fn propagate_node(
 // Answers how many nodes were recomputed; `count` of them before.
 pub fn propagate(
     alphabet: &[u32],
-    table: &[u32],
-    index: &[u32],
+    indexed: Indexed,
     nodes: &[u32],
     root: usize,
     marks: &mut [u32],
-    stack: &mut [u32],
-    height: usize,
+    roots: &mut Roots,
     count: usize,
-    keys: &mut [u64],
-    known: &mut [u32],
-    places: &mut [u32],
-    owners: &mut [u32],
-    rows: &mut [u32],
-    pending: &mut [u32],
+    memo: &mut Memo,
 ) -> usize
-    requires { PropagationStartable alphabet.now table.now index.now nodes.now root marks.old
-        stack.old height count keys.old known.old
-        places.old owners.old rows.old pending.old }
+    requires { PropagationStartable alphabet.now indexed.table.now indexed.index.now nodes.now root marks.old
+        roots.old count memo.old }
     ensures { (marks.new, result)
-        ≡ propagate_from alphabet.now table.now nodes.now root (length nodes.now - root)
+        ≡ propagate_from alphabet.now indexed.entry.table.now nodes.now root (length nodes.now - root)
         marks.old (initial count) }
 {
     let mut progress = Progress {
@@ -162,19 +106,11 @@ pub fn propagate(
         recomputed: count,
         active: true,
     };
-    let mut top = height;
-    let mut i = root;
-    while i < nodes.len() {
-        let passed = propagate_node(
-            alphabet, table, index, nodes, i, marks, stack, top, progress, keys, known, places,
-            owners, rows, pending,
-        );
-        top = passed.height;
-        progress = passed.progress;
+    for i in root..nodes.len() {
+        progress = propagate_node(alphabet, indexed, nodes, i, marks, roots, progress, memo);
         if !progress.active {
             return progress.recomputed;
         }
-        i += 1;
     }
     progress.recomputed
 }

@@ -2,19 +2,17 @@
 -- together.
 use mathlib.Core.Path.{◌≡◌, refl, ap, ◌∙◌}
 use mathlib.Core.List.{List, reverse}
-use Prim.Native.Nat.{ℕ, ◌-◌, ◌*◌}
+use Prim.Native.Nat.{ℕ, ◌-◌}
 use native.Mathlib.Omega.{arith}
-use lib.ListN.{length, replicate, length-replicate}
-use Rattle.words.specs.Limits.{states_most}
+use lib.ListN.{length, replicate}
 use Rattle.words.specs.Postfix.{roots_of}
-use Rattle.sets.specs.Size.{set_most}
 use Rattle.index.specs.Index.{index_length, index_of, Indexable}
-use Rattle.closures.specs.Closure.{rows_most}
-use Rattle.memo.specs.Memo.{places_most, slots_most}
+use Rattle.memo.specs.declared.Memo.{Memo}
+use Rattle.nodes.specs.declared.stack.Roots.{Roots}
 use Rattle.nodes.specs.Nodes.{stack_length, Held, Stackable, marked_from}
 use Rattle.nodes.specs.Marking.{Maintained, NodesMarkable}
 use Rattle.nodes.proofs.WorkableLaws.{table-few, workable-long, bounded-tree}
-use Rattle.nodes.proofs.NodeLoopLaws.{nothing-maintained}
+use Rattle.nodes.proofs.NodeLoopLaws.{empty_memo, nothing-maintained}
 use Rattle.propagation.specs.Propagation.{propagate_from, initial, PropagationStartable}
 use Rattle.updates.specs.Updating.{updated_from, Updatable}
 
@@ -26,14 +24,12 @@ module _ {a table ch : List ℕ} {start root : ℕ} {marks : List ℕ} (g : Upda
   nodes-stack =
       let order = g.order in
       let inside = g.inside in
-      record { tree = bounded-tree g.workable; within = omega arith; long = length-replicate {A = ℕ} stack_length 0; zeros = refl }
+      record { tree = bounded-tree g.workable; within = omega arith; zeros = refl }
 
-  pub nodes-marks : {index : List ℕ} → index ≡ index_of table → {array : List ℕ} {height : ℕ}
-      → length array ≡ length (replicate {A = ℕ} stack_length 0)
-      → Held array height (reverse (roots_of a ch start))
-      → NodesMarkable a table index ch start root marks array height (replicate slots_most 0) (replicate slots_most 0)
-      (replicate places_most 0) (replicate rows_most 0) (replicate (rows_most * set_most) 0) (replicate states_most 0)
-  nodes-marks q l s =
+  pub nodes-marks : {index : List ℕ} → index ≡ index_of table → {roots : Roots}
+      → Held roots.nodes roots.height (reverse (roots_of a ch start))
+      → NodesMarkable a table index ch start root marks roots empty_memo
+  nodes-marks q s =
       let order = g.order in
       let inside = g.inside in
       record {
@@ -41,13 +37,13 @@ module _ {a table ch : List ℕ} {start root : ℕ} {marks : List ℕ} (g : Upda
         indexed = q;
         order = order;
         inside = omega arith;
-        maintained = nothing-maintained (l ∙ length-replicate {A = ℕ} stack_length 0) (omega arith) s;
+        maintained = nothing-maintained (omega arith) s;
       }
 
   pub nodes-propagate : {index : List ℕ} → index ≡ index_of table
-      → {marks' array : List ℕ} {height : ℕ} {keys known places owners rows pending : List ℕ}
-      → length marks' ≡ length marks → Maintained a table ch root marks' array height keys known places owners rows pending
-      → PropagationStartable a table index ch root marks' array height (root - start) keys known places owners rows pending
+      → {marks' : List ℕ} {roots : Roots} {memo : Memo}
+      → length marks' ≡ length marks → Maintained a table ch root marks' roots memo
+      → PropagationStartable a table index ch root marks' roots (root - start) memo
   nodes-propagate q m p =
       let inside = g.inside in
       let few = (bounded-tree g.workable).few in

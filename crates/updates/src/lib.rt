@@ -5,11 +5,11 @@
 ghost use Rattle.std.specs.Prelude.{◌≡◌};
 ghost use Rattle.updates.specs.Updating.{updated_from, Updatable};
 
-use closures::{ROWS_LENGTH, ROWS_MOST};
-use index::{INDEX_LENGTH, write_index};
-use memo::{PLACES_MOST, SLOTS_MOST};
+use closures::{KeptClosures, ROWS_LENGTH, ROWS_MOST};
+use index::{INDEX_LENGTH, Indexed, write_index};
+use memo::{Memo, PLACES_MOST, SLOTS_MOST};
 use nodes::marking::mark_nodes;
-use nodes::stack::{STACK_LENGTH, stack_nodes};
+use nodes::stack::{Roots, STACK_LENGTH, stack_nodes};
 use propagation::propagate;
 use words::limits::STATES_MOST;
 
@@ -30,46 +30,30 @@ pub fn update_marks(
 {
     let mut index = [0u32; INDEX_LENGTH];
     write_index(table, &mut index);
-    let mut stack = [0u32; STACK_LENGTH];
-    let mut keys = [0u64; SLOTS_MOST];
-    let mut known = [0u32; SLOTS_MOST];
-    let mut places = [0u32; PLACES_MOST];
-    let mut owners = [0u32; ROWS_MOST];
-    let mut rows = [0u32; ROWS_LENGTH];
-    let mut pending = [0u32; STATES_MOST];
-    let base = stack_nodes(alphabet, nodes, start, &mut stack);
-    let top = mark_nodes(
-        alphabet,
+    let indexed = Indexed {
         table,
-        &index,
-        nodes,
-        start,
-        root,
-        marks,
-        &mut stack,
-        base,
-        &mut keys,
-        &mut known,
-        &mut places,
-        &mut owners,
-        &mut rows,
-        &mut pending,
+        index: &index,
+    };
+    let mut roots = Roots {
+        nodes: [0u32; STACK_LENGTH],
+        height: 0,
+    };
+    let mut memo = Memo {
+        keys: [0u64; SLOTS_MOST],
+        known: [0u32; SLOTS_MOST],
+        places: [0u32; PLACES_MOST],
+        closures: KeptClosures {
+            owners: [0u32; ROWS_MOST],
+            rows: [0u32; ROWS_LENGTH],
+        },
+        pending: [0u32; STATES_MOST],
+    };
+    stack_nodes(alphabet, nodes, start, &mut roots);
+    mark_nodes(
+        alphabet, indexed, nodes, start, root, marks, &mut roots, &mut memo,
     );
+    let count = root - start;
     propagate(
-        alphabet,
-        table,
-        &index,
-        nodes,
-        root,
-        marks,
-        &mut stack,
-        top,
-        root - start,
-        &mut keys,
-        &mut known,
-        &mut places,
-        &mut owners,
-        &mut rows,
-        &mut pending,
+        alphabet, indexed, nodes, root, marks, &mut roots, count, &mut memo,
     )
 }

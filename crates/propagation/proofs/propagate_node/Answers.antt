@@ -10,8 +10,8 @@ node_arity-children-requires c =
     let g = c.requires.at in
     node-kind (bounded-tree g.workable) _ g.inside
 
-pub push_node-top-requires : goal.push_node-top-requires
-push_node-top-requires c =
+pub push-requires : goal.push-requires
+push-requires c =
     node-pushable
     c.requires.at
     _ c.node_arity-children.ensures _ (omega arith)
@@ -19,11 +19,11 @@ push_node-top-requires c =
 pub returns-then-children-reach : goal.returns-then-children-reach
 returns-then-children-reach c = record {
   marks = step-beside _ _ _ _ _ _ _ c.node_arity-children.ensures c.if-children-reach.true;
-  maintained = node-passed c.requires.at _ c.node_arity-children.ensures c.push_node-top.ensures.answer c.push_node-top.ensures.stack;
+  maintained = node-passed c.requires.at _ c.node_arity-children.ensures c.push.ensures.height c.push.ensures.nodes;
 }
 
-pub recompute-node-requires : goal.recompute-node-requires
-recompute-node-requires c =
+pub recompute-changed-requires : goal.recompute-changed-requires
+recompute-changed-requires c =
     c.requires.at
 
 pub overflow_add-result-2 : goal.overflow_add-result-2
@@ -35,6 +35,6 @@ overflow_add-result-2 c =
 
 pub returns : goal.returns
 returns c = record {
-  marks = step-ancestor _ _ _ _ _ _ _ c.node_arity-children.ensures (omega arith) _ c.recompute-node.ensures.marks;
-  maintained = c.recompute-node.ensures.maintained;
+  marks = step-ancestor _ _ _ _ _ _ _ c.node_arity-children.ensures (omega arith) _ c.recompute-changed.ensures.marks;
+  maintained = c.recompute-changed.ensures.maintained;
 }

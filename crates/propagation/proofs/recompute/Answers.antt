@@ -22,8 +22,8 @@ slice_bounds-write_set-end-2 c = row_fits c.requires _ c.set_size-size.ensures
 pub write_set-requires : goal.write_set-requires
 write_set-requires c = row-part c.requires _ c.set_size-size.ensures
 
-pub mark_node-top-requires : goal.mark_node-top-requires
-mark_node-top-requires c =
+pub mark_node-requires : goal.mark_node-requires
+mark_node-requires c =
     c.requires
 
 pub overflow_add-at-2 : goal.overflow_add-at-2
@@ -33,7 +33,7 @@ pub offset_bounds-marks-at-2 : goal.offset_bounds-marks-at-2
 offset_bounds-marks-at-2 c = let l = row_small c.requires _ c.set_size-size.ensures in omega arith
 
 pub slice_bounds-same_words-end : goal.slice_bounds-same_words-end
-slice_bounds-same_words-end c = omega (arith, row_fits c.requires _ c.set_size-size.ensures, c.mark_node-top.auto.marks)
+slice_bounds-same_words-end c = omega (arith, row_fits c.requires _ c.set_size-size.ensures, c.mark_node.auto.marks)
 
 pub slice_bounds-before-end : goal.slice_bounds-before-end
 slice_bounds-before-end c =
@@ -45,7 +45,7 @@ slice_bounds-same_words-end-2 c = before-length c.requires _ c.set_size-size.ens
 pub returns : goal.returns
 returns c = record {
   marks =
-      node-recomputed c.requires _ c.set_size-size.ensures _ _ c.write_set.ensures _ c.mark_node-top.ensures.marks _
-      c.same_words-same.ensures;
-  maintained = c.mark_node-top.ensures.maintained;
+      node-recomputed c.requires _ c.set_size-size.ensures _ _ c.write_set.ensures _ c.mark_node.ensures.marks _
+      c.same_words.ensures;
+  maintained = c.mark_node.ensures.maintained;
 }
