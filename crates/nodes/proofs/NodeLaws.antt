@@ -150,7 +150,7 @@ module _ {a table index ch : List ℕ} {i : ℕ} {marks : List ℕ} {roots : Roo
           rows = rows_inside;
         }
 
-    pub node-next : NextMarkable table index (symbol_of (get_or ch i 0)) marks four r i memo.keys memo.known memo.places memo.closures.owners memo.closures.rows memo.pending
+    pub node-next : NextMarkable table index (symbol_of (get_or ch i 0)) marks four r i memo
     node-next =
         let k = g.maintained.remembered in
         record {
@@ -183,8 +183,7 @@ module _ {a table index ch : List ℕ} {i : ℕ} {marks : List ℕ} {roots : Roo
     -- node i is marked, and its representative is on the stack
     module _ {node : ℕ} {marks' : List ℕ} {memo' : Memo}
         (n : MarkedNext table (symbol_of (get_or ch i 0)) marks
-        (drop (rank_most - r) four) i marks' node memo'.keys memo'.known memo'.places
-        memo'.closures.owners memo'.closures.rows memo'.pending) where
+        (drop (rank_most - r) four) i marks' node memo') where
       abbrev v : StateSet
       v = set_over table (symbol_of (get_or ch i 0)) marks (drop (rank_most - r) four)
 

@@ -20,7 +20,7 @@ pub record Represented (a table ch : List ℕ) (i : ℕ) (marks : List ℕ) (roo
 -- before node i is marked: the stack, and what is kept from node to node
 pub record Maintained (a table ch : List ℕ) (i : ℕ) (marks : List ℕ) (roots : Roots) (memo : Memo) : Type 0 where
   pub represented : Represented a table ch i marks roots
-  pub remembered : Remembered table marks i memo.keys memo.known memo.places memo.closures.owners memo.closures.rows memo.pending
+  pub remembered : Remembered table marks i memo
 
 -- what marking node i asks; the index is the table's
 pub record NodeMarkable (a table index ch : List ℕ) (i : ℕ) (marks : List ℕ) (roots : Roots) (memo : Memo) : Type 0 where

@@ -22,17 +22,6 @@ returns-then-children-reach c = record {
   maintained = node-passed c.requires.at _ c.node_arity-children.ensures c.push.ensures.height c.push.ensures.nodes;
 }
 
-pub recompute-changed-requires : goal.recompute-changed-requires
-recompute-changed-requires c =
-    c.requires.at
-
-pub overflow_add-result-2 : goal.overflow_add-result-2
-overflow_add-result-2 c =
-    omega (
-      arith,
-      c.requires.few-recomputed,
-    )
-
 pub returns : goal.returns
 returns c = record {
   marks = step-ancestor _ _ _ _ _ _ _ c.node_arity-children.ensures (omega arith) _ c.recompute-changed.ensures.marks;

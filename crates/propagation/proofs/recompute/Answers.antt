@@ -22,19 +22,6 @@ slice_bounds-write_set-end-2 c = row_fits c.requires _ c.set_size-size.ensures
 pub write_set-requires : goal.write_set-requires
 write_set-requires c = row-part c.requires _ c.set_size-size.ensures
 
-pub mark_node-requires : goal.mark_node-requires
-mark_node-requires c =
-    c.requires
-
-pub overflow_add-at-2 : goal.overflow_add-at-2
-overflow_add-at-2 c = let l = row_small c.requires _ c.set_size-size.ensures in omega arith
-
-pub offset_bounds-marks-at-2 : goal.offset_bounds-marks-at-2
-offset_bounds-marks-at-2 c = let l = row_small c.requires _ c.set_size-size.ensures in omega arith
-
-pub slice_bounds-same_words-end : goal.slice_bounds-same_words-end
-slice_bounds-same_words-end c = omega (arith, row_fits c.requires _ c.set_size-size.ensures, c.mark_node.auto.marks)
-
 pub slice_bounds-before-end : goal.slice_bounds-before-end
 slice_bounds-before-end c =
     omega (arith, row-few c.requires _ c.set_size-size.ensures, c.write_set.auto.part, length-replicate {A = ℕ} set_most 0)

@@ -8,12 +8,6 @@ use Rattle.nodes.proofs.stack.stack_nodes.Goals as goal
 pub loop-i-init : goal.loop-i-init
 loop-i-init c = stacking-none refl c.requires
 
-pub offset_bounds-nodes-i : goal.offset_bounds-nodes-i
-offset_bounds-nodes-i c = omega (arith, c.requires.within)
-
-pub bounds-nodes-i : goal.bounds-nodes-i
-bounds-nodes-i c = omega (arith, c.requires.within)
-
 pub node_arity-children-requires : goal.node_arity-children-requires
 node_arity-children-requires c = node-kind c.requires.tree _ (omega (arith, c.requires.within))
 
