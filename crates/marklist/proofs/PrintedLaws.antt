@@ -6,6 +6,8 @@ use Prim.Native.Nat.{ℕ, ◌≤◌, min}
 use native.Mathlib.Omega.{arith}
 use lib.ListN.{length, get_or, take, drop}
 use lib.Seq.{length-sets, take_all, length-take-le}
+use Rattle.std.proofs.Common.{Result, Ok, Err}
+use Rattle.std.specs.Result.{is_ok, IfOk}
 use Rattle.words.proofs.TestLaws.{all_append}
 use Rattle.encoding.specs.Words.{is_byte, are_bytes, words_in}
 use Rattle.encoding.proofs.WordByteLaws.{length-words_in, words_in-append, kept-words}
@@ -17,7 +19,7 @@ use Rattle.report.proofs.OutputLength.{output-short}
 use Rattle.report.proofs.KeptLaws.{early-output}
 use Rattle.report.proofs.ReportLaws.{zeros, many}
 use Rattle.report.proofs.ProgramLaws.{program-early, program-complete}
-use Rattle.marklist.specs.InputReading.{InputStored, ReadAll, Printed}
+use Rattle.marklist.specs.InputReading.{InputStored, PartsStored, Printed}
 
 -- ---- words that are stored
 
@@ -59,8 +61,19 @@ counts-are {before} {after} s e =
 module _ (counts₀ counts alphabet₀ alphabet rule₀ rule chapter₀ chapter : List ℕ)
     (few : length counts₀ ≡ 3) (symbols : length alphabet₀ ≡ alphabet_kept) (words : length rule₀ ≡ rule_kept)
     (nodes : length chapter₀ ≡ chapter_kept)
-    (c : InputStored 3 counts₀ counts) (s : InputStored (get_or counts 0 0) alphabet₀ alphabet) (t : InputStored (get_or counts 1 0) rule₀ rule)
-    (u : InputStored (get_or counts 2 0) chapter₀ chapter) where
+    (p : PartsStored counts₀ counts alphabet₀ alphabet rule₀ rule chapter₀ chapter) where
+  abbrev c : InputStored 3 counts₀ counts
+  c = p.counts_stored
+
+  abbrev s : InputStored (get_or counts 0 0) alphabet₀ alphabet
+  s = p.alphabet_stored
+
+  abbrev t : InputStored (get_or counts 1 0) rule₀ rule
+  t = p.rule_stored
+
+  abbrev u : InputStored (get_or counts 2 0) chapter₀ chapter
+  u = p.chapter_stored
+
   -- the bytes that were read
   abbrev all_bytes : List ℕ
   all_bytes = c.bytes ++ (s.bytes ++ (t.bytes ++ u.bytes))
@@ -111,32 +124,32 @@ printed false a e ch before after r whole long same =
     let q = early-output false a e ch refl ∙ sym nothing-printed in
     record { input = []; small = refl; long = long ∙ ap length q; same = same ∙ ap (λ (l : List ℕ). l ++ drop r before) q }
 
--- ---- the whole function: four calls that read, and the report
+-- ---- the whole function: the parts are read, and the report
 
-module _ {counts alphabet rule chapter : List ℕ} {b₁ b₂ b₃ b₄ : Bool}
-    (first : ReadAll true 3 (zeros 3) counts b₁) (second : ReadAll b₁ (get_or counts 0 0) (zeros alphabet_kept) alphabet b₂)
-    (third : ReadAll b₂ (get_or counts 1 0) (zeros rule_kept) rule b₃)
-    (fourth : ReadAll b₃ (get_or counts 2 0) (zeros chapter_kept) chapter b₄) where
-  read-input : b₄ ≡ true → (input : List ℕ)
+stored : {A E : Type 0} (read : Result A E) (P : Type 0) (all : Bool) → all ≡ is_ok read → IfOk read (λ u. P) → all ≡ true → P
+stored (Ok u) P all told parts e = parts
+stored (Err why) P all told parts e = cc
+
+module _ {A E : Type 0} (counts alphabet rule chapter : List ℕ) (all : Bool) (read : Result A E)
+    (told : all ≡ is_ok read)
+    (parts : IfOk read (λ u. PartsStored (zeros 3) counts (zeros alphabet_kept) alphabet (zeros rule_kept) rule (zeros chapter_kept) chapter)) where
+  read-input : all ≡ true → (input : List ℕ)
       × (are_bytes input ≡ true)
       × (program_output input
       ≡ output_of true (take (min (get_or counts 0 0) alphabet_kept) alphabet) (take (min (get_or counts 1 0) rule_kept) rule)
       (take (min (get_or counts 2 0) chapter_kept) chapter))
   read-input e =
-      let u = fourth e in
-      let t = third u.0 in
-      let s = second t.0 in
-      let c = first s.0 in (
-        all_bytes _ _ _ _ _ _ _ _ (many 3) (many alphabet_kept) (many rule_kept) (many chapter_kept) c.1 s.1 t.1 u.1,
-        all-bytes _ _ _ _ _ _ _ _ (many 3) (many alphabet_kept) (many rule_kept) (many chapter_kept) c.1 s.1 t.1 u.1,
-        all-printed _ _ _ _ _ _ _ _ (many 3) (many alphabet_kept) (many rule_kept) (many chapter_kept) c.1 s.1 t.1 u.1,
+      let p = stored read _ all told parts e in (
+        all_bytes _ _ _ _ _ _ _ _ (many 3) (many alphabet_kept) (many rule_kept) (many chapter_kept) p,
+        all-bytes _ _ _ _ _ _ _ _ (many 3) (many alphabet_kept) (many rule_kept) (many chapter_kept) p,
+        all-printed _ _ _ _ _ _ _ _ (many 3) (many alphabet_kept) (many rule_kept) (many chapter_kept) p,
       )
 
   pub answered : {n m k r : ℕ} {out₀ out : List ℕ} → n ≡ min (get_or counts 0 0) alphabet_kept → m ≡ min (get_or counts 1 0) rule_kept
       → k ≡ min (get_or counts 2 0) chapter_kept
-      → r ≡ length (output_of b₄ (take n alphabet) (take m rule) (take k chapter))
-      → out ≡ output_of b₄ (take n alphabet) (take m rule) (take k chapter) ++ drop r out₀ → Printed out₀ out r
-  answered x y z long same = printed b₄ _ _ _ _ _ _ (λ e. rw (x, y, z) (read-input e)) long same
+      → r ≡ length (output_of all (take n alphabet) (take m rule) (take k chapter))
+      → out ≡ output_of all (take n alphabet) (take m rule) (take k chapter) ++ drop r out₀ → Printed out₀ out r
+  answered x y z long same = printed all _ _ _ _ _ _ (λ e. rw (x, y, z) (read-input e)) long same
 
 -- it fits a buffer of 4,096 bytes
 pub printed-short : {before after : List ℕ} {r : ℕ} → Printed before after r → r ≤ buffer_length

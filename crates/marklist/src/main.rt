@@ -2,14 +2,14 @@
 // (document 01, "The source's own example"). What the bytes mean and what is printed stands in the crate `report`.
 #![tactic(auto)]
 
-ghost use Rattle.std.specs.Prelude.{◌≡◌, ◌≤◌, length};
+ghost use Rattle.std.specs.Prelude.{◌≡◌, ◌≤◌, length, IfOk};
 ghost use Rattle.report.specs.Stages.{buffer_length};
-ghost use Rattle.marklist.specs.InputReading.{ReadAll, Printed};
+ghost use Rattle.marklist.specs.InputReading.{InputStored, PartsStored, Printed};
 
 use encoding::word_bytes::{WORD_BYTES, keep_words};
 use report::input::{ALPHABET_KEPT, CHAPTER_KEPT, RULE_KEPT, kept_words, part_bytes};
 use report::report;
-use std::io::{Read, Stdin, Write};
+use std::io::{self, Read, Stdin, Write};
 
 // Zeros, as many as are read or written at once.
 fn buffer() -> [u8; 4096]
@@ -18,26 +18,38 @@ fn buffer() -> [u8; 4096]
     [0; 4096]
 }
 
-// Reads the next `count` words, keeps as many as the slice has room for, and answers whether all were there. It asks for
-// no byte behind them, and for none where `complete` says that the input has ended before.
-fn read_words(input: &mut Stdin, complete: bool, count: u32, words: &mut [u32]) -> bool
-    ensures { ReadAll complete count words.old words.new result }
+// Reads the next `count` words, and keeps as many as the slice has room for. It asks for no byte behind them, and fails where
+// not all are there.
+fn read_words(input: &mut Stdin, count: u32, words: &mut [u32]) -> io::Result<()>
+    ensures { IfOk result (λ _. InputStored count words.old words.new) }
 {
-    if !complete {
-        return false;
-    }
     let all = count as usize;
     let mut seen: usize = 0;
     while seen < all {
         let bytes = part_bytes(all - seen);
         let mut buffer = buffer();
-        if input.read_exact(&mut buffer[..bytes]).is_err() {
-            return false;
-        }
+        input.read_exact(&mut buffer[..bytes])?;
         keep_words(words, seen, &buffer[..bytes]);
         seen += bytes / WORD_BYTES;
     }
-    true
+    Ok(())
+}
+
+// Reads the three counts, and then as many words of the alphabet, the rule and the chapter as they say.
+fn read_parts(
+    input: &mut Stdin,
+    counts: &mut [u32; 3],
+    alphabet: &mut [u32],
+    rule: &mut [u32],
+    chapter: &mut [u32],
+) -> io::Result<()>
+    ensures { IfOk result (λ _.
+        PartsStored counts.old counts.new alphabet.old alphabet.new rule.old rule.new chapter.old chapter.new) }
+{
+    read_words(input, 3, counts)?;
+    read_words(input, counts[0], alphabet)?;
+    read_words(input, counts[1], rule)?;
+    read_words(input, counts[2], chapter)
 }
 
 // Reads the input, writes what is to be printed of it, and answers how many bytes that is.
@@ -49,18 +61,12 @@ fn answer_input(input: &mut Stdin, out: &mut [u8]) -> usize
     let mut alphabet = [0u32; ALPHABET_KEPT];
     let mut rule = [0u32; RULE_KEPT];
     let mut chapter = [0u32; CHAPTER_KEPT];
-    let mut complete = read_words(input, true, 3, &mut counts);
-    let symbols = counts[0];
-    let words = counts[1];
-    let nodes = counts[2];
-    complete = read_words(input, complete, symbols, &mut alphabet);
-    complete = read_words(input, complete, words, &mut rule);
-    complete = read_words(input, complete, nodes, &mut chapter);
+    let read = read_parts(input, &mut counts, &mut alphabet, &mut rule, &mut chapter);
     report(
-        complete,
-        &alphabet[..kept_words(symbols, ALPHABET_KEPT)],
-        &rule[..kept_words(words, RULE_KEPT)],
-        &chapter[..kept_words(nodes, CHAPTER_KEPT)],
+        read.is_ok(),
+        &alphabet[..kept_words(counts[0], ALPHABET_KEPT)],
+        &rule[..kept_words(counts[1], RULE_KEPT)],
+        &chapter[..kept_words(counts[2], CHAPTER_KEPT)],
         out,
     )
 }

@@ -30,5 +30,5 @@ pub fn part_bytes(left: usize) -> usize
 pub fn kept_words(count: u32, slice_length: usize) -> usize
     ensures { result ≡ min count slice_length }
 {
-    slice_length.min(count as usize)
+    (count as usize).min(slice_length)
 }

@@ -5,5 +5,5 @@ use Rattle.marklist.proofs.answer_input.Goals as goal
 
 pub returns : goal.returns
 returns c =
-    answered c.read_words-complete.ensures c.read_words-complete-2.ensures c.read_words-complete-3.ensures c.read_words-complete-4.ensures
+    answered _ _ _ _ _ _ c.is_ok.ensures.value c.read_parts-read.ensures
     c.kept_words.ensures c.kept_words-2.ensures c.kept_words-3.ensures c.report.ensures.answer c.report.ensures.out

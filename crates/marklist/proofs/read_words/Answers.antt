@@ -16,4 +16,4 @@ loop-seen-preserved c =
     c.keep_words.ensures.bytes
 
 pub returns : goal.returns
-returns c = λ e. (c.if-not-complete.false, so-far-end _ _ _ _ c.loop-seen.invariant c.loop-seen-test.false)
+returns c = so-far-end _ _ _ _ c.loop-seen.invariant c.loop-seen-test.false
