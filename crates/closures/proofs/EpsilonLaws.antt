@@ -1,9 +1,9 @@
 -- The chain of a state's epsilon transitions, followed from its first word to its end, and the states on the stack, taken
 -- one after another until none is left.
-use mathlib.Core.Path.{◌≡◌, refl, ◌∙◌}
+use mathlib.Core.Path.{◌≡◌}
 use mathlib.Core.Bool.{true}
 use mathlib.Core.List.{List}
-use Prim.Native.Nat.{ℕ, ◌+◌, ◌-◌, ◌<◌, ◌≤◌}
+use Prim.Native.Nat.{ℕ, ◌+◌, ◌<◌, ◌≤◌}
 use native.Mathlib.Omega.{arith}
 use lib.ListN.{length, get_or}
 use Rattle.words.specs.Word.{state_below}
@@ -13,7 +13,7 @@ use Rattle.index.specs.Index.{IndexedTable, key_count, state_key}
 use Rattle.index.proofs.ChainLaws.{FirstWith, EpsilonWord, next_with, next-some, next-none, keyed-epsilon}
 use Rattle.closures.specs.Closure.{Closed, PendingStack, Search, Puttable, Put, FollowableAt, Followed, work}
 use Rattle.closures.proofs.KeyedWordLaws.{closed-epsilon, epsilon-below, epsilon-reached}
-use Rattle.closures.proofs.PendingStackLaws.{stack-puttable, stack-put, put-less, put-length, put-present, put_keeps}
+use Rattle.closures.proofs.PendingStackLaws.{stack-puttable, stack-put, put-less, put-present, put_keeps}
 use Rattle.closures.proofs.SearchLaws.{search-put, search-word, search-end, search-pop}
 use Rattle.index.proofs.IndexLaws.{keyed}
 use Rattle.closures.proofs.FollowLaws.{left, states-most, chain_first, chain_next, left_less}
@@ -27,7 +27,6 @@ pub record EpsilonsAt (table index : List ℕ) (p : ℕ) (r₀ : StateSet) (pend
   pub checked : IndexedTable table index
   pub from : ℕ
   pub at : i ≡ next_with table (state_key p) from
-  pub size : length pending ≡ length pending₀
   pub stack : PendingStack table r pending top
   pub less : work table r top ≤ work table r₀ top₀
   pub present : contains r p ≡ true
@@ -46,7 +45,6 @@ epsilons-first {p = p} g =
       checked = g.followable.checked;
       from = 0;
       at = chain_first g.followable.checked (state_key p) (key-inside g);
-      size = refl;
       stack = g.followable.stack;
       less = omega arith;
       present = g.present;
@@ -93,7 +91,6 @@ module _ {table index : List ℕ} {p : ℕ} {r₀ : StateSet} {pending₀ : List
           checked = s.checked;
           from = i + 1;
           at = chain_next s.checked epsilons-next key-small;
-          size = put-length most s.stack reaches-below q ∙ s.size;
           stack = stack-put most s.stack reaches-below q;
           less = let u = put-less most s.stack reaches-below q in let v = s.less in omega arith;
           present = put_keeps most s.stack reaches-below q p s.present;
@@ -139,9 +136,9 @@ module _ {table : List ℕ} {r₀ : StateSet} {pending₀ : List ℕ} {top₀ : 
       pending-less = let v = g.less in omega arith
 
   module _ {r : StateSet} {pending : List ℕ} {top : ℕ} (s : Followed table 0 (length table) r₀ pending₀ top₀ r pending top) where
-    -- a state that is on the stack stands in its array
-    pub pending-inside : 0 < top → top - 1 < length pending
-    pending-inside h = omega (arith, s.stack.few, s.stack.fits)
+    -- the stack stands in its array
+    pub pending-few : top ≤ length pending
+    pending-few = omega (arith, s.stack.few, s.stack.fits)
 
     pub pending-end : top ≤ 0 → Followed table 0 (length table) r₀ pending₀ top₀ r pending 0
     pending-end h = let e : top ≡ 0 = omega arith in rw e at s

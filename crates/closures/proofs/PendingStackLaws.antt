@@ -1,5 +1,5 @@
 -- A state set and the stack of its pending states, when one state more is reached.
-use mathlib.Core.Path.{◌≡◌, refl, ◌∙◌, sym}
+use mathlib.Core.Path.{◌≡◌, ◌∙◌, sym}
 use mathlib.Core.Bool.{true, false, cond}
 use mathlib.Core.List.{List}
 use Prim.Native.Nat.{ℕ, ◌+◌, ◌*◌, ◌<◌, ◌≤◌}
@@ -20,12 +20,6 @@ use Rattle.closures.specs.Closure.{missing, PendingStack, Puttable, Put, work}
 -- ---- what was put
 
 module _ {r : StateSet} {pending : List ℕ} {top s : ℕ} where
-  pub put-present-none : contains r s ≡ true → Put r pending top s r pending top
-  put-present-none e = record { states = rw e; stack = rw e; answer = rw e }
-
-  pub put_one : contains r s ≡ false → {t : StateSet} → t ≡ insert r s → Put r pending top s t (set pending top s) (top + 1)
-  put_one e h = record { states = h ∙ sym (rw e); stack = rw e; answer = rw e }
-
   -- what holds in both cases holds of what was put
   pub put-cases : (P : StateSet → List ℕ → ℕ → Type 0) {t : StateSet} {pushed : List ℕ} {height : ℕ} → Put r pending top s t pushed height
       → (contains r s ≡ true → P r pending top) → (contains r s ≡ false → P (insert r s) (set pending top s) (top + 1)) → P t pushed height
@@ -87,9 +81,6 @@ module _ {table : List ℕ} (most : (automaton_of table).states ≤ states_most)
 
     pub put-less : work table t height ≤ work table r top
     put-less = put-cases (λ t k n. work table t n ≤ work table r top) p (λ e. omega arith) (λ e. let l = fewer e in omega arith)
-
-    pub put-length : length pushed ≡ length pending
-    put-length = put-cases (λ t k n. length k ≡ length pending) p (λ e. refl) (λ e. length-set pending top s)
 
     pub put-present : contains t s ≡ true
     put-present = put-cases (λ t k n. contains t s ≡ true) p (λ e. e) (λ e. insert-same r s (let z = h.size in omega arith))

@@ -1,7 +1,7 @@
 // The epsilon closure of a state, worked out along the index; closures that were worked out are kept for other nodes.
 #![tactic(auto)]
 
-ghost use Rattle.std.specs.Prelude.{◌+◌, length};
+ghost use Rattle.std.specs.Prelude.{◌≡◌, ◌+◌, ◌≤◌, length, slice_index, MatchOption};
 ghost use Rattle.index.specs.Index.{state_key};
 ghost use Rattle.closures.specs.Closure.{Puttable, Put, Followable, FollowableAt, Followed, Closable, ClosureOf};
 ghost use Rattle.closures.specs.Closure.{Addable, Added, Keepable, Kept, Joinable, JoinedClosure};
@@ -23,51 +23,68 @@ pub struct KeptClosures {
     pub rows: [u32; ROWS_LENGTH],
 }
 
-// Puts state s into the set and on the stack, if it is not in the set. Answers the stack's height.
-fn put_state(set: &mut [u32], pending: &mut [u32], top: usize, s: usize) -> usize
-    requires { Puttable set.old pending.old top s }
-    ensures { Put set.old pending.old top s set.new pending.new result }
-{
-    if contains(set, s) {
-        return top;
-    }
-    insert(set, s);
-    pending[top] = s as u32;
-    top + 1
+// A stack of states whose epsilon transitions are still to be followed: the first `height` words of an array that is lent.
+#[derive(Drop)]
+struct Pending<'a> {
+    states: &'a mut [u32],
+    height: usize,
 }
 
-// Follows the epsilon transitions from state p. Answers the stack's height.
-fn follow_epsilons(
-    indexed: Indexed,
-    p: usize,
-    set: &mut [u32],
-    pending: &mut [u32],
-    top: usize,
-) -> usize
-    requires { FollowableAt indexed.table.now indexed.index.now p set.old pending.old top }
-    ensures { Followed indexed.entry.table.now (state_key p) 0 set.old pending.old top set.new
-        pending.new result }
+impl Pending<'_> {
+    // Takes the last state from the stack.
+    fn pop(&mut self) -> Option<usize>
+        requires { self.old.height ≤ length self.old.states.now }
+        ensures same { self.new.states.ghost_name ≡ self.old.states.ghost_name }
+        ensures states { self.new.states.now ≡ self.old.states.now }
+        ensures top { MatchOption result ((self.old.height ≡ 0) × (self.new.height ≡ 0)) (λ p. (self.new.height + 1 ≡ self.old.height)
+            × (p ≡ slice_index self.old.states.now self.new.height)) }
+    {
+        if self.height == 0 {
+            return None;
+        }
+        self.height -= 1;
+        Some(self.states[self.height] as usize)
+    }
+}
+
+// Puts state s into the set and on the stack, if it is not in the set.
+fn put_state(set: &mut [u32], pending: &mut Pending, s: usize)
+    requires { Puttable set.old pending.old.states.now pending.old.height s }
+    ensures same { pending.new.states.ghost_name ≡ pending.old.states.ghost_name }
+    ensures put { Put set.old pending.old.states.now pending.old.height s set.new
+        pending.new.states.now pending.new.height }
 {
-    let mut height = top;
+    if contains(set, s) {
+        return;
+    }
+    insert(set, s);
+    pending.states[pending.height] = s as u32;
+    pending.height += 1;
+}
+
+// Follows the epsilon transitions from state p.
+fn follow_epsilons(indexed: Indexed, p: usize, set: &mut [u32], pending: &mut Pending)
+    requires { FollowableAt indexed.table.now indexed.index.now p set.old pending.old.states.now pending.old.height }
+    ensures same { pending.new.states.ghost_name ≡ pending.old.states.ghost_name }
+    ensures followed { Followed indexed.entry.table.now (state_key p) 0 set.old
+        pending.old.states.now pending.old.height set.new pending.new.states.now pending.new.height }
+{
     let mut i = indexed.first(STATE_KEYS + p);
     while 0 < i {
-        height = put_state(set, pending, height, indexed.target(i));
+        put_state(set, pending, indexed.target(i));
         i = indexed.next(i);
     }
-    height
 }
 
 // Follows the epsilon transitions from the states on the stack, until none is left.
-fn follow_pending(indexed: Indexed, set: &mut [u32], pending: &mut [u32], top: usize)
-    requires { Followable indexed.table.now indexed.index.now set.old pending.old top }
-    ensures { Followed indexed.entry.table.now 0 (length indexed.entry.table.now) set.old
-        pending.old top set.new pending.new 0 }
+fn follow_pending(indexed: Indexed, set: &mut [u32], pending: &mut Pending)
+    requires { Followable indexed.table.now indexed.index.now set.old pending.old.states.now pending.old.height }
+    ensures same { pending.new.states.ghost_name ≡ pending.old.states.ghost_name }
+    ensures followed { Followed indexed.entry.table.now 0 (length indexed.entry.table.now) set.old
+        pending.old.states.now pending.old.height set.new pending.new.states.now 0 }
 {
-    let mut height = top;
-    while 0 < height {
-        height -= 1;
-        let p = pending[height] as usize;
-        height = follow_epsilons(indexed, p, set, pending, height);
+    while let Some(p) = pending.pop() {
+        follow_epsilons(indexed, p, set, pending);
     }
 }
 
@@ -77,8 +94,12 @@ fn add_closure(indexed: Indexed, state: usize, set: &mut [u32], pending: &mut [u
     requires { Addable indexed.table.now indexed.index.now state pending.old set.old }
     ensures { Added indexed.entry.table.now state set.old set.new }
 {
-    let top = put_state(set, pending, 0, state);
-    follow_pending(indexed, set, pending, top);
+    let mut stack = Pending {
+        states: pending,
+        height: 0,
+    };
+    put_state(set, &mut stack, state);
+    follow_pending(indexed, set, &mut stack);
 }
 
 // The closure of a state as a set of its own.

@@ -2,8 +2,8 @@
 use Rattle.closures.proofs.KeptClosureLaws.{add-puttable, add-stack, add-end}
 use Rattle.closures.proofs.add_closure.Goals as goal
 
-pub put_state-top-requires : goal.put_state-top-requires
-put_state-top-requires c = add-puttable c.requires
+pub put_state-requires : goal.put_state-requires
+put_state-requires c = add-puttable c.requires
 
 pub follow_pending-requires : goal.follow_pending-requires
 follow_pending-requires c = record {
@@ -11,11 +11,11 @@ follow_pending-requires c = record {
       c.requires.closable.checked;
   stack =
       add-stack c.requires
-      c.put_state-top.ensures;
+      c.put_state.ensures.put;
 }
 
 pub returns : goal.returns
 returns c =
     add-end c.requires
-    c.put_state-top.ensures
-    c.follow_pending.ensures
+    c.put_state.ensures.put
+    c.follow_pending.ensures.followed

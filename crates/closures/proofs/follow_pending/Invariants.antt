@@ -5,9 +5,13 @@ use lib.ListN.{length}
 use Rattle.closures.specs.Closure.{Followed, work}
 use Rattle.closures.proofs.follow_pending.Given as goal
 
-abbrev pub invariant-loop-height : goal.invariant-loop-height
-invariant-loop-height l =
-    (length l.pending ≡ length l.initial.pending) × Followed l.indexed.table.now 0 (length l.indexed.table.now) l.initial.set l.initial.pending l.top l.set l.pending l.height
+abbrev pub invariant-loop-p : goal.invariant-loop-p
+invariant-loop-p l = record {
+  same : l.pending.states.ghost_name ≡ l.initial.pending.states.ghost_name;
+  followed :
+      Followed l.indexed.table.now 0 (length l.indexed.table.now) l.initial.set l.initial.pending.states.now l.initial.pending.height l.set
+      l.pending.states.now l.pending.height;
+}
 
-abbrev pub decreases-loop-height : goal.decreases-loop-height
-decreases-loop-height l = work l.indexed.table.now l.set l.height
+abbrev pub decreases-loop-p : goal.decreases-loop-p
+decreases-loop-p l = work l.indexed.table.now l.set l.pending.height
