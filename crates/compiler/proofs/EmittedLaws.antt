@@ -10,7 +10,7 @@ use lib.ListN.{length, get_or, take, drop, set, length-drop, length-set, length-
 use lib.Seq.{take-add, take-suc-set, length-take-le}
 use lib.Dec.{leb, eqb-suc-zero}
 use borrow.Author.Tests.{leb-true}
-use Rattle.words.specs.Limits.{expression_most}
+use Rattle.words.specs.Limits.{expression_most, rank_most}
 use Rattle.words.specs.Lists.{all}
 use Rattle.words.specs.Word.{Kind, symbol_kind, empty_kind, union_kind, product_kind, closure_kind, anything_kind, kind_of, low_byte}
 use Rattle.words.specs.Alphabet.{rank_of, constants_of}
@@ -31,10 +31,10 @@ use Rattle.automaton.proofs.EntryStates.{entries-kind, port-full, own-kind}
 use Rattle.ports.specs.declared.states.Port.{Port}
 use Rattle.ports.specs.Ports.{port_in, ports_in}
 use Rattle.emitter.specs.Writing.{WordsWritten, last_index}
-use Rattle.emitter.specs.Emission.{own_words_most, Emittable, OwnEmittable}
+use Rattle.emitter.specs.Emission.{own_words_most, OwnEmittable}
 use Rattle.emitter.proofs.WritingLaws.{words-written-none, words-written-more, words-written-same, words-written-next}
 use Rattle.compiler.specs.Compiling.{word_states_most, all_own_words_most}
-use Rattle.compiler.proofs.KnownConstants.{constants-once, word-emittable}
+use Rattle.compiler.proofs.KnownConstants.{word-emittable}
 
 -- ---- a stack of ports in an array
 
@@ -46,14 +46,12 @@ module _ (cs : List ℕ) where
   stack-pushed : (f k : List Port) → stack_in (f ++ k) ≡ reverse_aux (ports_in cs k) (stack_in f)
   stack-pushed f k = ap reverse (map-append (port_in cs) f k) ∙ reverse_aux-append (ports_in cs f) (ports_in cs k) []
 
--- the first h members are those below index b and the part from b to h
-first-parts : {A : Type 0} (l : List A) (b h : ℕ) → b ≤ h → take h l ≡ take b l ++ take (h - b) (drop b l)
-first-parts l b h le =
-    let e : b + (h - b) ≡ h = omega arith in
-    ap (λ (n : ℕ). take n l) (sym e) ∙ take-add b (h - b) l
+-- the first h members are those below index b and the r members from there
+first-parts : {A : Type 0} (l : List A) (b r h : ℕ) → b + r ≡ h → take h l ≡ take b l ++ take r (drop b l)
+first-parts l b r h e = ap (λ (n : ℕ). take n l) (sym e) ∙ take-add b r l
 
-length_part : {A : Type 0} (l : List A) (b h : ℕ) → b ≤ h → h ≤ length l → length (take (h - b) (drop b l)) ≡ h - b
-length_part l b h le few = length-take-le (h - b) (drop b l) (rw (length-drop b l) (omega arith))
+length_part : {A : Type 0} (l : List A) (b r : ℕ) → b + r ≤ length l → length (take r (drop b l)) ≡ r
+length_part l b r few = length-take-le r (drop b l) (rw (length-drop b l) (omega arith))
 
 -- ---- one word more
 
@@ -149,61 +147,53 @@ module _ {a cs e : List ℕ} {at : ℕ} {out out' : List ℕ} {stack : List Port
   pub emitted-height : i < length e → length e ≤ expression_most → height < expression_most
   emitted-height h few = let b = m.below in omega arith
 
-  -- what the emitter asks at word i
-  pub emitted-emittable : (r base : ℕ) → cs ≡ constants_of a → AcceptedAlphabet a → i < length e → length e ≤ expression_most
-      → at + all_own_words_most ≤ last_index
-      → r ≡ arity a (get_or e i 0)
-      → base ≡ height - r → Emittable cs (take (height - base) (drop base stack)) state next own_words_most
-  emitted-emittable r base known h i< le fits q b =
-      let few = m.below in
-      let stack-long = m.stack-long in
-      let low = m.low in
-      let c = emitted-children r i< q in
-      let most = arity-most h (get_or e i 0) in
-      let n = words-written-next _ _ _ _ _ _ m.written in
-      record {
-        once = constants-once a cs known;
-        few = rw known h.constants.few;
-        children = rw (length_part stack base height (omega arith) (omega arith)) (omega arith);
-        low = omega arith;
-        fits = omega arith;
-      }
+  -- the children's ports of word i
+  abbrev pub part : ℕ → List Port
+  part r = take r (drop (height - r) stack)
 
-  pub emitted-own-emittable : (r base : ℕ) → cs ≡ constants_of a → i < length e → length e ≤ expression_most → r ≡ arity a (get_or e i 0)
-      → base ≡ height - r → OwnEmittable cs (take (height - base) (drop base stack)) (get_or e i 0)
-  emitted-own-emittable r base known h le q b =
+  part-long : (r : ℕ) → i < length e → length e ≤ expression_most → r ≡ arity a (get_or e i 0) → length (part r) ≡ r
+  part-long r h le q =
       let few = m.below in
       let stack-long = m.stack-long in
       let c = emitted-children r h q in
-      let t : height - base ≡ r = omega arith in
-      word-emittable a cs known (take (height - base) (drop base stack)) (get_or e i 0) (emitted-word h)
-      (length_part stack base height (omega arith) (omega arith) ∙ t ∙ q)
+      length_part stack (height - r) r (omega arith)
 
-  pub emitted-more : (r base : ℕ) (p : Port) (s n : ℕ) (out'' : List ℕ) → cs ≡ constants_of a → i < length e → length e ≤ expression_most
-      → r ≡ arity a (get_or e i 0) → base ≡ height - r
+  -- what the emitter asks at word i
+  pub emitted-room : i < length e → length e ≤ expression_most → at + all_own_words_most ≤ last_index → next + own_words_most ≤ last_index
+  emitted-room h le fits = let n = words-written-next _ _ _ _ _ _ m.written in omega arith
+
+  pub emitted-few : (r : ℕ) → AcceptedAlphabet a → i < length e → length e ≤ expression_most → r ≡ arity a (get_or e i 0)
+      → length (part r) ≤ rank_most
+  emitted-few r known h le q = let most = arity-most known (get_or e i 0) in rw (part-long r h le q) (omega arith)
+
+  pub emitted-own-emittable : (r : ℕ) → cs ≡ constants_of a → i < length e → length e ≤ expression_most → r ≡ arity a (get_or e i 0)
+      → OwnEmittable cs (part r) (get_or e i 0)
+  emitted-own-emittable r known h le q =
+      word-emittable a cs known (part r) (get_or e i 0) (emitted-word h) (part-long r h le q ∙ q)
+
+  pub emitted-more : (r : ℕ) (p : Port) (s n : ℕ) (out'' : List ℕ) → cs ≡ constants_of a → i < length e → length e ≤ expression_most
+      → r ≡ arity a (get_or e i 0)
       → WordsWritten own_words_most next
-      (transitions_words (own_transitions a (get_or e i 0) (full_port cs state) (ports_in cs (take (height - base) (drop base stack)))))
+      (transitions_words (own_transitions a (get_or e i 0) (full_port cs state) (ports_in cs (part r))))
       out' out'' n
       → length out'' ≡ length out' → port_in cs p ≡ port_of a state (get_or e i 0) → s ≡ states_of a (get_or e i 0) → s ≤ word_states_most
-      → Emitted a cs e at out out'' (set stack base p) (base + 1) (state + s) n (i + 1)
-  emitted-more r base p s n out'' known h le q b w l ep es s≤ =
+      → Emitted a cs e at out out'' (set stack (height - r) p) (height - r + 1) (state + s) n (i + 1)
+  emitted-more r p s n out'' known h le q w l ep es s≤ =
       let word = get_or e i 0 in
+      let base = height - r in
       let few = m.below in
       let stack-long = m.stack-long in
       let low = m.low in
       let c = emitted-children r h q in
-      let b≤ : base ≤ height = omega arith in
-      let part = take (height - base) (drop base stack) in
-      let own = own_transitions a word (full_port cs state) (ports_in cs part) in
-      let len : length part ≡ arity a word = length_part stack base height b≤ (omega arith) ∙ (let t : height - base ≡ r = omega arith in
-      t ∙ q) in
+      let own = own_transitions a word (full_port cs state) (ports_in cs (part r)) in
+      let len : length (part r) ≡ arity a word = part-long r h le q ∙ q in
       let new : take (base + 1) (set stack base p) ≡ take base stack ++ p ∷ [] = ap (λ (k : ℕ). take k (set stack base p))
       (add-one base) ∙ take-suc-set stack base p (omega arith) in
       record {
         within = omega arith;
         words = (and-true (is_expression_word a word) (all (is_expression_word a) (drop (i + 1) e))
             (subst (λ (x : List ℕ). all (is_expression_word a) x ≡ true) (drop-step e i h) m.words)).1;
-        shape = rw (b, q) (step h).1;
+        shape = rw q (step h).1;
         below = omega arith;
         stack-long = length-set stack base p ∙ stack-long;
         low = omega arith;
@@ -217,9 +207,9 @@ module _ {a cs e : List ℕ} {at : ℕ} {out out' : List ℕ} {stack : List Port
         left =
             m.left
             ∙ ap₂ (λ (x : List ℕ) (y : List Port). m.done ++ transitions_from a state x (stack_in cs y)) (drop-step e i h)
-            (first-parts stack base height b≤)
+            (first-parts stack base r height (omega arith))
             ∙ ap (λ (x : List Transition). m.done ++ x) (transitions-more a cs known state word (drop (i + 1) e)
-            (take base stack) part p (emitted-word h) len ep)
+            (take base stack) (part r) p (emitted-word h) len ep)
             ∙ sym (append_assoc m.done own (transitions_from a (state + states_of a word) (drop (i + 1) e) (stack_in cs
             (take base stack ++ p ∷ []))))
             ∙ ap₂ (λ (k : ℕ) (x : List Port). (m.done ++ own) ++ transitions_from a (state + k) (drop (i + 1) e) (stack_in cs x)) (sym es)

@@ -14,6 +14,7 @@ use table::write_table;
 use words::limits::{STATES_MOST, TABLE_MOST};
 use words::refusal::Refusal;
 
+mod stack;
 mod states;
 mod table;
 

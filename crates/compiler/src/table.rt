@@ -7,23 +7,18 @@ ghost use Rattle.operations.specs.Compile.{compiled_table, rule_refusals};
 ghost use Rattle.emitter.specs.Writing.{WordsWritten};
 ghost use Rattle.compiler.specs.Compiling.{all_own_words_most, compiled_words_most, Compilable};
 
+use super::stack::Stack;
 use super::states::{states_after, states_of, word_port};
 use alphabet::{arity, write_constants};
 use emitter::constants::push_constants;
 use emitter::own::push_own;
+use emitter::rule_word::RuleWord;
 use emitter::writer::push;
-use ports::states::{Entries, Port};
-use words::limits::{CONSTANTS_MOST, EXPRESSION_MOST};
+use words::limits::CONSTANTS_MOST;
 use words::word::{HEAD, KIND_UNIT, LENGTH, STATE_RANGE};
 
 // Where the moves begin: behind the head and the length word.
 const FIRST_MOVE: usize = 2;
-
-// What stands where no word waits.
-const NO_PORT: Port = Port {
-    exit: 0,
-    entries: Entries::Missing,
-};
 
 // The own transitions of the rule's words in order. The ports of the words that wait for their parent stand on a stack.
 fn write_words(
@@ -38,23 +33,18 @@ fn write_words(
         (transitions_words (transitions_from alphabet.now 0 expression.now []))
         out.old out.new result }
 {
-    let mut stack = [NO_PORT; EXPRESSION_MOST];
-    let mut height: usize = 0;
+    let mut stack = Stack::new();
     let mut state: u32 = 0;
     let mut next = at;
     for &w in expression {
-        let base = height - arity(alphabet, w);
-        next = push_own(
-            alphabet,
+        let children = arity(alphabet, w);
+        let word = RuleWord {
             constants,
-            &stack[base..height],
-            out,
-            next,
-            state,
-            w,
-        );
-        stack[base] = word_port(alphabet, state, w);
-        height = base + 1;
+            ports: stack.top(children),
+            exit: state,
+        };
+        next = push_own(alphabet, &word, out, next, w);
+        stack.replace(children, word_port(alphabet, state, w));
         state += states_of(alphabet, constants.len(), w);
     }
     next

@@ -13,7 +13,7 @@ use Rattle.ports.specs.declared.states.Port.{Port}
 use Rattle.ports.specs.Ports.{port_in, ports_in, child_in}
 use Rattle.emitter.specs.Writing.{WordsWritten}
 use Rattle.emitter.specs.declared.entries.Targets.{Targets}
-use Rattle.emitter.specs.Emission.{entry_words_most, targets_in, Targetable, Emittable}
+use Rattle.emitter.specs.Emission.{entry_words_most, targets_in, Targetable}
 use Rattle.emitter.proofs.WritingLaws.{words-written-more, words-written-same}
 use Rattle.emitter.proofs.EntryLaws.{epsilon_words, epsilon_words-append}
 
@@ -34,19 +34,11 @@ single cs (p ∷ x ∷ ps) h = absurd (omega arith)
 abbrev pub behind_first : List Port → List Port
 behind_first ps = take (length ps - 1) (drop 1 ps)
 
-pub emittable-behind : (cs : List ℕ) (ps : List Port) (x at n : ℕ) → Emittable cs ps x at n → Emittable cs (behind_first ps) x at n
-emittable-behind cs ps x at n p =
-    let l = p.children in
-    record {
-      once = p.once;
-      few = p.few;
-      children =
-          let rest : length (drop 1 ps) ≡ length ps - 1 = length-drop 1 ps in
-          let part : length (behind_first ps) ≡ length ps - 1 = length-take-le (length ps - 1) (drop 1 ps) (omega arith) in
-          omega arith;
-      low = p.low;
-      fits = p.fits;
-    }
+pub length-behind : (ps : List Port) → length (behind_first ps) ≤ length ps
+length-behind ps =
+    let rest : length (drop 1 ps) ≡ length ps - 1 = length-drop 1 ps in
+    let part : length (behind_first ps) ≡ length ps - 1 = length-take-le (length ps - 1) (drop 1 ps) (omega arith) in
+    omega arith
 
 module _ (cs : List ℕ) (ps : List Port) (b : ℕ) where
   -- the entries of both children are those of a union

@@ -41,13 +41,13 @@ low-state to s e h = rw e at h
 
 -- the entry of the child with index i for the constant c
 pub to-entry : (cs : List ℕ) (ps : List Port) (i : ℕ) (p : Port) (b c from at : ℕ) (to : Option ℕ) (out out' : List ℕ) (r : ℕ)
-    → i < length ps → p ≡ get_or ps i p → EntryRead cs p b to → b ≡ c
+    → i < length ps → EntryRead cs (get_or ps i p) b to → b ≡ c
     → WordsWritten 1 at (epsilon_words from (states_of_entry to)) out out' r
     → WordsWritten 1 at (epsilon_words from (entry_for (child_in cs ps i) c)) out out' r
-to-entry cs ps i p b c from at to out out' r l d h e w =
+to-entry cs ps i p b c from at to out out' r l h e w =
     words-written-same 1 1 at r _ _ out out' w (omega arith)
     (ap (epsilon_words from)
-    (h.states ∙ ap (entry_for (port_in cs p)) e ∙ ap (λ (P : States). entry_for P c) (sym (child-at cs ps i p l d))))
+    (h.states ∙ ap (entry_for (port_in cs (get_or ps i p))) e ∙ ap (λ (P : States). entry_for P c) (sym (child-at cs ps i p l))))
 
 -- ---- to the children's entries
 

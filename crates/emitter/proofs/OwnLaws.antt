@@ -13,30 +13,17 @@ use Rattle.ports.specs.declared.states.Port.{Port}
 use Rattle.ports.specs.Ports.{exit_in, exits_in, ports_in, child_in}
 use Rattle.ports.proofs.PortLaws.{child-at}
 use Rattle.emitter.specs.Writing.{WordsWritten}
-use Rattle.emitter.specs.Emission.{every_symbol_most, entries_words_most, own_words_most, Emittable}
+use Rattle.emitter.specs.Emission.{entries_words_most, own_words_most}
 use Rattle.emitter.proofs.WritingLaws.{words-written-more, words-written-same}
 use Rattle.emitter.proofs.EntryLaws.{epsilon_words, epsilon_words-append}
 use Rattle.emitter.proofs.ChildTargetLaws.{targets-both}
 use Rattle.emitter.proofs.EntryEpsilonLaws.{entry_epsilon_words}
 use Rattle.emitter.proofs.SourceLaws.{sources-exits}
 
--- what is left of the room behind a word's first transitions
-pub emittable-later : (cs : List ℕ) (ps : List Port) (x at next : ℕ) → Emittable cs ps x at own_words_most → next ≤ at + every_symbol_most
-    → Emittable cs ps x next entries_words_most
-emittable-later cs ps x at next p h =
-    let fits = p.fits in
-    record {
-      once = p.once;
-      few = p.few;
-      children = p.children;
-      low = p.low;
-      fits = omega arith;
-    }
-
 -- the exit of the child with index i
-pub child-exit : (cs : List ℕ) (ps : List Port) (i : ℕ) (p : Port) {x : ℕ} → i < length ps → p ≡ get_or ps i p → x ≡ exit_in p
+pub child-exit : (cs : List ℕ) (ps : List Port) (i : ℕ) (p : Port) {x : ℕ} → i < length ps → x ≡ exit_in (get_or ps i p)
     → x ≡ (child_in cs ps i).exit
-child-exit cs ps i p h d e = e ∙ ap (λ (P : States). P.exit) (sym (child-at cs ps i p h d))
+child-exit cs ps i p h e = e ∙ ap (λ (P : States). P.exit) (sym (child-at cs ps i p h))
 
 -- ---- what the writers leave, kind by kind
 

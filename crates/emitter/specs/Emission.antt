@@ -5,7 +5,7 @@ use Rattle.words.specs.Alphabet.{rank_of}
 use Rattle.words.specs.Word.{low_byte, closure_kind, product_kind, union_kind, symbol_range, kind_of}
 use Rattle.automaton.specs.Numbering.{symbol_targets, product_targets, closure_targets, anything_targets}
 use Rattle.ports.specs.declared.states.Port.{Port}
-use Rattle.ports.specs.Ports.{exit_range, EachOnce, ports_in, child_in}
+use Rattle.ports.specs.Ports.{ports_in, child_in}
 use Rattle.emitter.specs.Writing.{last_index}
 use Rattle.emitter.specs.declared.entries.Targets.{Targets}
 use Rattle.emitter.specs.declared.entries.Targets.TheVariants.{Children, Product, Closure, Exit}
@@ -44,14 +44,6 @@ Targetable Children ps = Unit {0}
 Targetable (Product c) ps = length ps ≡ 2
 Targetable (Closure c) ps = length ps ≡ 1
 Targetable Exit ps = Unit {0}
-
--- the constants cs, a word's children with ports ps, its exit x, and an index from which on n words may be written
-pub record Emittable (cs : List ℕ) (ps : List Port) (x at n : ℕ) : Type 0 where
-  pub once : EachOnce cs
-  pub few : length cs ≤ constants_most
-  pub children : length ps ≤ rank_most
-  pub low : x < exit_range
-  pub fits : at + n ≤ last_index
 
 -- the symbols of the alphabet are few, and none has too high a rank
 pub record SymbolsEmittable (a : List ℕ) : Type 0 where

@@ -5,12 +5,12 @@ ghost use Rattle.automaton.specs.Transition.{source_words, transitions_words};
 ghost use Rattle.automaton.specs.Numbering.{every_symbol, anything_transitions, full_port};
 ghost use Rattle.ports.specs.Ports.{exit_range};
 ghost use Rattle.emitter.specs.Writing.{WordsWritten, last_index};
-ghost use Rattle.emitter.specs.Emission.{symbol_words_most, every_symbol_most, own_words_most, Emittable, SymbolsEmittable};
+ghost use Rattle.emitter.specs.Emission.{symbol_words_most, every_symbol_most, own_words_most, SymbolsEmittable};
 
 use super::entries::{Targets, push_entries};
+use super::rule_word::RuleWord;
 use super::writer::{push, push_transition};
 use alphabet::rank;
-use ports::states::Port;
 use words::word::{KIND_UNIT, SOURCE};
 
 // The part states of a symbol move over so many children: the exit in every part.
@@ -56,20 +56,13 @@ fn push_every_symbol(alphabet: &[u32], out: &mut [u32], at: usize, exit: u32) ->
 }
 
 // Anything with this exit, which has no children.
-pub(crate) fn push_anything(
-    alphabet: &[u32],
-    constants: &[u32],
-    ports: &[Port],
-    out: &mut [u32],
-    at: usize,
-    exit: u32,
-) -> usize
+pub(crate) fn push_anything(alphabet: &[u32], word: &RuleWord, out: &mut [u32], at: usize) -> usize
     requires symbols_emittable { SymbolsEmittable alphabet.now }
-    requires emittable { Emittable constants.now ports.now exit at own_words_most }
+    requires fits { at + own_words_most ≤ last_index }
     ensures { WordsWritten own_words_most at
-        (transitions_words (anything_transitions alphabet.now (full_port constants.now exit)))
+        (transitions_words (anything_transitions alphabet.now (full_port word.now.constants.now word.now.exit)))
         out.old out.new result }
 {
-    let next = push_every_symbol(alphabet, out, at, exit);
-    push_entries(constants, ports, out, next, exit, Targets::Exit)
+    let next = push_every_symbol(alphabet, out, at, word.exit);
+    push_entries(word, out, next, Targets::Exit)
 }

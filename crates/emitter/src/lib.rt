@@ -5,4 +5,5 @@ mod anything;
 pub mod constants;
 mod entries;
 pub mod own;
+pub mod rule_word;
 pub mod writer;

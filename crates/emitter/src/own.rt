@@ -7,10 +7,11 @@ ghost use Rattle.automaton.specs.Numbering.{symbol_transitions, union_transition
 ghost use Rattle.automaton.specs.Numbering.{closure_transitions, own_transitions, full_port};
 ghost use Rattle.ports.specs.Ports.{entry_range, exits_in, ports_in, child_in};
 ghost use Rattle.emitter.specs.Writing.{WordsWritten, last_index};
-ghost use Rattle.emitter.specs.Emission.{own_words_most, Emittable, ListedConstant, SymbolsEmittable, OwnEmittable};
+ghost use Rattle.emitter.specs.Emission.{own_words_most, ListedConstant, SymbolsEmittable, OwnEmittable};
 
 use super::anything::push_anything;
 use super::entries::{Targets, push_entries, push_to};
+use super::rule_word::RuleWord;
 use super::writer::{push, push_epsilon, push_transition};
 use ports::port::{entry_at, exit_of};
 use ports::states::Port;
@@ -37,27 +38,20 @@ fn push_sources(ports: &[Port], out: &mut [u32], at: usize) -> usize
 }
 
 // A symbol over its children; a constant has no transitions.
-fn push_symbol(
-    constants: &[u32],
-    ports: &[Port],
-    out: &mut [u32],
-    at: usize,
-    exit: u32,
-    symbol: u32,
-) -> usize
-    requires emittable { Emittable constants.now ports.now exit at own_words_most }
+fn push_symbol(word: &RuleWord, out: &mut [u32], at: usize, symbol: u32) -> usize
+    requires fits { at + own_words_most ≤ last_index }
     requires symbol_lt_symbol_range { symbol < symbol_range }
     ensures { WordsWritten own_words_most at
-        (transitions_words (symbol_transitions symbol (full_port constants.now exit)
-        (ports_in constants.now ports.now)))
+        (transitions_words (symbol_transitions symbol (full_port word.now.constants.now word.now.exit)
+        (ports_in word.now.constants.now word.now.ports.now)))
         out.old out.new result }
 {
-    if ports.len() == 0 {
+    if word.ports.len() == 0 {
         return at;
     }
-    let sources = push_transition(out, at, symbol, exit);
-    let next = push_sources(ports, out, sources);
-    push_entries(constants, ports, out, next, exit, Targets::Children)
+    let sources = push_transition(out, at, symbol, word.exit);
+    let next = push_sources(word.ports, out, sources);
+    push_entries(word, out, next, Targets::Children)
 }
 
 // From two states to one.
@@ -72,92 +66,70 @@ fn push_both(out: &mut [u32], at: usize, first: u32, second: u32, to: u32) -> us
 }
 
 // A union of two children.
-fn push_union(constants: &[u32], ports: &[Port], out: &mut [u32], at: usize, exit: u32) -> usize
-    requires emittable { Emittable constants.now ports.now exit at own_words_most }
-    requires ports_len { length ports.now ≡ 2 }
+fn push_union(word: &RuleWord, out: &mut [u32], at: usize) -> usize
+    requires fits { at + own_words_most ≤ last_index }
+    requires ports_len { length word.now.ports.now ≡ 2 }
     ensures { WordsWritten own_words_most at
-        (transitions_words (union_transitions (full_port constants.now exit)
-        (child_in constants.now ports.now 0)
-        (child_in constants.now ports.now 1)))
+        (transitions_words (union_transitions (full_port word.now.constants.now word.now.exit)
+        (child_in word.now.constants.now word.now.ports.now 0)
+        (child_in word.now.constants.now word.now.ports.now 1)))
         out.old out.new result }
 {
-    let first = exit_of(ports[0]);
-    let second = exit_of(ports[1]);
-    let next = push_both(out, at, first, second, exit);
-    push_entries(constants, ports, out, next, exit, Targets::Children)
+    let first = exit_of(word.ports[0]);
+    let second = exit_of(word.ports[1]);
+    let next = push_both(out, at, first, second, word.exit);
+    push_entries(word, out, next, Targets::Children)
 }
 
 // A product over c.
-fn push_product(
-    constants: &[u32],
-    ports: &[Port],
-    out: &mut [u32],
-    at: usize,
-    exit: u32,
-    c: u32,
-) -> usize
-    requires emittable { Emittable constants.now ports.now exit at own_words_most }
-    requires ports_len { (length ports.now ≡ 2) × ListedConstant constants.now c }
+fn push_product(word: &RuleWord, out: &mut [u32], at: usize, c: u32) -> usize
+    requires fits { at + own_words_most ≤ last_index }
+    requires ports_len { (length word.now.ports.now ≡ 2) × ListedConstant word.now.constants.now c }
     ensures { WordsWritten own_words_most at
-        (transitions_words (product_transitions c (full_port constants.now exit)
-        (child_in constants.now ports.now 0)
-        (child_in constants.now ports.now 1)))
+        (transitions_words (product_transitions c (full_port word.now.constants.now word.now.exit)
+        (child_in word.now.constants.now word.now.ports.now 0)
+        (child_in word.now.constants.now word.now.ports.now 1)))
         out.old out.new result }
 {
-    let first = ports[0];
-    let entry = entry_at(constants, first, constant_index(constants, c));
-    let second = push_epsilon(out, at, exit_of(first), exit);
-    let next = push_to(out, second, exit_of(ports[1]), entry);
-    push_entries(constants, ports, out, next, exit, Targets::Product(c))
+    let first = word.ports[0];
+    let entry = entry_at(word.constants, first, constant_index(word.constants, c));
+    let second = push_epsilon(out, at, exit_of(first), word.exit);
+    let next = push_to(out, second, exit_of(word.ports[1]), entry);
+    push_entries(word, out, next, Targets::Product(c))
 }
 
 // A closure over c.
-fn push_closure(
-    constants: &[u32],
-    ports: &[Port],
-    out: &mut [u32],
-    at: usize,
-    exit: u32,
-    c: u32,
-) -> usize
-    requires emittable { Emittable constants.now ports.now exit at own_words_most }
-    requires ports_len { (length ports.now ≡ 1) × ListedConstant constants.now c }
+fn push_closure(word: &RuleWord, out: &mut [u32], at: usize, c: u32) -> usize
+    requires fits { at + own_words_most ≤ last_index }
+    requires ports_len { (length word.now.ports.now ≡ 1) × ListedConstant word.now.constants.now c }
     ensures { WordsWritten own_words_most at
-        (transitions_words (closure_transitions c (full_port constants.now exit)
-        (child_in constants.now ports.now 0)))
+        (transitions_words (closure_transitions c (full_port word.now.constants.now word.now.exit)
+        (child_in word.now.constants.now word.now.ports.now 0)))
         out.old out.new result }
 {
-    let first = ports[0];
-    let entry = entry_at(constants, first, constant_index(constants, c));
+    let first = word.ports[0];
+    let entry = entry_at(word.constants, first, constant_index(word.constants, c));
     let second = push_to(out, at, exit_of(first), entry);
-    let next = push_epsilon(out, second, exit_of(first), exit);
-    push_entries(constants, ports, out, next, exit, Targets::Closure(c))
+    let next = push_epsilon(out, second, exit_of(first), word.exit);
+    push_entries(word, out, next, Targets::Closure(c))
 }
 
-// The own transitions of word w with this exit over its children's ports.
-pub fn push_own(
-    alphabet: &[u32],
-    constants: &[u32],
-    ports: &[Port],
-    out: &mut [u32],
-    at: usize,
-    exit: u32,
-    w: u32,
-) -> usize
-    requires emittable { Emittable constants.now ports.now exit at own_words_most }
-    requires symbols_emittable { SymbolsEmittable alphabet.now × OwnEmittable constants.now ports.now w }
+// The own transitions of word w, whose states and children `word` has.
+pub fn push_own(alphabet: &[u32], word: &RuleWord, out: &mut [u32], at: usize, w: u32) -> usize
+    requires fits { at + own_words_most ≤ last_index }
+    requires symbols_emittable { SymbolsEmittable alphabet.now × OwnEmittable word.now.constants.now word.now.ports.now w }
     ensures { WordsWritten own_words_most at
-        (transitions_words (own_transitions alphabet.now w (full_port constants.now exit)
-        (ports_in constants.now ports.now)))
+        (transitions_words (own_transitions alphabet.now w (full_port word.now.constants.now word.now.exit)
+        (ports_in word.now.constants.now word.now.ports.now)))
         out.old out.new result }
 {
     let kind = kind_of(w);
     match kind {
-        Kind::Symbol => push_symbol(constants, ports, out, at, exit, w % SYMBOL_RANGE),
-        Kind::Union => push_union(constants, ports, out, at, exit),
-        Kind::Product => push_product(constants, ports, out, at, exit, w % SYMBOL_RANGE),
-        Kind::Closure => push_closure(constants, ports, out, at, exit, w % SYMBOL_RANGE),
-        Kind::Anything => push_anything(alphabet, constants, ports, out, at, exit),
+        Kind::Symbol => push_symbol(word, out, at, w % SYMBOL_RANGE),
+        Kind::Union => push_union(word, out, at),
+        Kind::Product => push_product(word, out, at, w % SYMBOL_RANGE),
+        Kind::Closure => push_closure(word, out, at, w % SYMBOL_RANGE),
+        Kind::Anything => push_anything(alphabet, word, out, at),
         _ => at,
     }
 }

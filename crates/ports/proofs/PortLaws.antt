@@ -1,5 +1,5 @@
 -- Laws of entries for all constants, and of a word's children.
-use mathlib.Core.Path.{◌≡◌, ap, ◌∙◌, sym}
+use mathlib.Core.Path.{◌≡◌, refl, ap, ◌∙◌}
 use mathlib.Core.List.{List, [], ◌∷◌, ◌++◌}
 use Prim.Native.Nat.{ℕ, zero, suc, ◌+◌, ◌<◌}
 use native.Mathlib.Omega.{arith}
@@ -21,7 +21,7 @@ entries-more cs x k h =
     ∙ numbered-append (suc x) (take k cs) (c ∷ []) ∙ ap (λ (i : ℕ). full_entries (take k cs) x ++ (c, i) ∷ []) n
 
 -- the child with index i, where there is one
-pub child-at : (cs : List ℕ) (ps : List Port) (i : ℕ) (p : Port) → i < length ps → p ≡ get_or ps i p → child_in cs ps i ≡ port_in cs p
-child-at cs [] i p h e = absurd (omega arith)
-child-at cs (q ∷ ps) zero p h e = ap (port_in cs) (sym e)
-child-at cs (q ∷ ps) (suc i) p h e = child-at cs ps i p (omega arith) e
+pub child-at : (cs : List ℕ) (ps : List Port) (i : ℕ) (p : Port) → i < length ps → child_in cs ps i ≡ port_in cs (get_or ps i p)
+child-at cs [] i p h = absurd (omega arith)
+child-at cs (q ∷ ps) zero p h = refl
+child-at cs (q ∷ ps) (suc i) p h = child-at cs ps i p (omega arith)

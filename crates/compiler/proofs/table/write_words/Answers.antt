@@ -1,50 +1,52 @@
 -- `compiler::table::write_words` meets its contract: before each turn the transitions of the first i words are written, and those of
 -- the words from i on follow from the next state and the stack.
-use mathlib.Core.Path.{refl, ap}
+use mathlib.Core.Path.{ap}
 use native.Mathlib.Omega.{arith}
 use lib.ListN.{length}
 use Rattle.compiler.proofs.AcceptedRuleLaws.{rule-alphabet, rule-expression, states-countable, symbols-emittable}
+use Rattle.compiler.proofs.KnownConstants.{constants-once}
 use Rattle.compiler.proofs.EmittedLaws.{emitted-none, emitted-children, emitted-height}
-use Rattle.compiler.proofs.EmittedLaws.{emitted-emittable, emitted-own-emittable, emitted-more, emitted-end}
+use Rattle.compiler.proofs.EmittedLaws.{emitted-room, emitted-few, emitted-own-emittable, emitted-more, emitted-end}
 use Rattle.compiler.proofs.table.write_words.Goals as goal
 
 pub loop-w-init : goal.loop-w-init
 loop-w-init c =
     let e = rule-expression _ _ c.requires.accepted in
-    emitted-none _ _ _ _ _ _ e.words e.shape refl
+    rw c.new-stack.ensures.1 (emitted-none _ _ _ _ _ _ e.words e.shape c.new-stack.ensures.0)
 
-pub overflow_sub-base : goal.overflow_sub-base
-overflow_sub-base c = emitted-children c.loop-w.invariant _ c.loop-w-test.true c.arity.ensures
+pub top-requires : goal.top-requires
+top-requires c =
+    let few = (rule-expression _ _ c.requires.accepted).counted.few in
+    let h = emitted-height c.loop-w.invariant c.loop-w-test.true few in
+    (emitted-children c.loop-w.invariant _ c.loop-w-test.true c.arity-children.ensures, omega arith)
 
-pub offset_bounds-stack-base : goal.offset_bounds-stack-base
-offset_bounds-stack-base c =
-    let h =
-    emitted-height c.loop-w.invariant c.loop-w-test.true (rule-expression _ _ c.requires.accepted).counted.few in
-    omega arith
-
-pub slice_bounds-push_own-count : goal.slice_bounds-push_own-count
-slice_bounds-push_own-count c = omega arith
-
-pub slice_bounds-push_own-start : goal.slice_bounds-push_own-start
-slice_bounds-push_own-start c = omega arith
-
-pub slice_bounds-push_own-end : goal.slice_bounds-push_own-end
-slice_bounds-push_own-end c =
-    let stack-long = c.loop-w.invariant.stack-long in
-    let h =
-    emitted-height c.loop-w.invariant c.loop-w-test.true (rule-expression _ _ c.requires.accepted).counted.few in
-    omega arith
+pub invariant_of-word : goal.invariant_of-word
+invariant_of-word c =
+    let p = c.requires in
+    let m = c.loop-w.invariant in
+    let a = rule-alphabet _ _ p.accepted in
+    let few = (rule-expression _ _ p.accepted).counted.few in
+    let h = c.loop-w-test.true in
+    let low = m.low in
+    record {
+      once = constants-once _ _ p.constants;
+      few = rw p.constants a.constants.few;
+      children = rw c.top.ensures (emitted-few m _ a h few c.arity-children.ensures);
+      low = omega arith;
+    }
 
 pub push_own-next-requires : goal.push_own-next-requires
 push_own-next-requires c =
     let p = c.requires in
     let m = c.loop-w.invariant in
-    let e = rule-expression _ _ p.accepted in
+    let few = (rule-expression _ _ p.accepted).counted.few in
     let h = c.loop-w-test.true in
-    let r = c.arity.ensures in
     record {
-      emittable = emitted-emittable m _ _ p.constants (rule-alphabet _ _ p.accepted) h e.counted.few p.fits r refl;
-      symbols_emittable = (symbols-emittable _ (rule-alphabet _ _ p.accepted), emitted-own-emittable m _ _ p.constants h e.counted.few r refl);
+      fits = emitted-room m h few p.fits;
+      symbols_emittable = (
+        symbols-emittable _ (rule-alphabet _ _ p.accepted),
+        rw c.top.ensures (emitted-own-emittable m _ p.constants h few c.arity-children.ensures),
+      );
     }
 
 pub word_port-requires : goal.word_port-requires
@@ -54,23 +56,10 @@ word_port-requires c =
     let h = c.loop-w-test.true in
     omega arith
 
-pub offset_bounds-stack-base-in-loop-w : goal.offset_bounds-stack-base-in-loop-w
-offset_bounds-stack-base-in-loop-w c =
-    let h =
-    emitted-height c.loop-w.invariant c.loop-w-test.true (rule-expression _ _ c.requires.accepted).counted.few in
-    omega arith
-
-pub bounds-stack-base : goal.bounds-stack-base
-bounds-stack-base c =
-    let h =
-    emitted-height c.loop-w.invariant c.loop-w-test.true (rule-expression _ _ c.requires.accepted).counted.few in
-    omega arith
-
-pub overflow_add-height : goal.overflow_add-height
-overflow_add-height c =
-    let h =
-    emitted-height c.loop-w.invariant c.loop-w-test.true (rule-expression _ _ c.requires.accepted).counted.few in
-    omega arith
+pub replace-requires : goal.replace-requires
+replace-requires c =
+    let few = (rule-expression _ _ c.requires.accepted).counted.few in
+    (emitted-children c.loop-w.invariant _ c.loop-w-test.true c.arity-children.ensures, emitted-height c.loop-w.invariant c.loop-w-test.true few)
 
 pub states_of-state-requires : goal.states_of-state-requires
 states_of-state-requires c =
@@ -90,15 +79,14 @@ overflow_add-state c =
 
 pub loop-w-preserved : goal.loop-w-preserved
 loop-w-preserved c =
-    let p =
-    c.requires in
-    let m = c.loop-w.invariant in
-    let e = rule-expression _ _ p.accepted in
-    emitted-more m _ _ _ _ _ _ p.constants
-    c.loop-w-test.true e.counted.few
-    c.arity.ensures refl
-    c.push_own-next.ensures c.push_own-next.auto.out
-    (rw p.constants c.word_port.ensures) c.states_of-state.ensures.0 c.states_of-state.ensures.1
+    let p = c.requires in
+    let few = (rule-expression _ _ p.accepted).counted.few in
+    let k = c.replace.ensures in
+    rw (k.ports, k.height)
+    (emitted-more c.loop-w.invariant _ _ _ _ _ p.constants c.loop-w-test.true few
+    c.arity-children.ensures
+    (rw c.top.ensures at c.push_own-next.ensures) c.push_own-next.auto.out
+    (rw p.constants c.word_port.ensures) c.states_of-state.ensures.0 c.states_of-state.ensures.1)
 
 pub shape_of-out : goal.shape_of-out
 shape_of-out c = c.loop-w.invariant.long

@@ -5,4 +5,4 @@ use Rattle.compiler.proofs.table.write_words.Given as goal
 
 abbrev pub invariant-loop-w : goal.invariant-loop-w
 invariant-loop-w l =
-    Emitted l.alphabet l.constants l.expression l.at l.initial.out l.out l.stack l.height l.state l.next l.w-index
+    Emitted l.alphabet l.constants l.expression l.at l.initial.out l.out l.stack.ports l.stack.height l.state l.next l.w-index

@@ -1,16 +1,17 @@
 -- `emitter::anything::push_anything` meets its contract: the moves on every symbol, and then one from each entry.
+use native.Mathlib.Omega.{arith}
 use Rattle.emitter.proofs.WritingLaws.{words-written-next}
-use Rattle.emitter.proofs.OwnLaws.{emittable-later}
 use Rattle.emitter.proofs.AnythingLaws.{anything-own}
 use Rattle.emitter.proofs.anything.push_anything.Goals as goal
 
 pub push_entries-requires : goal.push_entries-requires
 push_entries-requires c =
-    let p = c.requires in
-    record { emittable = emittable-later _ _ _ _ _ p.emittable (words-written-next _ _ _ _ _ _ c.push_every_symbol-next.ensures); targetable = tt }
+    let fits = c.requires.fits in
+    let n = words-written-next _ _ _ _ _ _ c.push_every_symbol-next.ensures in
+    record { fits = omega arith; targetable = tt }
 
 pub returns : goal.returns
 returns c =
     let a = c.args in
-    anything-own a.alphabet.now a.constants.now _ _ _ _ _ _ _ c.push_every_symbol-next.ensures
+    anything-own a.alphabet.now a.word.now.constants.now _ _ _ _ _ _ _ c.push_every_symbol-next.ensures
     c.push_entries.ensures

@@ -14,13 +14,7 @@ push_entry-next-requires c =
     let p = c.requires in
     let h = c.loop-k-test.true in
     record {
-      emittable = record {
-        once = p.emittable.once;
-        few = p.emittable.few;
-        children = p.emittable.children;
-        low = p.emittable.low;
-        fits = entries_written-fits c.loop-k.invariant h p.emittable.few p.emittable.fits;
-      };
+      fits = entries_written-fits c.loop-k.invariant h c.args.word.now.few p.fits;
       k_in_bounds = (h, p.targetable);
     }
 
@@ -35,5 +29,5 @@ shape_of-out c = c.loop-k.invariant.long
 pub returns : goal.returns
 returns c =
     let i = c.loop-k.invariant.within in
-    let few = c.requires.emittable.few in
+    let few = c.args.word.now.few in
     each-written-end c.loop-k.invariant entries_words_most c.loop-k-test.false (omega arith)

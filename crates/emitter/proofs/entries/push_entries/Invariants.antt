@@ -5,4 +5,4 @@ use Rattle.emitter.proofs.entries.push_entries.Given as goal
 
 abbrev pub invariant-loop-k : goal.invariant-loop-k
 invariant-loop-k l =
-    EntriesWritten l.constants (targets_in l.constants l.ports l.exit l.targets) l.exit l.at l.initial.out l.out l.next l.k
+    EntriesWritten l.word.constants.now (targets_in l.word.constants.now l.word.ports.now l.word.exit l.targets) l.word.exit l.at l.initial.out l.out l.next l.k

@@ -9,37 +9,37 @@ use Rattle.emitter.proofs.entries.push_entry.Goals as goal
 pub push_product_entry-requires : goal.push_product_entry-requires
 push_product_entry-requires c =
     let p = c.requires in
-    record { emittable = p.emittable; k_in_bounds = (p.k_in_bounds.0, targetable-said _ _ _ c.in-Product.is p.k_in_bounds.1) }
+    record { fits = p.fits; k_in_bounds = (p.k_in_bounds.0, targetable-said _ _ _ c.in-Product.is p.k_in_bounds.1) }
 
 pub push_closure_entry-requires : goal.push_closure_entry-requires
 push_closure_entry-requires c =
     let p = c.requires in
-    record { emittable = p.emittable; k_in_bounds = (p.k_in_bounds.0, targetable-said _ _ _ c.in-Closure.is p.k_in_bounds.1) }
+    record { fits = p.fits; k_in_bounds = (p.k_in_bounds.0, targetable-said _ _ _ c.in-Closure.is p.k_in_bounds.1) }
 
 pub returns-in-Children : goal.returns-in-Children
 returns-in-Children c =
     let a = c.args in
-    targets-said a.constants.now a.ports.now a.exit (entry_state a.exit a.k) _ _ _ _ _ _ _ rank_most (omega arith)
+    targets-said a.word.now.constants.now a.word.now.ports.now a.word.now.exit (entry_state a.word.now.exit a.k) _ _ _ _ _ _ _ rank_most (omega arith)
     c.in-Children.is
     c.push_to_children.ensures
 
 pub returns-in-Product : goal.returns-in-Product
 returns-in-Product c =
     let a = c.args in
-    targets-said a.constants.now a.ports.now a.exit (entry_state a.exit a.k) _ _ _ _ _ _ _ entry_words_most (omega arith)
+    targets-said a.word.now.constants.now a.word.now.ports.now a.word.now.exit (entry_state a.word.now.exit a.k) _ _ _ _ _ _ _ entry_words_most (omega arith)
     c.in-Product.is
     c.push_product_entry.ensures
 
 pub returns-in-Closure : goal.returns-in-Closure
 returns-in-Closure c =
     let a = c.args in
-    targets-said a.constants.now a.ports.now a.exit (entry_state a.exit a.k) _ _ _ _ _ _ _ entry_words_most (omega arith)
+    targets-said a.word.now.constants.now a.word.now.ports.now a.word.now.exit (entry_state a.word.now.exit a.k) _ _ _ _ _ _ _ entry_words_most (omega arith)
     c.in-Closure.is
     c.push_closure_entry.ensures
 
 pub returns-in-Exit : goal.returns-in-Exit
 returns-in-Exit c =
     let a = c.args in
-    targets-said a.constants.now a.ports.now a.exit (entry_state a.exit a.k) _ _ _ _ _ _ _ 1 (omega arith)
+    targets-said a.word.now.constants.now a.word.now.ports.now a.word.now.exit (entry_state a.word.now.exit a.k) _ _ _ _ _ _ _ 1 (omega arith)
     c.in-Exit.is
     (rw c.entry_state.ensures at c.push_epsilon.ensures)

@@ -11,17 +11,17 @@ loop-port-init c = children-none _ _ _ _ _ _
 
 pub entry_at-requires : goal.entry_at-requires
 entry_at-requires c =
-    let p = c.requires in
-    (p.emittable.once, (p.k_in_bounds, p.emittable.few))
+    (c.args.word.now.once, (c.requires.k_in_bounds, c.args.word.now.few))
 
 pub push_to-next-requires : goal.push_to-next-requires
 push_to-next-requires c =
     let w = c.loop-port.invariant in
     let p = c.requires in
-    let few = p.emittable.few in
-    let low = p.emittable.low in
-    let fits = p.emittable.fits in
-    let children = p.emittable.children in
+    let k = p.k_in_bounds in
+    let few = c.args.word.now.few in
+    let low = c.args.word.now.low in
+    let fits = p.fits in
+    let children = c.args.word.now.children in
     let n = words-written-next _ _ _ _ _ _ w.written in
     let t = c.loop-port-test.true in
     (omega arith, (omega (arith, c.entry_state-from.ensures), c.entry_at.ensures.low))
@@ -29,7 +29,7 @@ push_to-next-requires c =
 pub loop-port-preserved : goal.loop-port-preserved
 loop-port-preserved c =
     let a = c.args in
-    children-more a.constants.now a.ports.now c.entry_state-from.result (get_or a.constants.now a.k 0) c.loop-port.invariant
+    children-more a.word.now.constants.now a.word.now.ports.now c.entry_state-from.result (get_or a.word.now.constants.now a.k 0) c.loop-port.invariant
     _ _ _ _ c.loop-port-test.true c.port-item.is c.entry_at.ensures c.push_to-next.auto.out c.push_to-next.ensures
 
 pub shape_of-out : goal.shape_of-out
@@ -38,5 +38,5 @@ shape_of-out c = c.loop-port.invariant.long
 pub returns : goal.returns
 returns c =
     let i = c.loop-port.invariant.within in
-    let few = c.requires.emittable.children in
+    let few = c.args.word.now.children in
     rw c.entry_state-from.ensures at (each-written-end c.loop-port.invariant rank_most c.loop-port-test.false (omega arith))

@@ -5,4 +5,4 @@ use Rattle.emitter.proofs.entries.push_to_children.Given as goal
 
 abbrev pub invariant-loop-port : goal.invariant-loop-port
 invariant-loop-port l =
-    ToChildren l.constants l.ports l.from (get_or l.constants l.k 0) l.at l.initial.out l.out l.next l.port-index
+    ToChildren l.word.constants.now l.word.ports.now l.from (get_or l.word.constants.now l.k 0) l.at l.initial.out l.out l.next l.port-index

@@ -8,34 +8,34 @@ use Rattle.emitter.proofs.OwnKindLaws.{own-other, transitions-written, no-transi
 use Rattle.emitter.proofs.own.push_own.Goals as goal
 
 pub push_symbol-requires : goal.push_symbol-requires
-push_symbol-requires c = record { emittable = c.requires.emittable; symbol_lt_symbol_range = search rules }
+push_symbol-requires c = record { fits = c.requires.fits; symbol_lt_symbol_range = search rules }
 
 pub push_union-requires : goal.push_union-requires
 push_union-requires c =
     let p = c.requires in
-    record { emittable = p.emittable; ports_len = p.symbols_emittable.1.union (told-kind _ _ c.kind_of-kind.ensures Union c.in-Union.is) }
+    record { fits = p.fits; ports_len = p.symbols_emittable.1.union (told-kind _ _ c.kind_of-kind.ensures Union c.in-Union.is) }
 
 pub push_product-requires : goal.push_product-requires
 push_product-requires c =
     let p = c.requires in
-    record { emittable = p.emittable; ports_len = p.symbols_emittable.1.product (told-kind _ _ c.kind_of-kind.ensures Product c.in-Product.is) }
+    record { fits = p.fits; ports_len = p.symbols_emittable.1.product (told-kind _ _ c.kind_of-kind.ensures Product c.in-Product.is) }
 
 pub push_closure-requires : goal.push_closure-requires
 push_closure-requires c =
     let p = c.requires in
-    record { emittable = p.emittable; ports_len = p.symbols_emittable.1.closure (told-kind _ _ c.kind_of-kind.ensures Closure c.in-Closure.is) }
+    record { fits = p.fits; ports_len = p.symbols_emittable.1.closure (told-kind _ _ c.kind_of-kind.ensures Closure c.in-Closure.is) }
 
 pub push_anything-requires : goal.push_anything-requires
 push_anything-requires c =
     let p = c.requires in
-    record { symbols_emittable = p.symbols_emittable.0; emittable = p.emittable }
+    record { symbols_emittable = p.symbols_emittable.0; fits = p.fits }
 
 pub returns-in-Symbol : goal.returns-in-Symbol
 returns-in-Symbol c =
     let a = c.args in
     let kind = told-kind _ _ c.kind_of-kind.ensures Symbol c.in-Symbol.is in
     transitions-written _ _ _ _ _ _ _
-    (own-symbol a.alphabet.now a.w (full_port a.constants.now a.exit) a.constants.now a.ports.now kind)
+    (own-symbol a.alphabet.now a.w (full_port a.word.now.constants.now a.word.now.exit) a.word.now.constants.now a.word.now.ports.now kind)
     c.push_symbol.ensures
 
 pub returns-in-Union : goal.returns-in-Union
@@ -44,7 +44,7 @@ returns-in-Union c =
     let p = c.requires.symbols_emittable.1 in
     let kind = told-kind _ _ c.kind_of-kind.ensures Union c.in-Union.is in
     transitions-written _ _ _ _ _ _ _
-    (own-union a.alphabet.now a.w (full_port a.constants.now a.exit) a.constants.now a.ports.now (p.union kind) kind)
+    (own-union a.alphabet.now a.w (full_port a.word.now.constants.now a.word.now.exit) a.word.now.constants.now a.word.now.ports.now (p.union kind) kind)
     c.push_union.ensures
 
 pub returns-in-Product : goal.returns-in-Product
@@ -53,7 +53,7 @@ returns-in-Product c =
     let p = c.requires.symbols_emittable.1 in
     let kind = told-kind _ _ c.kind_of-kind.ensures Product c.in-Product.is in
     transitions-written _ _ _ _ _ _ _
-    (own-product a.alphabet.now a.w (full_port a.constants.now a.exit) a.constants.now a.ports.now
+    (own-product a.alphabet.now a.w (full_port a.word.now.constants.now a.word.now.exit) a.word.now.constants.now a.word.now.ports.now
     (p.product kind).0 kind)
     c.push_product.ensures
 
@@ -63,7 +63,7 @@ returns-in-Closure c =
     let p = c.requires.symbols_emittable.1 in
     let kind = told-kind _ _ c.kind_of-kind.ensures Closure c.in-Closure.is in
     transitions-written _ _ _ _ _ _ _
-    (own-closure a.alphabet.now a.w (full_port a.constants.now a.exit) a.constants.now a.ports.now
+    (own-closure a.alphabet.now a.w (full_port a.word.now.constants.now a.word.now.exit) a.word.now.constants.now a.word.now.ports.now
     (p.closure kind).0 kind)
     c.push_closure.ensures
 
@@ -72,12 +72,12 @@ returns-in-Anything c =
     let a = c.args in
     let kind = told-kind _ _ c.kind_of-kind.ensures Anything c.in-Anything.is in
     transitions-written _ _ _ _ _ _ _
-    (own-anything a.alphabet.now a.w (full_port a.constants.now a.exit) a.constants.now a.ports.now kind)
+    (own-anything a.alphabet.now a.w (full_port a.word.now.constants.now a.word.now.exit) a.word.now.constants.now a.word.now.ports.now kind)
     c.push_anything.ensures
 
 pub returns-in_default : goal.returns-in_default
 returns-in_default c =
     let a = c.args in
     no-transitions-written _ _ _ _
-    (own-other a.alphabet.now a.w (full_port a.constants.now a.exit) a.constants.now a.ports.now
+    (own-other a.alphabet.now a.w (full_port a.word.now.constants.now a.word.now.exit) a.word.now.constants.now a.word.now.ports.now
     c.kind_of-kind.result c.kind_of-kind.ensures (c.in_default.not-Symbol, (c.in_default.not-Union, (c.in_default.not-Product, (c.in_default.not-Closure, (c.in_default.not-Anything, tt))))))
