@@ -20,9 +20,9 @@ fn push_every(constants: &[u32], out: &mut [u32], at: usize, exit: u32) -> usize
         out.old out.new result }
 {
     let mut next = at;
-    for k in 0..constants.len() {
+    for (k, &c) in constants.iter().enumerate() {
         let entry = entry_state(exit, k);
-        next = push_transition(out, next, constants[k], entry);
+        next = push_transition(out, next, c, entry);
     }
     next
 }

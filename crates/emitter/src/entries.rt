@@ -12,7 +12,8 @@ use super::writer::push_epsilon;
 use ports::port::{entry_at, entry_state};
 
 // Where a word's entry for a constant leads: to the children's entries for it, in a product over c at c not to the first
-// child's, in a closure over c at c also to the word's own exit; for anything to its own exit.
+// child's, in a closure over c at c also to the word's own exit; for anything to its own exit. With a
+// function for a parameter in place of this enum, the two loops below would stand in the code once for each of the four.
 #[derive(Clone, Copy)]
 pub(crate) enum Targets {
     Children,
