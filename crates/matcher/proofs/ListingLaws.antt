@@ -10,6 +10,9 @@ use lib.Seq.{sets, sets-eq, take_at, drop-append-add, drop-drop}
 use Rattle.words.specs.Lists.{list_from, written_over}
 use Rattle.words.specs.Answer.{refused, accepted}
 use Rattle.words.proofs.ListLaws.{cond-append, list_from-add, length-list_from}
+use Rattle.words.specs.Decoded.{number_in}
+use Rattle.words.specs.declared.refusal.Refusal.{Refusal}
+use Rattle.words.proofs.NumberLaws.{number_some}
 use Rattle.words.proofs.AnswerLaws.{answer-refused, answer-accepted, exit-refused, exit-accepted}
 use Rattle.automaton.specs.StateSet.{StateSet, contains}
 use Rattle.operations.specs.Marks.{size_of, final_of, stored_set}
@@ -96,16 +99,17 @@ module _ (table marks : List ℕ) where
 
 -- ---- the answer and the list at exit
 
-module _ (a table : List ℕ) (n : ℕ) (marks list : List ℕ) (f : ℕ) (e : f ≡ list_fault a table n (length marks) (length list)) where
-  pub list-refused : (f ≡ 0 → ⊥) → (refused f ≡ list_answer a table n marks list) × (list ≡ list_exit a table n marks list)
+module _ (a table : List ℕ) (n : ℕ) (marks list : List ℕ) where
+  pub list-refused : (refusal : Refusal) → number_in refusal ≡ list_fault a table n (length marks) (length list)
+      → (refused (number_in refusal) ≡ list_answer a table n marks list) × (list ≡ list_exit a table n marks list)
   unfolding list_answer list_exit
-  list-refused h = (answer-refused e _ h, exit-refused e _ list h)
+  list-refused refusal e = let some = number_some refusal in (answer-refused e _ some, exit-refused e _ list some)
 
-  pub list-accepts : f ≡ 0 → (count : ℕ) (list' : List ℕ) → count ≡ length (matches_of table n marks)
-      → list' ≡ written_over (matches_of table n marks) list
+  pub list-accepts : 0 ≡ list_fault a table n (length marks) (length list) → (count : ℕ) (list' : List ℕ)
+      → count ≡ length (matches_of table n marks) → list' ≡ written_over (matches_of table n marks) list
       → (accepted (count ∷ []) ≡ list_answer a table n marks list) × (list' ≡ list_exit a table n marks list)
   unfolding list_answer list_exit
-  list-accepts h count list' c m = (
-    ap (λ (k : ℕ). accepted (k ∷ [])) c ∙ answer-accepted e _ h,
-    m ∙ exit-accepted e _ list h,
+  list-accepts e count list' c m = (
+    ap (λ (k : ℕ). accepted (k ∷ [])) c ∙ answer-accepted e _ refl,
+    m ∙ exit-accepted e _ list refl,
   )

@@ -12,12 +12,15 @@ use Rattle.words.specs.Shape.{stack_given_by}
 use Rattle.words.specs.Postfix.{values}
 use Rattle.words.specs.Answer.{refused, accepted}
 use Rattle.words.proofs.ListLaws.{length-list_from}
+use Rattle.words.specs.Decoded.{number_in}
+use Rattle.words.specs.declared.refusal.Refusal.{Refusal}
+use Rattle.words.proofs.NumberLaws.{number_some}
 use Rattle.words.proofs.AnswerLaws.{answer-refused, answer-accepted, exit-refused, exit-accepted}
 use Rattle.automaton.specs.StateSet.{StateSet}
 use Rattle.operations.specs.Marks.{size_of, node_set, node_sets, stored_set}
-use Rattle.operations.specs.Run.{run_fault, run_marks, run_answer, run_exit}
+use Rattle.operations.specs.Run.{cells_in, run_fault, run_marks, run_answer, run_exit}
 use Rattle.operations.specs.Totals.{Totals, totals_of, run_totals}
-use Rattle.operations.proofs.MarksLaws.{stored-node_sets}
+use Rattle.operations.proofs.MarksLaws.{length-node_sets, stored-node_sets}
 use Rattle.operations.proofs.RunLaws.{run-writes, run_length}
 use Rattle.totals.specs.Countable.{Countable}
 use Rattle.nodes.specs.Nodes.{marked_from, Workable}
@@ -93,18 +96,23 @@ module _ (a table ch marks : List ℕ) (h : run_fault a table ch (length marks) 
 
 -- ---- the answer, the marks and the record at exit
 
-module _ (a table ch marks : List ℕ) (before : Totals) (f : ℕ) (e : f ≡ run_fault a table ch (length marks)) where
-  pub run-refused : (f ≡ 0 → ⊥)
-      → (refused f ≡ run_answer a table ch marks) × ((marks ≡ run_exit a table ch marks) × (before ≡ run_totals a table ch marks before))
+module _ (a table ch marks : List ℕ) where
+  pub run-refused : (refusal : Refusal) → number_in refusal ≡ run_fault a table ch (length marks)
+      → (refused (number_in refusal) ≡ run_answer a table ch marks)
+      × ((marks ≡ run_exit a table ch marks) × ((before : Totals) → before ≡ run_totals a table ch marks before))
   unfolding run_answer run_exit run_totals
-  run-refused h = (answer-refused e _ h, (exit-refused e _ marks h, sym (rw (← e, ne_eqb f 0 h))))
+  run-refused refusal e =
+      let some = number_some refusal in
+      (answer-refused e _ some, (exit-refused e _ marks some, λ before. sym (rw (← e, ne_eqb (number_in refusal) 0 some))))
 
-  pub run-accepts : f ≡ 0 → (totals : Totals) (marks' : List ℕ) → totals ≡ totals_of table (node_sets a table ch)
-      → marks' ≡ run_marks a table ch marks
-      → (accepted (length ch ∷ totals.cells ∷ []) ≡ run_answer a table ch marks)
-      × ((marks' ≡ run_exit a table ch marks) × (totals ≡ run_totals a table ch marks before))
+  pub run-accepts : 0 ≡ run_fault a table ch (length marks) → (totals : Totals) (marks' : List ℕ)
+      → totals ≡ totals_of table (node_sets a table ch) → marks' ≡ run_marks a table ch marks
+      → (accepted (totals.elements ∷ totals.cells ∷ []) ≡ run_answer a table ch marks)
+      × ((marks' ≡ run_exit a table ch marks) × ((before : Totals) → totals ≡ run_totals a table ch marks before))
   unfolding run_answer run_exit run_totals totals_of
-  run-accepts h totals marks' c m = (
-    ap (λ (t : Totals). accepted (length ch ∷ t.cells ∷ [])) c ∙ answer-accepted e _ h,
-    (m ∙ exit-accepted e _ marks h, c ∙ sym (rw (← e, h))),
+  run-accepts e totals marks' c m = (
+    ap (λ (t : Totals). accepted (t.elements ∷ t.cells ∷ [])) c
+        ∙ ap (λ (n : ℕ). accepted (n ∷ cells_in (flatten (node_sets a table ch)) ∷ [])) (length-node_sets a table ch)
+        ∙ answer-accepted e _ refl,
+    (m ∙ exit-accepted e _ marks refl, λ before. c ∙ sym (rw (← e))),
   )

@@ -37,11 +37,9 @@ pub(crate) fn write_matches(
     let size = set_size(table);
     let last = final_state(table);
     let mut found: usize = 0;
-    let mut i = 0;
-    while i < count {
-        let at = i * size;
-        found = list_node(&marks[at..at + size], last, i, list, found);
-        i += 1;
+    for node in 0..count {
+        let at = node * size;
+        found = list_node(&marks[at..at + size], last, node, list, found);
     }
     found
 }

@@ -18,6 +18,7 @@ pub mod TestLaws
 pub mod LimitLaws
 pub mod RefusalLaws
 pub mod AnswerLaws
+pub mod NumberLaws
 pub mod ReadingLaws
 pub mod KindLaws
 pub mod DecodedLaws
