@@ -1,6 +1,6 @@
 -- The chain of a state's epsilon transitions, followed from its first word to its end, and the states on the stack, taken
 -- one after another until none is left.
-use mathlib.Core.Path.{◌≡◌}
+use mathlib.Core.Path.{◌≡◌, refl, ap, sym, ◌∙◌}
 use mathlib.Core.Bool.{true}
 use mathlib.Core.List.{List}
 use Prim.Native.Nat.{ℕ, ◌+◌, ◌<◌, ◌≤◌}
@@ -9,8 +9,9 @@ use lib.ListN.{length, get_or}
 use Rattle.words.specs.Word.{state_below}
 use Rattle.automaton.specs.Transition.{automaton_of}
 use Rattle.automaton.specs.StateSet.{StateSet, contains}
-use Rattle.index.specs.Index.{IndexedTable, key_count, state_key}
-use Rattle.index.proofs.ChainLaws.{FirstWith, EpsilonWord, next_with, next-some, next-none, keyed-epsilon}
+use Rattle.std.proofs.Common.{Option, Some, None}
+use Rattle.index.specs.Index.{IndexedTable, key_count, state_key, chain_word}
+use Rattle.index.proofs.ChainLaws.{FirstWith, EpsilonWord, next_with, next-some, next-none, keyed-epsilon, chain-none, chain-some}
 use Rattle.closures.specs.Closure.{Closed, PendingStack, Search, Puttable, Put, FollowableAt, Followed, work}
 use Rattle.closures.proofs.KeyedWordLaws.{closed-epsilon, epsilon-below, epsilon-reached}
 use Rattle.closures.proofs.PendingStackLaws.{stack-puttable, stack-put, put-less, put-present, put_keeps}
@@ -20,13 +21,13 @@ use Rattle.closures.proofs.FollowLaws.{left, states-most, chain_first, chain_nex
 
 -- ---- the chain of a state
 
--- At word i of state p's chain, or at its end, where i is 0: the words before are followed. Before the first word there were
+-- At a word of state p's chain, or at its end: the words before are followed. Before the first word there were
 -- the set, the stack and its height with the sign ₀.
-pub record EpsilonsAt (table index : List ℕ) (p : ℕ) (r₀ : StateSet) (pending₀ : List ℕ) (top₀ i : ℕ) (r : StateSet) (pending : List ℕ)
+pub record EpsilonsAt (table index : List ℕ) (p : ℕ) (r₀ : StateSet) (pending₀ : List ℕ) (top₀ : ℕ) (word : Option ℕ) (r : StateSet) (pending : List ℕ)
     (top : ℕ) : Type 0 where
   pub checked : IndexedTable table index
   pub from : ℕ
-  pub at : i ≡ next_with table (state_key p) from
+  pub at : word ≡ chain_word (next_with table (state_key p) from)
   pub stack : PendingStack table r pending top
   pub less : work table r top ≤ work table r₀ top₀
   pub present : contains r p ≡ true
@@ -39,34 +40,34 @@ pub key-inside : {table index : List ℕ} {p : ℕ} {r : StateSet} {pending : Li
 key-inside {p = p} g = let b = g.followable.stack.below p g.present in omega (arith, states-most g.followable.checked)
 
 pub epsilons-first : {table index : List ℕ} {p : ℕ} {r : StateSet} {pending : List ℕ} {top : ℕ} → FollowableAt table index p r pending top
-    → EpsilonsAt table index p r pending top (get_or index (state_key p) 0) r pending top
+    → EpsilonsAt table index p r pending top (chain_word (get_or index (state_key p) 0)) r pending top
 epsilons-first {p = p} g =
     record {
       checked = g.followable.checked;
       from = 0;
-      at = chain_first g.followable.checked (state_key p) (key-inside g);
+      at = ap chain_word (chain_first g.followable.checked (state_key p) (key-inside g));
       stack = g.followable.stack;
       less = omega arith;
       present = g.present;
       search = λ base o k h. h;
     }
 
-module _ {table index : List ℕ} {p : ℕ} {r₀ : StateSet} {pending₀ : List ℕ} {top₀ i : ℕ} {r : StateSet} {pending : List ℕ} {top : ℕ}
-    (s : EpsilonsAt table index p r₀ pending₀ top₀ i r pending top) where
+module _ {table index : List ℕ} {p : ℕ} {r₀ : StateSet} {pending₀ : List ℕ} {top₀ : ℕ} {word : Option ℕ} {r : StateSet} {pending : List ℕ}
+    {top : ℕ} (s : EpsilonsAt table index p r₀ pending₀ top₀ word r pending top) where
   key-small : state_key p < key_count
   key-small = key-inside (record { followable = record { checked = s.checked; stack = s.stack }; present = s.present })
 
-  pub epsilons-end : i ≤ 0 → Followed table (state_key p) 0 r₀ pending₀ top₀ r pending top
+  pub epsilons-end : word ≡ None → Followed table (state_key p) 0 r₀ pending₀ top₀ r pending top
   epsilons-end h =
       record {
         stack = s.stack;
         less = s.less;
-        settled = λ base o k g. search-end (s.search base o k g) (next-none s.at (keyed s.checked) key-small (omega arith));
+        settled = λ base o k g. search-end (s.search base o k g) (next-none refl (keyed s.checked) key-small (chain-none _ (sym s.at ∙ h)));
       }
 
-  module _ (h : 0 < i) where
+  module _ {i : ℕ} (h : word ≡ Some i) where
     epsilons-next : FirstWith table (state_key p) s.from i
-    epsilons-next = next-some s.at h
+    epsilons-next = let e = chain-some _ (sym s.at ∙ h) in next-some (sym e.0) e.1
 
     pub epsilons-inside : i < length table
     epsilons-inside = epsilons-next.inside
@@ -80,17 +81,17 @@ module _ {table index : List ℕ} {p : ℕ} {r₀ : StateSet} {pending₀ : List
     pub epsilons-puttable : Puttable r pending top (state_below (get_or table i 0))
     epsilons-puttable = stack-puttable (states-most s.checked) s.stack reaches-below
 
-    pub epsilons-less : left table (get_or index (key_count + i) 0) < left table i
-    epsilons-less = left_less s.checked epsilons-next key-small h
+    pub epsilons-less : left table (chain_word (get_or index (key_count + i) 0)) < left table (Some i)
+    epsilons-less = left_less s.checked epsilons-next key-small
 
     pub epsilons-more : {t : StateSet} {pushed : List ℕ} {height : ℕ} → Put r pending top (state_below (get_or table i 0)) t pushed height
-        → EpsilonsAt table index p r₀ pending₀ top₀ (get_or index (key_count + i) 0) t pushed height
+        → EpsilonsAt table index p r₀ pending₀ top₀ (chain_word (get_or index (key_count + i) 0)) t pushed height
     epsilons-more {t} {pushed} {height} q =
         let most = states-most s.checked in
         record {
           checked = s.checked;
           from = i + 1;
-          at = chain_next s.checked epsilons-next key-small;
+          at = ap chain_word (chain_next s.checked epsilons-next key-small);
           stack = stack-put most s.stack reaches-below q;
           less = let u = put-less most s.stack reaches-below q in let v = s.less in omega arith;
           present = put_keeps most s.stack reaches-below q p s.present;

@@ -69,10 +69,10 @@ fn follow_epsilons(indexed: Indexed, p: usize, set: &mut [u32], pending: &mut Pe
     ensures followed { Followed indexed.entry.table.now (state_key p) 0 set.old
         pending.old.states.now pending.old.height set.new pending.new.states.now pending.new.height }
 {
-    let mut i = indexed.first(STATE_KEYS + p);
-    while 0 < i {
+    let mut word = indexed.first(STATE_KEYS + p);
+    while let Some(i) = word {
         put_state(set, pending, indexed.target(i));
-        i = indexed.next(i);
+        word = indexed.next(i);
     }
 }
 

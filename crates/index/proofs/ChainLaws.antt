@@ -7,13 +7,14 @@ use native.Mathlib.Omega.{arith}
 use native.Mathlib.Decide.{ℕ_discrete}
 use lib.ListN.{length, get_or}
 use lib.Dec.{eqb}
+use Rattle.std.proofs.Common.{Some, None}
 use borrow.Author.Tests.{eq-eqb, ne_eqb, eqb-true, eqb-false}
 use Rattle.words.specs.Word.{transition_kind, epsilon_kind, number_of, has_kind, state_range, symbol_range, symbol_above, state_above, kind_number}
 use Rattle.words.specs.Limits.{table_most}
 use Rattle.words.proofs.TestLaws.{Tested, holds, fails, tested}
 use Rattle.automaton.specs.Table.{is_table}
 use Rattle.automaton.proofs.TableLaws.{is_table-parts}
-use Rattle.index.specs.Index.{key_of, key_count, state_key}
+use Rattle.index.specs.Index.{key_of, key_count, state_key, chain_word}
 
 -- ---- the key of a word
 
@@ -65,6 +66,27 @@ module _ (w : ℕ) where
             arith,
             key-none (eqb-false (number_of w) (kind_number transition_kind) n) (eqb-false (number_of w) (kind_number epsilon_kind) m),
           ))
+
+-- ---- the number of a word of a chain, or 0
+
+pub chain-end : (n : ℕ) → n ≡ 0 → None ≡ chain_word n
+unfolding chain_word
+chain-end n e = rw e
+
+pub chain-goes : (n : ℕ) → (n ≡ 0 → ⊥) → Some n ≡ chain_word n
+unfolding chain_word
+chain-goes zero h = absurd (h refl)
+chain-goes (suc n) h = refl
+
+pub chain-none : (n : ℕ) → chain_word n ≡ None → n ≡ 0
+unfolding chain_word
+chain-none zero e = refl
+chain-none (suc n) e = cc
+
+pub chain-some : (n : ℕ) {i : ℕ} → chain_word n ≡ Some i → (n ≡ i) × (0 < i)
+unfolding chain_word
+chain-some zero e = cc
+chain-some (suc n) {i} e = let h : suc n ≡ i = cc in (h, omega arith)
 
 -- ---- the words with a key
 

@@ -1,6 +1,6 @@
 -- An index of a table: for each symbol the words at which the transitions on it begin, and for each state the words of the
 -- epsilon transitions from it, as chains in ascending order. It serves inner functions.
-use Rattle.std.specs.Prelude.{ℕ, zero, suc, ◌+◌, ◌-◌, ◌<◌, ◌≤◌, ◌≡◌, List, true, cond, length, get_or, set, replicate, ltb}
+use Rattle.std.specs.Prelude.{ℕ, zero, suc, ◌+◌, ◌-◌, ◌<◌, ◌≤◌, ◌≡◌, List, true, cond, length, get_or, set, replicate, ltb, Option, Some, None}
 use Rattle.words.specs.Limits.{alphabet_most, table_most}
 use Rattle.words.specs.Word.{transition_kind, epsilon_kind, has_kind, symbol_range, state_range, symbol_above, state_above}
 use Rattle.automaton.specs.Table.{is_table}
@@ -35,6 +35,11 @@ index_back table (suc n) = indexed_at table (length table - suc n) (index_back t
 
 unfoldable pub index_of : List ℕ → List ℕ
 index_of table = index_back table (length table)
+
+-- the word with this number, if it is a word of a chain
+unfoldable pub chain_word : ℕ → Option ℕ
+chain_word zero = None
+chain_word (suc i) = Some (suc i)
 
 -- what putting word i in front of its key's chain asks
 pub record Insertable (table : List ℕ) (i : ℕ) (index : List ℕ) : Type 0 where

@@ -3,7 +3,7 @@
 
 ghost use Rattle.std.specs.Prelude.{◌≡◌, ◌+◌, ◌<◌, length, get_or};
 ghost use Rattle.words.specs.Word.{state_below};
-ghost use Rattle.index.specs.Index.{key_of, key_count, indexed_at, index_of, Insertable, Indexable, IndexedTable};
+ghost use Rattle.index.specs.Index.{key_of, key_count, chain_word, indexed_at, index_of, Insertable, Indexable, IndexedTable};
 
 use words::limits::TABLE_MOST;
 use words::word::{Kind, STATE_RANGE, SYMBOL_RANGE, kind_of};
@@ -52,6 +52,16 @@ pub fn write_index(table: &[u32], index: &mut [u32])
     }
 }
 
+// The word that a word of an index names; a chain ends with 0, since the head is in none.
+fn word_of(number: u32) -> Option<usize>
+    ensures { result ≡ chain_word number }
+{
+    if number == 0 {
+        return None;
+    }
+    Some(number as usize)
+}
+
 // A table and its index, which are read together.
 #[derive(Clone, Copy)]
 pub struct Indexed<'a> {
@@ -60,22 +70,22 @@ pub struct Indexed<'a> {
 }
 
 impl<'a> Indexed<'a> {
-    // The first word of a key's chain, or 0 where it has none.
-    pub fn first(self, key: usize) -> usize
+    // The first word of a key's chain, if it has one.
+    pub fn first(self, key: usize) -> Option<usize>
         requires checked { IndexedTable self.table.now self.index.now }
         requires few { key < key_count }
-        ensures { result ≡ get_or self.entry.index.now key 0 }
+        ensures { result ≡ chain_word (get_or self.entry.index.now key 0) }
     {
-        self.index[key] as usize
+        word_of(self.index[key])
     }
 
-    // The next word of word i's chain, or 0 where i is the last.
-    pub fn next(self, i: usize) -> usize
+    // The next word of word i's chain, unless i is the last.
+    pub fn next(self, i: usize) -> Option<usize>
         requires checked { IndexedTable self.table.now self.index.now }
         requires inside { i < length self.table.now }
-        ensures { result ≡ get_or self.entry.index.now (key_count + i) 0 }
+        ensures { result ≡ chain_word (get_or self.entry.index.now (key_count + i) 0) }
     {
-        self.index[KEY_COUNT + i] as usize
+        word_of(self.index[KEY_COUNT + i])
     }
 
     // The state that the transition at word i leads to.

@@ -1,13 +1,14 @@
 -- The chain of a node's symbol, followed from its first word to its end: the set holds what the transitions on the symbol
 -- lead to, and stays closed.
-use mathlib.Core.Path.{◌≡◌, refl, ◌∙◌, sym, subst}
+use mathlib.Core.Path.{◌≡◌, refl, ap, ◌∙◌, sym, subst}
 use mathlib.Core.Logic.{⊎_elim}
 use mathlib.Core.Bool.{true}
 use mathlib.Core.List.{List}
-use Prim.Native.Nat.{ℕ, ◌+◌, ◌<◌, ◌≤◌}
+use Prim.Native.Nat.{ℕ, ◌+◌, ◌<◌}
 use native.Mathlib.Omega.{arith}
 use native.Mathlib.Decide.{ℕ_discrete, dec_lt}
 use lib.ListN.{length, get_or, drop}
+use Rattle.std.proofs.Common.{Option, Some, None}
 use Rattle.words.specs.Word.{state_below}
 use Rattle.words.specs.Limits.{table_most}
 use Rattle.automaton.specs.Transition.{Transition, automaton_of, sources_at}
@@ -15,8 +16,8 @@ use Rattle.automaton.specs.StateSet.{StateSet, all_contained}
 use Rattle.automaton.specs.Reached.{Reached, by_epsilon}
 use Rattle.automaton.proofs.ClosureLaws.{targets-below, reached-below}
 use Rattle.automaton.proofs.TableLaws.{is_table-automaton}
-use Rattle.index.specs.Index.{key_of, key_count, IndexedTable}
-use Rattle.index.proofs.ChainLaws.{FirstWith, SymbolWord, next_with, next-some, next-none, keyed-symbol}
+use Rattle.index.specs.Index.{key_of, key_count, chain_word, IndexedTable}
+use Rattle.index.proofs.ChainLaws.{FirstWith, SymbolWord, next_with, next-some, next-none, keyed-symbol, chain-none, chain-some}
 use Rattle.index.proofs.IndexLaws.{keyed}
 use Rattle.closures.specs.Closure.{ReachedFrom, itself, onward, Joinable, JoinedClosure}
 use Rattle.closures.specs.declared.KeptClosures.{KeptClosures}
@@ -102,37 +103,37 @@ module _ {table index : List ℕ} {size : ℕ} {marks children : List ℕ} {kept
 
 -- ---- all of them
 
--- at word i of the chain, or at its end, where i is 0: the words before are followed
+-- at a word of the chain, or at its end: the words before are followed
 pub record SymbolAt (table index : List ℕ) (f size : ℕ) (marks children : List ℕ) (kept : KeptClosures) (pending : List ℕ) (r : StateSet)
-    (pending_length i : ℕ) : Type 0 where
+    (pending_length : ℕ) (word : Option ℕ) : Type 0 where
   pub followable : SymbolFollowable table index f size marks children kept pending r
   pub from : ℕ
-  pub at : i ≡ next_with table f from
+  pub at : word ≡ chain_word (next_with table f from)
   pub pending-long : length pending ≡ pending_length
   pub followed : (j : ℕ) → j < from → j < length table → key_of (get_or table j 0) ≡ f → Satisfied table (child_sets size marks children) r j
 
 module _ {table index : List ℕ} {f size : ℕ} {marks children : List ℕ} {kept : KeptClosures} {pending : List ℕ} {r : StateSet} where
   pub symbol-first : SymbolFollowable table index f size marks children kept pending r
-      → SymbolAt table index f size marks children kept pending r (length pending) (get_or index f 0)
+      → SymbolAt table index f size marks children kept pending r (length pending) (chain_word (get_or index f 0))
   symbol-first g =
       let c = g.steppable.node.indexed in
       let small = g.steppable.node.symbol-below in
       record {
         followable = g;
         from = 0;
-        at = chain_first c f (omega arith);
+        at = ap chain_word (chain_first c f (omega arith));
         pending-long = refl;
         followed = λ j h l e. absurd (omega arith);
       }
 
-  module _ {pending_length i : ℕ} (s : SymbolAt table index f size marks children kept pending r pending_length i) where
+  module _ {pending_length : ℕ} {word : Option ℕ} (s : SymbolAt table index f size marks children kept pending r pending_length word) where
     pub symbol-checked : IndexedTable table index
     symbol-checked = s.followable.steppable.node.indexed
 
     key_below : f < key_count
     key_below = let small = s.followable.steppable.node.symbol-below in omega arith
 
-    pub symbol_end : i ≤ 0 → SymbolFollowed table f (child_sets size marks children) r kept
+    pub symbol_end : word ≡ None → SymbolFollowed table f (child_sets size marks children) r kept
     symbol_end h =
         record {
           closures = s.followable.steppable.closures;
@@ -143,11 +144,11 @@ module _ {table index : List ℕ} {f size : ℕ} {marks children : List ℕ} {ke
         go : (j : ℕ) → j < length table → key_of (get_or table j 0) ≡ f → Dec (j < s.from)
             → Satisfied table (child_sets size marks children) r j
         go j l e (yes b) = s.followed j b l e
-        go j l e (no b) = absurd (next-none s.at (keyed symbol-checked) key_below (omega arith) j (omega arith) l e)
+        go j l e (no b) = absurd (next-none refl (keyed symbol-checked) key_below (chain-none _ (sym s.at ∙ h)) j (omega arith) l e)
 
-    module _ (h : 0 < i) where
+    module _ {i : ℕ} (h : word ≡ Some i) where
       symbol-next : FirstWith table f s.from i
-      symbol-next = next-some s.at h
+      symbol-next = let e = chain-some _ (sym s.at ∙ h) in next-some (sym e.0) e.1
 
       pub symbol-inside : i < length table
       symbol-inside = symbol-next.inside
@@ -161,12 +162,12 @@ module _ {table index : List ℕ} {f size : ℕ} {marks children : List ℕ} {ke
             inside = symbol-next.inside;
           }
 
-      pub symbol-less : left table (get_or index (key_count + i) 0) < left table i
-      symbol-less = left_less symbol-checked symbol-next key_below h
+      pub symbol-less : left table (chain_word (get_or index (key_count + i) 0)) < left table (Some i)
+      symbol-less = left_less symbol-checked symbol-next key_below
 
       pub symbol-more : {t : StateSet} {kept' : KeptClosures} {pending' : List ℕ} → length pending' ≡ length pending
           → TransitionFollowed table (key_of (get_or table i 0)) (child_sets size marks children) i r t kept'
-          → SymbolAt table index f size marks children kept' pending' t pending_length (get_or index (key_count + i) 0)
+          → SymbolAt table index f size marks children kept' pending' t pending_length (chain_word (get_or index (key_count + i) 0))
       symbol-more {t} {kept'} {pending'} e j =
           record {
             followable = record {
@@ -179,7 +180,7 @@ module _ {table index : List ℕ} {f size : ℕ} {marks children : List ℕ} {ke
               growing = subst (λ k. Growing table k (child_sets size marks children) t) symbol-next.keyed j.growing;
             };
             from = i + 1;
-            at = chain_next symbol-checked symbol-next key_below;
+            at = ap chain_word (chain_next symbol-checked symbol-next key_below);
             pending-long = e ∙ s.pending-long;
             followed = λ k b l q. go k b l q (ℕ_discrete k i) (dec_lt k s.from);
           }

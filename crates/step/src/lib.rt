@@ -76,10 +76,10 @@ fn follow_symbol(
     ensures { SymbolFollowed indexed.entry.table.now symbol (child_sets size marks.now children.now) set.new
         closures.new }
 {
-    let mut i = indexed.first(symbol as usize);
-    while 0 < i {
+    let mut word = indexed.first(symbol as usize);
+    while let Some(i) = word {
         follow_transition(indexed, i, size, marks, children, closures, pending, set);
-        i = indexed.next(i);
+        word = indexed.next(i);
     }
 }
 

@@ -4,10 +4,10 @@ use Rattle.closures.proofs.FollowLaws.{left}
 use Rattle.step.proofs.SymbolLaws.{SymbolAt}
 use Rattle.step.proofs.follow_symbol.Given as goal
 
-abbrev pub invariant-loop-i : goal.invariant-loop-i
-invariant-loop-i l =
+abbrev pub invariant-loop-word : goal.invariant-loop-word
+invariant-loop-word l =
     SymbolAt l.indexed.table.now l.indexed.index.now l.symbol l.size l.marks l.children l.closures l.pending l.set
-    (length l.initial.pending) l.i
+    (length l.initial.pending) l.word
 
-abbrev pub decreases-loop-i : goal.decreases-loop-i
-decreases-loop-i l = left l.indexed.table.now l.i
+abbrev pub decreases-loop-word : goal.decreases-loop-word
+decreases-loop-word l = left l.indexed.table.now l.word
