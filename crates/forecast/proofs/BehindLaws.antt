@@ -15,52 +15,51 @@ use Rattle.operations.specs.Marks.{size_of, stored_set, same_words}
 use Rattle.operations.specs.Totals.{Totals}
 use Rattle.totals.specs.declared.Totals.{Totals as Record}
 use Rattle.totals.specs.TotalsIn.{totals_in}
-use Rattle.forecast.specs.Pile.{stack_in, Puttable}
+use Rattle.forecast.specs.declared.pile.Pile.{Pile}
+use Rattle.forecast.specs.declared.pile.Work.{Work}
+use Rattle.forecast.specs.Pile.{stack_of, Puttable}
 use Rattle.forecast.specs.Behind.{with_ancestors, Stackable, NodesPassable, BehindCountable}
 use Rattle.forecast.proofs.StackInLaws.{length-stack_in}
 use Rattle.forecast.proofs.RunFacts.{run-tree, run_room, run-size}
 
-module _ {a table index ch : List ℕ} {i start : ℕ} {marks root : List ℕ} {t : Record} {array owners rows pending : List ℕ}
-    (pre : BehindCountable a table index ch i start marks root t array owners rows pending) where
+module _ {a table index ch : List ℕ} {i start : ℕ} {marks root : List ℕ} {t : Record} {pile : Pile} {work : Work}
+    (pre : BehindCountable a table index ch i start marks root t pile work) where
   abbrev front : List StateSet
   front = stack_given a (stored_set (size_of table) marks) 0 (take start ch) []
 
-  pub behind-stackable : Stackable a table ch start marks array
+  pub behind-stackable : Stackable a table ch start marks
   behind-stackable =
       let inside = pre.inside in
-      record { marked = pre.marked; within = omega (arith, pre.begins, start-le (arity a) ch i); long = pre.long }
+      record { marked = pre.marked; within = omega (arith, pre.begins, start-le (arity a) ch i) }
 
-  module _ (array₁ : List ℕ) (base : ℕ) (long₁ : length array₁ ≡ length array)
-      (e₁ : stack_in (size_of table) array₁ base ≡ stack_given a (stored_set (size_of table) marks) 0 (take start ch) []) where
-    base-is : base ≡ length (roots_of a ch start)
+  module _ (pile₁ : Pile)
+      (e₁ : stack_of (size_of table) pile₁ ≡ stack_given a (stored_set (size_of table) marks) 0 (take start ch) []) where
+    base-is : pile₁.height ≡ length (roots_of a ch start)
     base-is =
-        sym (length-stack_in (size_of table) array₁ base) ∙ ap length e₁
+        sym (length-stack_in (size_of table) pile₁.sets pile₁.height) ∙ ap length e₁
         ∙ ap length (stack-numbers (arity a) (stored_set (size_of table) marks) (take start ch) 0 [])
         ∙ length-map (roots_of a ch start) (stored_set (size_of table) marks)
 
-    top-is : base + 1 ≡ length (roots_of a ch (i + 1))
+    top-is : pile₁.height + 1 ≡ length (roots_of a ch (i + 1))
     top-is =
         ap (λ (n : ℕ). n + 1) (base-is ∙ ap (λ (j : ℕ). length (roots_of a ch j)) pre.begins)
         ∙ sym (pending-subtree (arity a) ch i (tree-accepted a ch (run-tree pre.marked)).shape pre.inside)
 
-    pub behind-puttable : Puttable array₁ base 0 (length root)
+    pub behind-puttable : Puttable pile₁ 0 (length root)
     behind-puttable = record {
       fits = omega arith;
       low = omega (arith, top-is, run_room pre.marked (i + 1));
       small = omega (arith, pre.size, run-size pre.marked);
-      long = long₁ ∙ pre.long;
     }
 
-    module _ (array₂ : List ℕ) (top : ℕ) (long₂ : length array₂ ≡ length array₁) (q : top ≡ base - 0 + 1)
-        (e₂ : stack_in (length root) array₂ top ≡ root ∷ drop 0 (stack_in (length root) array₁ base)) where
+    module _ (pile₂ : Pile) (q : pile₂.height ≡ pile₁.height - 0 + 1)
+        (e₂ : stack_of (length root) pile₂ ≡ root ∷ drop 0 (stack_of (length root) pile₁)) where
       pub behind-passable : (active : Bool)
-          → NodesPassable a table index ch i marks array₂ (record { height = top; reach = 1; active = active; totals = t })
-          owners rows pending
+          → NodesPassable a table index ch i marks pile₂ (record { reach = 1; active = active; totals = t }) work
       behind-passable active = record {
         marked = pre.marked;
         kept = pre.kept;
         inside = pre.inside;
-        long = long₂ ∙ long₁ ∙ pre.long;
         height-is = omega (arith, q, top-is);
         reach-is = refl;
         plausible = pre.plausible;
@@ -68,12 +67,12 @@ module _ {a table index ch : List ℕ} {i start : ℕ} {marks root : List ℕ} {
       }
 
       pub behind-is : (same : Bool) (part : StateSet) → part ≡ stored_set (size_of table) marks i → same ≡ same_words root part → (r : Totals)
-          → r ≡ with_ancestors a table ch i marks (i + 1) (stack_in (size_of table) array₂ top) (not same) (totals_in t)
+          → r ≡ with_ancestors a table ch i marks (i + 1) (stack_of (size_of table) pile₂) (not same) (totals_in t)
           → r ≡ with_ancestors a table ch i marks (i + 1) (root ∷ stack_given a (stored_set (size_of table) marks) 0 (take start ch) [])
           (not (same_words root (stored_set (size_of table) marks i))) (totals_in t)
       behind-is same part p s r e =
-          let stack : stack_in (size_of table) array₂ top ≡ root ∷ front =
-          ap (λ (n : ℕ). stack_in n array₂ top) (sym pre.size) ∙ e₂
-          ∙ ap (λ (n : ℕ). root ∷ stack_in n array₁ base) pre.size ∙ ap (λ (l : List StateSet). root ∷ l) e₁ in
+          let stack : stack_of (size_of table) pile₂ ≡ root ∷ front =
+          ap (λ (n : ℕ). stack_of n pile₂) (sym pre.size) ∙ e₂
+          ∙ ap (λ (n : ℕ). root ∷ stack_of n pile₁) pre.size ∙ ap (λ (l : List StateSet). root ∷ l) e₁ in
           e ∙ ap₂ (λ (l : List StateSet) (b : Bool). with_ancestors a table ch i marks (i + 1) l (not b) (totals_in t)) stack
           (s ∙ ap (same_words root) p)

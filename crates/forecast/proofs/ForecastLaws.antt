@@ -6,7 +6,6 @@ use native.Mathlib.Omega.{arith}
 use native.Mathlib.Nat.{zero-mul}
 use lib.ListN.{length, take, drop, replicate, length-replicate, get_or-replicate}
 use lib.Seq.{length-take-le}
-use Rattle.words.specs.Limits.{states_most}
 use Rattle.words.specs.Lists.{written_over}
 use Rattle.words.specs.Shape.{splice_by}
 use Rattle.words.specs.Postfix.{arity, height_of, roots_of, splice}
@@ -32,7 +31,10 @@ use Rattle.closures.specs.Closure.{rows_most}
 use Rattle.totals.specs.declared.Totals.{Totals as Record}
 use Rattle.totals.specs.TotalsIn.{totals_in}
 use Rattle.totals.specs.Replaceable.{Replaceable}
-use Rattle.forecast.specs.Pile.{sets_most, pile_length, Kept}
+use Rattle.forecast.specs.declared.pile.Pile.{Pile}
+use Rattle.forecast.specs.declared.pile.Work.{Work}
+use Rattle.forecast.specs.Room.{sets_most}
+use Rattle.forecast.specs.Pile.{Kept}
 use Rattle.forecast.specs.Sum.{Plausible}
 use Rattle.forecast.specs.Tree.{TreeCountable}
 use Rattle.forecast.specs.Behind.{Marked, BehindCountable}
@@ -91,43 +93,42 @@ module _ {c : ExchangeCall} {start : ℕ} (pre : Replaceable c start) where
       )
 
   pub forecast-tree : {index : List ℕ} → index ≡ index_of c.table
-      → TreeCountable c.alphabet c.table index c.replacement (replicate pile_length 0) (replicate rows_most 0)
-      (replicate (rows_most * set_most) 0) (replicate states_most 0)
-  forecast-tree q = record {
+      → {work : Work}
+      → work.closures ≡ record { owners = replicate rows_most 0; rows = replicate (rows_most * set_most) 0 }
+      → TreeCountable c.alphabet c.table index c.replacement work
+  forecast-tree q z = record {
     kept = record {
       alphabet = call.checked.alphabet;
       checked = call.checked.automaton;
       indexed = q;
-      closures = record {
+      closures = rw z (record {
         owners-are = length-replicate {A = ℕ} rows_most 0;
         rows_are = length-replicate {A = ℕ} (rows_most * set_most) 0;
         filled = λ k s l e. absurd (omega (arith, sym e ∙ get_or-replicate {A = ℕ} rows_most k 0 0 l));
-      };
-      pending-are = length-replicate {A = ℕ} states_most 0;
+      });
     };
     tree = accepted-tree a xs call.change.replacement.tree;
     few = call.change.replacement.counted.few;
     room = room;
-    long = length-replicate {A = ℕ} pile_length 0;
   }
 
   -- ---- the root's set
 
-  module _ (array : List ℕ) (long : length array ≡ length (replicate {A = ℕ} pile_length 0)) (size : ℕ) (s : size ≡ size_of c.table) where
-    pub array_long : length array ≡ pile_length
-    array_long = long ∙ length-replicate {A = ℕ} pile_length 0
+  module _ (pile : Pile) (size : ℕ) (s : size ≡ size_of c.table) where
+    abbrev array : List ℕ
+    array = pile.sets
 
-    pub root-inside : size ≤ length array
-    root-inside = omega (arith, s, forecast-small, array_long)
+    pub root-inside : size ≤ length pile.sets
+    root-inside = omega (arith, s, forecast-small, pile.long)
 
-    pub root-length : size ≡ length (take size array)
+    pub root-length : size ≡ length (take size pile.sets)
     root-length = sym (length-take-le size array root-inside)
 
-    pub root-small : length (take size array) ≤ set_most
+    pub root-small : length (take size pile.sets) ≤ set_most
     root-small = omega (arith, root-length, s, forecast-small)
 
-    module _ (root : List ℕ) (e : root ≡ written_over (take size array) (replicate set_most 0)) where
-      root-part : take size root ≡ take size array
+    module _ (root : List ℕ) (e : root ≡ written_over (take size pile.sets) (replicate set_most 0)) where
+      root-part : take size root ≡ take size pile.sets
       root-part = ap (take size) e ∙ take-over (take size array) (replicate set_most 0) size (sym root-length)
 
       pub part_length : size ≡ length (take size root)
@@ -138,24 +139,21 @@ module _ {c : ExchangeCall} {start : ℕ} (pre : Replaceable c start) where
           let n = length-replicate {A = ℕ} set_most 0 in
           rw (e, length_over (take size array) (replicate set_most 0) (omega (arith, root-small))) (omega (arith, s, forecast-small))
 
-      pub root_is : (v : StateSet) → stored_set (size_of c.table) array 0 ≡ v → take size root ≡ v
+      pub root_is : (v : StateSet) → stored_set (size_of c.table) pile.sets 0 ≡ v → take size root ≡ v
       unfolding stored_set
       root_is v h =
           root-part ∙ ap (λ (n : ℕ). take n array) s
           ∙ ap (λ (n : ℕ). take (size_of table) (drop n array)) (sym (zero-mul (size_of table))) ∙ h
 
-      pub forecast-behind : {index : List ℕ} {t : Record} {owners rows pending : List ℕ}
-          → Kept c.alphabet c.table index owners rows pending
+      pub forecast-behind : {index : List ℕ} {t : Record} {work : Work} → Kept c.alphabet c.table index work
           → totals_in t ≡ totals_of c.table (node_sets c.alphabet c.table c.replacement) → Plausible t
-          → BehindCountable c.alphabet c.table index (used c) c.element start c.marks (take size root) t array owners
-          rows pending
+          → BehindCountable c.alphabet c.table index (used c) c.element start c.marks (take size root) t pile work
       unfolding totals_of
       forecast-behind kept e plausible = record {
         marked = forecast-marked;
         kept = kept;
         inside = there c pre.passes;
         begins = pre.begins;
-        long = array_long;
         size = sym part_length ∙ s;
         plausible = plausible;
         counted =

@@ -20,7 +20,9 @@ use Rattle.operations.specs.Exchange.{Outcome, kept, recomputed, propagate}
 use Rattle.operations.proofs.PropagateLaws.{propagate-beside, propagate-last, propagate-onward}
 use Rattle.totals.specs.TotalsIn.{totals_in}
 use Rattle.forecast.specs.declared.behind.Passing.{Passing}
-use Rattle.forecast.specs.Pile.{stack_in, pile_length, Kept}
+use Rattle.forecast.specs.declared.pile.Pile.{Pile}
+use Rattle.forecast.specs.declared.pile.Work.{Work}
+use Rattle.forecast.specs.Pile.{stack_of, Kept}
 use Rattle.forecast.specs.Sum.{with_set, with_sets, Plausible}
 use Rattle.forecast.specs.Behind.{sets_where, outcomes_from, with_ancestors, Passable, passed_set, Passed, NodesPassable}
 use Rattle.forecast.proofs.RunFacts.{run-tree, run-few, run_room}
@@ -92,31 +94,29 @@ module _ (a table : List ℕ) (stored : ℕ → StateSet) (above : ℕ → Bool)
 
 -- ---- all nodes
 
-pub record PassingNodes (a table index ch : List ℕ) (i : ℕ) (marks : List ℕ) (whole : Totals) (array : List ℕ) (t : Passing)
-    (owners rows pending : List ℕ) (j : ℕ) : Type 0 where
+pub record PassingNodes (a table index ch : List ℕ) (i : ℕ) (marks : List ℕ) (whole : Totals) (pile : Pile) (t : Passing)
+    (work : Work) (j : ℕ) : Type 0 where
   pub high : j ≤ length ch
-  pub long : length array ≡ pile_length
-  pub kept : Kept a table index owners rows pending
-  pub height-is : t.height ≡ length (roots_of a ch j)
+  pub kept : Kept a table index work
+  pub height-is : pile.height ≡ length (roots_of a ch j)
   pub holding : HoldingTree (arity a) ch i j (t.reach - 1)
   pub some : 0 < t.reach
   pub reached : t.reach ≤ j
   pub plausible : Plausible t.totals
   pub counted : t.totals.elements ≤ nodes_most + j
-  pub same : with_ancestors a table ch i marks j (stack_in (size_of table) array t.height) t.active (totals_in t.totals) ≡ whole
+  pub same : with_ancestors a table ch i marks j (stack_of (size_of table) pile) t.active (totals_in t.totals) ≡ whole
 
-module _ {a table index ch : List ℕ} {i : ℕ} {marks array₀ : List ℕ} {t₀ : Passing} {owners₀ rows₀ pending₀ : List ℕ}
-    (pre : NodesPassable a table index ch i marks array₀ t₀ owners₀ rows₀ pending₀) where
+module _ {a table index ch : List ℕ} {i : ℕ} {marks : List ℕ} {pile₀ : Pile} {t₀ : Passing} {work₀ : Work}
+    (pre : NodesPassable a table index ch i marks pile₀ t₀ work₀) where
   abbrev whole₀ : Totals
-  whole₀ = with_ancestors a table ch i marks (i + 1) (stack_in (size_of table) array₀ t₀.height) t₀.active (totals_in t₀.totals)
+  whole₀ = with_ancestors a table ch i marks (i + 1) (stack_of (size_of table) pile₀) t₀.active (totals_in t₀.totals)
 
-  pub passing-none : PassingNodes a table index ch i marks whole₀ array₀ t₀ owners₀ rows₀ pending₀ (i + 1)
+  pub passing-none : PassingNodes a table index ch i marks whole₀ pile₀ t₀ work₀ (i + 1)
   passing-none =
       let z : t₀.reach - 1 ≡ 0 = omega (arith, pre.reach-is) in
       let inside = pre.inside in
       record {
         high = omega arith;
-        long = pre.long;
         kept = pre.kept;
         height-is = pre.height-is;
         holding = rw z (holding-first (arity a) ch i);
@@ -127,18 +127,18 @@ module _ {a table index ch : List ℕ} {i : ℕ} {marks array₀ : List ℕ} {t�
         same = refl;
       }
 
-  module _ {whole : Totals} {array : List ℕ} {t : Passing} {owners rows pending : List ℕ} {j : ℕ}
-      (g : PassingNodes a table index ch i marks whole array t owners rows pending j) where
+  module _ {whole : Totals} {pile : Pile} {t : Passing} {work : Work} {j : ℕ}
+      (g : PassingNodes a table index ch i marks whole pile t work j) where
     module _ (l : j < length ch) where
       abbrev w : ℕ
       w = get_or ch j 0
 
-      roots-next : t.height - arity a w + 1 ≡ length (roots_of a ch (j + 1))
+      roots-next : pile.height - arity a w + 1 ≡ length (roots_of a ch (j + 1))
       roots-next =
           ap (λ (h : ℕ). h - arity a w + 1) g.height-is ∙ sym (tree-roots a ch (run-tree pre.marked) j l)
 
       pub passing-at : (part : StateSet) → length part ≡ size_of table
-          → Passable a table index (get_or ch j 0) part array t owners rows pending
+          → Passable a table index (get_or ch j 0) part pile t work
       passing-at part s =
           let few = run-few pre.marked in
           let r = g.reached in
@@ -150,7 +150,6 @@ module _ {a table index ch : List ℕ} {i : ℕ} {marks array₀ : List ℕ} {t�
               fits = rw g.height-is (tree-fits a ch (run-tree pre.marked) j l);
               high = rw g.height-is (run_room pre.marked j);
               low = omega (arith, roots-next, run_room pre.marked (j + 1));
-              long = g.long;
             };
             size = s;
             reached = omega arith;
@@ -188,16 +187,14 @@ module _ {a table index ch : List ℕ} {i : ℕ} {marks array₀ : List ℕ} {t�
       few-more true r v e = omega (arith, ap (λ (x : Totals). x.elements) e, g.counted)
       few-more false r v e = omega (arith, ap (λ (x : Totals). x.elements) e, g.counted)
 
-      pub passing-more : {array' : List ℕ} {r : Passing} {owners' rows' pending' : List ℕ} (part : StateSet)
-          → part ≡ stored_set (size_of table) marks j → length array' ≡ length array
-          → Passed a table (get_or ch j 0) part (stack_in (size_of table) array t.height) t (leb t.reach (arity a (get_or ch j 0)))
-          (stack_in (size_of table) array' r.height) r
-          → Kept a table index owners' rows' pending'
-          → PassingNodes a table index ch i marks whole array' r owners' rows' pending' (j + 1)
+      pub passing-more : {pile' : Pile} {r : Passing} {work' : Work} (part : StateSet)
+          → part ≡ stored_set (size_of table) marks j → Passed a table (get_or ch j 0) part pile t (leb t.reach (arity a (get_or ch j 0))) pile' r
+          → Kept a table index work'
+          → PassingNodes a table index ch i marks whole pile' r work' (j + 1)
       unfolding with_ancestors
-      passing-more {array'} {r} part p long d later-kept =
+      passing-more {pile'} {r} part p d later-kept =
           let b = leb t.reach (arity a w) in
-          let stack = stack_in (size_of table) array t.height in
+          let stack = stack_of (size_of table) pile in
           let stored = stored_set (size_of table) marks in
           let hold = holding-next b refl in
           let n : j + 1 ≡ suc j = add-one j in
@@ -216,7 +213,6 @@ module _ {a table index ch : List ℕ} {i : ℕ} {marks array₀ : List ℕ} {t�
           (sym (drop-cons ch j 0 l))) in
           record {
             high = omega arith;
-            long = long ∙ g.long;
             kept = later-kept;
             height-is = d.height-is ∙ roots-next;
             holding = subst (λ (k : ℕ). HoldingTree (arity a) ch i (j + 1) (k - 1)) (sym d.reach-is) hold.0;
@@ -225,7 +221,7 @@ module _ {a table index ch : List ℕ} {i : ℕ} {marks array₀ : List ℕ} {t�
             plausible = d.plausible;
             counted = few-more b r v d.totals-are;
             same =
-                ap (λ (k : ℕ). all k (stack_in (size_of table) array' r.height) r.active (totals_in r.totals)) n
+                ap (λ (k : ℕ). all k (stack_of (size_of table) pile') r.active (totals_in r.totals)) n
                 ∙ ap₂ (λ (s : List StateSet) (x : Bool). all (suc j) s x (totals_in r.totals)) d.stack_is d.active-is
                 ∙ ap (all (suc j) (v ∷ drop (arity a w) stack) _) d.totals-are
                 ∙ step part p ∙ g.same;
@@ -241,7 +237,7 @@ module _ {a table index ch : List ℕ} {i : ℕ} {marks array₀ : List ℕ} {t�
             let e : j ≡ length ch = omega arith in
             ap (λ (k : ℕ). drop k ch) e ∙ drop-length ch
 
-        go : (b : Bool) → with_ancestors a table ch i marks j (stack_in (size_of table) array t.height) b (totals_in t.totals) ≡ whole
+        go : (b : Bool) → with_ancestors a table ch i marks j (stack_of (size_of table) pile) b (totals_in t.totals) ≡ whole
             → totals_in t.totals ≡ whole
         go true e = rw q at e
         go false e = rw q at e

@@ -19,7 +19,7 @@ use Rattle.operations.proofs.MarksLaws.{length-stored_set}
 use Rattle.sets.specs.Size.{set_most, marks_most}
 use Rattle.sets.proofs.SizeLaws.{set-small, words-few}
 use Rattle.sets.proofs.StoredLaws.{row_inside, stored-part}
-use Rattle.forecast.specs.Pile.{sets_most}
+use Rattle.forecast.specs.Room.{sets_most}
 use Rattle.forecast.specs.Behind.{Marked}
 
 -- 24

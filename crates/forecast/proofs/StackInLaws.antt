@@ -12,7 +12,9 @@ use Rattle.words.proofs.ListLaws.{list_from-add}
 use Rattle.automaton.specs.StateSet.{StateSet}
 use Rattle.operations.specs.Marks.{stored_set}
 use Rattle.sets.proofs.StoredLaws.{row_inside, stored-written, stored-before}
-use Rattle.forecast.specs.Pile.{sets_most, pile_length, stack_in, Puttable}
+use Rattle.forecast.specs.declared.pile.Pile.{Pile}
+use Rattle.forecast.specs.Room.{sets_most, pile_length}
+use Rattle.forecast.specs.Pile.{stack_in, Puttable}
 
 module _ (size : ℕ) (array : List ℕ) where
   pub length-stack_in : (height : ℕ) → length (stack_in size array height) ≡ height
@@ -58,17 +60,17 @@ module _ (size : ℕ) (array : List ℕ) where
 
 -- ---- a set in the place of others
 
-module _ {array : List ℕ} {height children size : ℕ} (g : Puttable array height children size) where
-  pub put-inside : (height - children) * size + size ≤ length array
+module _ {pile : Pile} {children size : ℕ} (g : Puttable pile children size) where
+  pub put-inside : (pile.height - children) * size + size ≤ length pile.sets
   put-inside =
-      rw g.long (row_inside (height - children) sets_most size pile_length g.low (mul-le-mul_left sets_most g.small))
+      rw pile.long (row_inside (pile.height - children) sets_most size pile_length g.low (mul-le-mul_left sets_most g.small))
 
-  pub put_small : (height - children) * size + size ≤ pile_length
-  put_small = omega (arith, put-inside, g.long)
+  pub put_small : (pile.height - children) * size + size ≤ pile_length
+  put_small = omega (arith, put-inside, pile.long)
 
-  pub put-stack : (v : StateSet) → length v ≡ size → (array' : List ℕ) → array' ≡ paste array ((height - children) * size) v size
-      → stack_in size array' (height - children + 1) ≡ v ∷ drop children (stack_in size array height)
+  pub put-stack : (v : StateSet) → length v ≡ size → (array' : List ℕ) → array' ≡ paste pile.sets ((pile.height - children) * size) v size
+      → stack_in size array' (pile.height - children + 1) ≡ v ∷ drop children (stack_in size pile.sets pile.height)
   put-stack v e array' q =
-      ap (λ (l : List ℕ). stack_in size l (height - children + 1)) q
-      ∙ stack-put size array (height - children) v e put-inside
-      ∙ ap (λ (l : List StateSet). v ∷ l) (sym (drop-stack_in size array children height))
+      ap (λ (l : List ℕ). stack_in size l (pile.height - children + 1)) q
+      ∙ stack-put size pile.sets (pile.height - children) v e put-inside
+      ∙ ap (λ (l : List StateSet). v ∷ l) (sym (drop-stack_in size pile.sets children pile.height))

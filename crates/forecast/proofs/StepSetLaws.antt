@@ -5,7 +5,7 @@ use Prim.Native.Nat.{ℕ, zero, suc, ◌+◌, ◌-◌, ◌*◌, ◌%◌, ◌<◌
 use native.Mathlib.Omega.{arith}
 use native.Mathlib.Nat.{add-mul, add-zero, zero-add, mul-le-mul_left}
 use lib.ListN.{length, get_or, take, drop, replicate, length-append, length-drop}
-use lib.Seq.{paste, take_at, take_all, drop-drop}
+use lib.Seq.{take_at, take_all, drop-drop}
 use Rattle.words.specs.Lists.{list_from}
 use Rattle.words.specs.Word.{node_kind, kind_of, symbol_range}
 use Rattle.words.specs.Limits.{rank_most}
@@ -25,8 +25,11 @@ use Rattle.sets.proofs.StoredLaws.{row_inside}
 use Rattle.closures.specs.Closure.{Closures}
 use Rattle.step.specs.NodeSteppable.{RowsInside, child_sets}
 use Rattle.step.specs.Node.{Steppable as NodeStep}
-use Rattle.forecast.specs.Pile.{stack_in, sets_most, pile_length, Puttable, Kept, Steppable}
-use Rattle.forecast.proofs.StackInLaws.{top-stack_in, put-inside, put-stack}
+use Rattle.forecast.specs.declared.pile.Pile.{Pile}
+use Rattle.forecast.specs.declared.pile.Work.{Work}
+use Rattle.forecast.specs.Room.{sets_most, pile_length}
+use Rattle.forecast.specs.Pile.{stack_in, stack_of, Puttable, Kept, Steppable}
+use Rattle.forecast.proofs.StackInLaws.{top-stack_in, put-inside}
 
 -- the numbers of as many nodes as a node has children at most
 abbrev four : List ℕ
@@ -50,8 +53,7 @@ list_from-same : {A : Type 0} (f g : ℕ → A) (n j : ℕ) → ((k : ℕ) → f
 list_from-same f g zero j h = refl
 list_from-same {A} f g (suc n) j h = ap₂ (λ (x : A) (l : List A). x ∷ l) (h j) (list_from-same f g n (suc j) h)
 
-module _ {a table index : List ℕ} {w : ℕ} {array : List ℕ} {height : ℕ} {owners rows pending : List ℕ}
-    (g : Steppable a table index w array height owners rows pending) where
+module _ {a table index : List ℕ} {w : ℕ} {pile : Pile} {work : Work} (g : Steppable a table index w pile work) where
   node-facts : IsNode a w
   node-facts = is_node-facts a w g.node
 
@@ -65,27 +67,26 @@ module _ {a table index : List ℕ} {w : ℕ} {array : List ℕ} {height : ℕ} 
     pub few-children : children ≤ rank_most
     few-children = omega (arith, r, arity-most alphabet-facts w)
 
-    pub children-fit : children ≤ height
+    pub children-fit : children ≤ pile.height
     children-fit = omega (arith, r, g.fits)
 
-    pub step-puttable : Puttable array height children size
+    pub step-puttable : Puttable pile children size
     step-puttable = record {
       fits = children-fit;
       low = rw r g.low;
       small = rw s (set-small a table g.kept.checked);
-      long = g.long;
     }
 
     abbrev below : ℕ
-    below = height - children
+    below = pile.height - children
 
     -- the part of the array from the first child's set on
     abbrev part : List ℕ
-    part = take (length array - below * size) (drop (below * size) array)
+    part = take (pile_length - below * size) (drop (below * size) pile.sets)
 
-    part-is : part ≡ drop (below * size) array
+    part-is : part ≡ drop (below * size) pile.sets
     part-is =
-        take_all (length array - below * size) (drop (below * size) array) (omega (arith, length-drop (below * size) array))
+        take_all (pile_length - below * size) (drop (below * size) pile.sets) (omega (arith, length-drop (below * size) pile.sets, pile.long))
 
     numbers : take children four ≡ list_from (λ k. k) 0 children
     numbers = first-numbers children few-children
@@ -99,7 +100,7 @@ module _ {a table index : List ℕ} {w : ℕ} {array : List ℕ} {height : ℕ} 
         let high = g.high in
         let p : (below + k) * size + size ≤ pile_length =
         row_inside (below + k) sets_most size pile_length (omega arith) (mul-le-mul_left sets_most step-puttable.small) in
-        rw (part-is, length-drop (below * size) array, g.long) (omega (arith, p, add-mul below k size))
+        rw (part-is, length-drop (below * size) pile.sets, pile.long) (omega (arith, p, add-mul below k size))
 
     child-inside : RowsInside (size_of table) part (take children four)
     child-inside k h =
@@ -108,7 +109,7 @@ module _ {a table index : List ℕ} {w : ℕ} {array : List ℕ} {height : ℕ} 
         ap (λ (l : List ℕ). get_or l k 0) numbers ∙ get_or-list_from (λ k. k) 0 children 0 k l ∙ zero-add k in
         rw (e, ← s) (child-row k l)
 
-    pub step-node : NodeStep table index (w % symbol_range) part (take children four) owners rows pending
+    pub step-node : NodeStep table index (w % symbol_range) part (take children four) work.closures work.pending
     step-node = record {
       node = record {
         indexed = record {
@@ -122,37 +123,37 @@ module _ {a table index : List ℕ} {w : ℕ} {array : List ℕ} {height : ℕ} 
         rows = child-inside;
       };
       closures = g.kept.closures;
-      fits = omega (arith, is_table-states a table g.kept.checked, g.kept.pending-are);
+      fits = omega (arith, is_table-states a table g.kept.checked, work.long);
     }
 
-    pub part-inside : below * size ≤ length array
+    pub part-inside : below * size ≤ length pile.sets
     part-inside = let l = put-inside step-puttable in omega arith
 
     pub part_small : below * size ≤ pile_length
-    part_small = omega (arith, part-inside, g.long)
+    part_small = omega (arith, part-inside, pile.long)
 
     -- ---- what is worked out
 
     abbrev v : StateSet
-    v = value_on a (node_set table) w (stack_in (size_of table) array height)
+    v = value_on a (node_set table) w (stack_of (size_of table) pile)
 
-    child-sets : child_sets (size_of table) part (take children four) ≡ reverse (take (arity a w) (stack_in (size_of table) array height))
+    child-sets : child_sets (size_of table) part (take children four) ≡ reverse (take (arity a w) (stack_of (size_of table) pile))
     child-sets =
-        let f = stored_set (size_of table) array in
-        let h : below + children ≡ height = let fit = children-fit in omega arith in
+        let f = stored_set (size_of table) pile.sets in
+        let h : below + children ≡ pile.height = let fit = children-fit in omega arith in
         ap (map (stored_set (size_of table) part)) numbers
         ∙ map-list_from (λ k. k) (stored_set (size_of table) part) children 0
         ∙ list_from-same (stored_set (size_of table) part) (λ k. f (below + k)) children 0
         (λ k. ap (λ (l : List ℕ). stored_set (size_of table) l k) part-is
-        ∙ ap (λ (n : ℕ). stored_set (size_of table) (drop (below * n) array) k) s ∙ stored-behind (size_of table) array below k)
+        ∙ ap (λ (n : ℕ). stored_set (size_of table) (drop (below * n) pile.sets) k) s ∙ stored-behind (size_of table) pile.sets below k)
         ∙ list_from-offset f below children 0 ∙ ap (λ (j : ℕ). list_from f j children) (add-zero below)
-        ∙ sym (top-stack_in (size_of table) array below children)
-        ∙ ap₂ (λ (n m : ℕ). reverse (take n (stack_in (size_of table) array m))) r h
+        ∙ sym (top-stack_in (size_of table) pile.sets below children)
+        ∙ ap₂ (λ (n m : ℕ). reverse (take n (stack_in (size_of table) pile.sets m))) r h
 
     module _ (set : StateSet)
         (e : set ≡ state_set (automaton_of table) (w % symbol_range) (child_sets (size_of table) part (take children four))
         ++ replicate (set_most - size_of table) 0) where
-      pub set_is : set ≡ value_on a (node_set table) w (stack_in (size_of table) array height) ++ replicate (set_most - size_of table) 0
+      pub set_is : set ≡ value_on a (node_set table) w (stack_of (size_of table) pile) ++ replicate (set_most - size_of table) 0
       unfolding node_set value_on_by
       set_is =
           e
@@ -172,24 +173,26 @@ module _ {a table index : List ℕ} {w : ℕ} {array : List ℕ} {height : ℕ} 
       pub set_long : size ≤ length set
       set_long = rw (set_is, length-append v (replicate (set_most - size_of table) 0)) (omega (arith, length-value))
 
-      pub set-fits : below * size + length (take size set) ≤ length array
-      set-fits = rw (← set-length) (put-inside step-puttable)
+      pub set-puttable : Puttable pile children (length (take size set))
+      set-puttable = rw (← set-length) step-puttable
 
-      pub set-put : (array' : List ℕ) → array' ≡ paste array (below * size) (take size set) (length (take size set))
-          → stack_in (size_of table) array' (height - arity a w + 1)
-          ≡ value_on a (node_set table) w (stack_in (size_of table) array height) ∷ drop (arity a w) (stack_in (size_of table) array height)
-      set-put array' q =
-          ap₂ (λ (n m : ℕ). stack_in n array' (height - m + 1)) (sym s) (sym r)
-          ∙ put-stack step-puttable v length-value array'
-          (q ∙ ap₂ (λ (l : List ℕ) (n : ℕ). paste array (below * size) l n) set_front (sym set-length))
-          ∙ ap₂ (λ (n m : ℕ). v ∷ drop m (stack_in n array height)) s r
+      pub set-put : (pile' : Pile)
+          → stack_of (length (take size set)) pile' ≡ take size set ∷ drop children (stack_of (length (take size set)) pile)
+          → stack_of (size_of table) pile'
+          ≡ value_on a (node_set table) w (stack_of (size_of table) pile) ∷ drop (arity a w) (stack_of (size_of table) pile)
+      set-put pile' q =
+          let n : length (take size set) ≡ size_of table = sym set-length ∙ s in
+          ap (λ (k : ℕ). stack_of k pile') (sym n) ∙ q
+          ∙ ap₂ (λ (x : StateSet) (k : ℕ). x ∷ drop children (stack_of k pile)) set_front n
+          ∙ ap (λ (m : ℕ). v ∷ drop m (stack_of (size_of table) pile)) r
 
-  pub kept-later : {owners' rows' pending' : List ℕ} → length pending' ≡ length pending → Closures table owners' rows'
-      → Kept a table index owners' rows' pending'
-  kept-later l h = record {
+      pub set-height : {h : ℕ} → h ≡ pile.height - children + 1 → h ≡ pile.height - arity a w + 1
+      set-height e = e ∙ ap (λ (k : ℕ). pile.height - k + 1) r
+
+  pub kept-later : {work' : Work} → Closures table work'.closures → Kept a table index work'
+  kept-later h = record {
     alphabet = g.kept.alphabet;
     checked = g.kept.checked;
     indexed = g.kept.indexed;
     closures = h;
-    pending-are = l ∙ g.kept.pending-are;
   }

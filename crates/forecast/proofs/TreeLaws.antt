@@ -25,7 +25,9 @@ use Rattle.sets.specs.Size.{set_most}
 use Rattle.sets.proofs.SizeLaws.{set-small}
 use Rattle.totals.specs.declared.Totals.{Totals as Record}
 use Rattle.totals.specs.TotalsIn.{totals_in}
-use Rattle.forecast.specs.Pile.{stack_in, pile_length, Kept, Steppable}
+use Rattle.forecast.specs.declared.pile.Pile.{Pile}
+use Rattle.forecast.specs.declared.pile.Work.{Work}
+use Rattle.forecast.specs.Pile.{stack_in, stack_of, Kept, Steppable}
 use Rattle.forecast.specs.Sum.{with_set, with_sets, Plausible, Addable}
 use Rattle.forecast.specs.Tree.{TreeCountable}
 use Rattle.forecast.proofs.StackInLaws.{length-stack_in}
@@ -71,90 +73,88 @@ module _ (a table : List ℕ) (checked : size_of table ≤ set_most) (w : ℕ) (
 
 -- ---- all nodes
 
-pub record Counting (a table index ch array : List ℕ) (height : ℕ) (t : Record) (owners rows pending : List ℕ) (i : ℕ) : Type 0 where
+pub record Counting (a table index ch : List ℕ) (pile : Pile) (t : Record) (work : Work) (i : ℕ) : Type 0 where
   pub high : i ≤ length ch
-  pub long : length array ≡ pile_length
-  pub kept : Kept a table index owners rows pending
-  pub height-is : height ≡ length (roots_of a ch i)
+  pub kept : Kept a table index work
+  pub height-is : pile.height ≡ length (roots_of a ch i)
   pub counted : t.elements ≡ i
   pub plausible : Plausible t
-  pub totals : with_sets table (totals_in t) (values a (node_set table) (drop i ch) (stack_in (size_of table) array height))
+  pub totals : with_sets table (totals_in t) (values a (node_set table) (drop i ch) (stack_of (size_of table) pile))
       ≡ totals_of table (node_sets a table ch)
-  pub stack : stack_after a (node_set table) (drop i ch) (stack_in (size_of table) array height) ≡ stack_after a (node_set table) ch []
+  pub stack : stack_after a (node_set table) (drop i ch) (stack_of (size_of table) pile) ≡ stack_after a (node_set table) ch []
 
-module _ {a table index ch array₀ owners₀ rows₀ pending₀ : List ℕ}
-    (pre : TreeCountable a table index ch array₀ owners₀ rows₀ pending₀) where
-  pub counting-none : Counting a table index ch array₀ 0 (record { elements = 0; hits = 0; cells = 0 }) owners₀ rows₀ pending₀ 0
+module _ {a table index ch : List ℕ} {work₀ : Work} (pre : TreeCountable a table index ch work₀) where
+  pub counting-none : {pile : Pile} {t : Record} → pile.height ≡ 0 → (t.elements ≡ 0) × ((t.hits ≡ 0) × (t.cells ≡ 0))
+      → Counting a table index ch pile t work₀ 0
   unfolding stack_in node_sets stack_given_by
-  counting-none = record {
-    high = omega arith;
-    long = pre.long;
-    kept = pre.kept;
-    height-is = refl;
-    counted = refl;
-    plausible = record { hits = omega arith; cells = omega arith };
-    totals = with_sets-none table (values a (node_set table) ch []);
-    stack = refl;
-  }
+  counting-none {pile} {t} e (x, (y, z)) =
+      let nothing : totals_in t ≡ record { elements = 0; hits = 0; cells = 0 } = rw (x, y, z) refl in
+      record {
+        high = omega arith;
+        kept = pre.kept;
+        height-is = e;
+        counted = x;
+        plausible = record { hits = omega arith; cells = omega arith };
+        totals =
+            ap₂ (λ (u : Totals) (h : ℕ). with_sets table u (values a (node_set table) ch (stack_in (size_of table) pile.sets h))) nothing e
+            ∙ with_sets-none table (values a (node_set table) ch []);
+        stack = ap (λ (h : ℕ). stack_after a (node_set table) ch (stack_in (size_of table) pile.sets h)) e;
+      }
 
   pub small-set : size_of table ≤ set_most
   small-set = set-small a table pre.kept.checked
 
-  module _ {array : List ℕ} {height : ℕ} {t : Record} {owners rows pending : List ℕ} {i : ℕ}
-      (g : Counting a table index ch array height t owners rows pending i) where
+  module _ {pile : Pile} {t : Record} {work : Work} {i : ℕ}
+      (g : Counting a table index ch pile t work i) where
     module _ (l : i < length ch) where
       abbrev w : ℕ
       w = get_or ch i 0
 
       abbrev old : List StateSet
-      old = stack_in (size_of table) array height
+      old = stack_of (size_of table) pile
 
-      roots-next : height - arity a w + 1 ≡ length (roots_of a ch (i + 1))
+      roots-next : pile.height - arity a w + 1 ≡ length (roots_of a ch (i + 1))
       roots-next = ap (λ (h : ℕ). h - arity a w + 1) g.height-is ∙ sym (tree-roots a ch pre.tree i l)
 
-      pub counting-steppable : Steppable a table index (get_or ch i 0) array height owners rows pending
+      pub counting-steppable : Steppable a table index (get_or ch i 0) pile work
       counting-steppable = record {
         kept = g.kept;
         node = tree-node a ch pre.tree i l;
         fits = rw g.height-is (tree-fits a ch pre.tree i l);
         high = rw g.height-is (pre.room i g.high);
         low = omega (arith, roots-next, pre.room (i + 1) (omega arith));
-        long = g.long;
       }
 
       pub counting-addable : {set : StateSet} → length set ≤ set_most → Addable t set
       counting-addable h = record { plausible = g.plausible; few = omega (arith, g.counted, pre.few); short = h }
 
-      module _ {array' : List ℕ} {t' : Record} {owners' rows' pending' : List ℕ} (children : ℕ) (r : children ≡ arity a w)
-          (long : length array' ≡ length array)
-          (pushed : stack_in (size_of table) array' (height - arity a w + 1)
-          ≡ value_on a (node_set table) w (stack_in (size_of table) array height) ∷ drop (arity a w) (stack_in (size_of table) array height))
-          (kept : Kept a table index owners' rows' pending') (set : StateSet)
-          (e : set ≡ value_on a (node_set table) w (stack_in (size_of table) array height))
+      module _ {pile' : Pile} {t' : Record} {work' : Work}
+          (h : pile'.height ≡ pile.height - arity a (get_or ch i 0) + 1)
+          (pushed : stack_of (size_of table) pile'
+          ≡ value_on a (node_set table) (get_or ch i 0) (stack_of (size_of table) pile)
+          ∷ drop (arity a (get_or ch i 0)) (stack_of (size_of table) pile))
+          (kept : Kept a table index work') (set : StateSet)
+          (e : set ≡ value_on a (node_set table) (get_or ch i 0) (stack_of (size_of table) pile))
           (added : totals_in t' ≡ with_set table (totals_in t) set) (plausible : Plausible t') where
-        pub counting_more : Counting a table index ch array' (height - children + 1) t' owners' rows' pending' (i + 1)
+        pub counting_more : Counting a table index ch pile' t' work' (i + 1)
         unfolding values_by stack_after_by with_sets with_set
         counting_more =
             let n : i + 1 ≡ suc i = add-one i in
             let more : ℕ → List StateSet → Totals = λ j s. with_sets table (totals_in t') (values a (node_set table) (drop j ch) s) in
-            let h : height - children + 1 ≡ height - arity a w + 1 = ap (λ (k : ℕ). height - k + 1) r in
-            let s : stack_in (size_of table) array' (height - children + 1) ≡ value_on a (node_set table) w old ∷ drop (arity a w) old =
-            ap (stack_in (size_of table) array') h ∙ pushed in
             record {
               high = omega arith;
-              long = long ∙ g.long;
               kept = kept;
               height-is = h ∙ roots-next;
               counted = ap (λ (x : Totals). x.elements) added ∙ ap (λ (k : ℕ). k + 1) g.counted;
               plausible = plausible;
               totals =
-                  ap₂ more n s
+                  ap₂ more n pushed
                   ∙ ap (λ (x : Totals). with_sets table x (values a (node_set table) (drop (suc i) ch)
                   (value_on a (node_set table) w old ∷ drop (arity a w) old))) (added ∙ ap (with_set table (totals_in t)) e)
                   ∙ sym (ap (λ (ws : List ℕ). with_sets table (totals_in t) (values a (node_set table) ws old)) (drop-cons ch i 0 l))
                   ∙ g.totals;
               stack =
-                  ap₂ (λ (j : ℕ) (x : List StateSet). stack_after a (node_set table) (drop j ch) x) n s
+                  ap₂ (λ (j : ℕ) (x : List StateSet). stack_after a (node_set table) (drop j ch) x) n pushed
                   ∙ sym (ap (λ (ws : List ℕ). stack_after a (node_set table) ws old) (drop-cons ch i 0 l))
                   ∙ g.stack;
             }
@@ -170,22 +170,22 @@ module _ {a table index ch array₀ owners₀ rows₀ pending₀ : List ℕ}
       unfolding values_by with_sets
       counting-totals =
           sym
-          (ap (λ (ws : List ℕ). with_sets table (totals_in t) (values a (node_set table) ws (stack_in (size_of table) array height)))
+          (ap (λ (ws : List ℕ). with_sets table (totals_in t) (values a (node_set table) ws (stack_of (size_of table) pile)))
           none_left)
           ∙ g.totals
 
-      pub counting-root : stored_set (size_of table) array 0 ≡ root_set a table ch
+      pub counting-root : stored_set (size_of table) pile.sets 0 ≡ root_set a table ch
       unfolding stack_after_by root_set stack_in
-      counting-root = go height stack_is
+      counting-root = go pile.height stack_is
         where
-          stack_is : stack_in (size_of table) array height ≡ stack_after a (node_set table) ch []
-          stack_is = sym (ap (λ (ws : List ℕ). stack_after a (node_set table) ws (stack_in (size_of table) array height)) none_left) ∙ g.stack
+          stack_is : stack_of (size_of table) pile ≡ stack_after a (node_set table) ch []
+          stack_is = sym (ap (λ (ws : List ℕ). stack_after a (node_set table) ws (stack_of (size_of table) pile)) none_left) ∙ g.stack
 
           alone : length (stack_after a (node_set table) ch []) ≡ 1
           alone = ap length (read (arity a) (node_set table) ch (tree-accepted a ch pre.tree).shape).alone
 
-          go : (h : ℕ) → stack_in (size_of table) array h ≡ stack_after a (node_set table) ch []
-              → stored_set (size_of table) array 0 ≡ root_set a table ch
+          go : (h : ℕ) → stack_in (size_of table) pile.sets h ≡ stack_after a (node_set table) ch []
+              → stored_set (size_of table) pile.sets 0 ≡ root_set a table ch
           go zero e = absurd (omega (arith, ap length e, alone))
           go (suc zero) e = ap (λ (s : List StateSet). get_or s 0 []) e
-          go (suc (suc h)) e = absurd (omega (arith, length-stack_in (size_of table) array (suc (suc h)), ap length e, alone))
+          go (suc (suc h)) e = absurd (omega (arith, length-stack_in (size_of table) pile.sets (suc (suc h)), ap length e, alone))

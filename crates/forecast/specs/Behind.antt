@@ -10,7 +10,9 @@ use Rattle.operations.specs.Exchange.{Outcome, set_in, kept_from, propagate}
 use Rattle.totals.specs.declared.Totals.{Totals as Record}
 use Rattle.totals.specs.TotalsIn.{totals_in}
 use Rattle.forecast.specs.declared.behind.Passing.{Passing}
-use Rattle.forecast.specs.Pile.{pile_length, Kept, Steppable}
+use Rattle.forecast.specs.declared.pile.Pile.{Pile}
+use Rattle.forecast.specs.declared.pile.Work.{Work}
+use Rattle.forecast.specs.Pile.{stack_of, Kept, Steppable}
 use Rattle.forecast.specs.Sum.{with_set, with_sets, Plausible}
 
 -- the sets of those nodes, from j on, that `above` tells, where these are the outcomes
@@ -36,15 +38,14 @@ pub record Marked (a table ch marks : List ℕ) : Type 0 where
 
 -- ---- the sets before the place
 
-pub record Stackable (a table ch : List ℕ) (count : ℕ) (marks array : List ℕ) : Type 0 where
+pub record Stackable (a table ch : List ℕ) (count : ℕ) (marks : List ℕ) : Type 0 where
   pub marked : Marked a table ch marks
   pub within : count ≤ length ch
-  pub long : length array ≡ pile_length
 
 -- ---- one node
 
-pub record Passable (a table index : List ℕ) (w : ℕ) (stored array : List ℕ) (t : Passing) (owners rows pending : List ℕ) : Type 0 where
-  pub step : Steppable a table index w array t.height owners rows pending
+pub record Passable (a table index : List ℕ) (w : ℕ) (stored : List ℕ) (pile : Pile) (t : Passing) (work : Work) : Type 0 where
+  pub step : Steppable a table index w pile work
   pub size : length stored ≡ size_of table
   pub reached : t.reach ≤ nodes_most
   pub plausible : Plausible t.totals
@@ -55,39 +56,38 @@ unfoldable pub passed_set : List ℕ → List ℕ → ℕ → StateSet → List 
 passed_set a table w stored stack active above = cond (above && active) (value_on a (node_set table) w stack) stored
 
 -- how far the nodes are passed behind it
-pub record Passed (a table : List ℕ) (w : ℕ) (stored : StateSet) (stack : List StateSet) (t : Passing) (above : Bool)
-    (stack' : List StateSet) (r : Passing) : Type 0 where
-  pub stack_is : stack' ≡ passed_set a table w stored stack t.active above ∷ drop (arity a w) stack
-  pub height-is : r.height ≡ t.height - arity a w + 1
+pub record Passed (a table : List ℕ) (w : ℕ) (stored : StateSet) (pile : Pile) (t : Passing) (above : Bool) (pile' : Pile)
+    (r : Passing) : Type 0 where
+  pub stack_is : stack_of (size_of table) pile'
+      ≡ passed_set a table w stored (stack_of (size_of table) pile) t.active above ∷ drop (arity a w) (stack_of (size_of table) pile)
+  pub height-is : pile'.height ≡ pile.height - arity a w + 1
   pub reach-is : r.reach ≡ cond above 1 (t.reach - arity a w + 1)
   pub active-is : r.active
-      ≡ cond above (t.active && not (same_words (passed_set a table w stored stack t.active above) stored)) t.active
+      ≡ cond above (t.active && not (same_words (passed_set a table w stored (stack_of (size_of table) pile) t.active above) stored)) t.active
   pub totals-are : totals_in r.totals
-      ≡ cond above (with_set table (totals_in t.totals) (passed_set a table w stored stack t.active above)) (totals_in t.totals)
+      ≡ cond above (with_set table (totals_in t.totals) (passed_set a table w stored (stack_of (size_of table) pile) t.active above)) (totals_in t.totals)
   pub plausible : Plausible r.totals
 
 -- ---- all nodes behind
 
 -- behind node i, over the sets of the roots so far
-pub record NodesPassable (a table index ch : List ℕ) (i : ℕ) (marks array : List ℕ) (t : Passing)
-    (owners rows pending : List ℕ) : Type 0 where
+pub record NodesPassable (a table index ch : List ℕ) (i : ℕ) (marks : List ℕ) (pile : Pile) (t : Passing)
+    (work : Work) : Type 0 where
   pub marked : Marked a table ch marks
-  pub kept : Kept a table index owners rows pending
+  pub kept : Kept a table index work
   pub inside : i < length ch
-  pub long : length array ≡ pile_length
-  pub height-is : t.height ≡ length (roots_of a ch (i + 1))
+  pub height-is : pile.height ≡ length (roots_of a ch (i + 1))
   pub reach-is : t.reach ≡ 1
   pub plausible : Plausible t.totals
   pub counted : t.totals.elements ≤ nodes_most
 
 -- in the place of node i's subtree stands a tree whose root has this set
 pub record BehindCountable (a table index ch : List ℕ) (i start : ℕ) (marks root : List ℕ) (t : Record)
-    (array owners rows pending : List ℕ) : Type 0 where
+    (pile : Pile) (work : Work) : Type 0 where
   pub marked : Marked a table ch marks
-  pub kept : Kept a table index owners rows pending
+  pub kept : Kept a table index work
   pub inside : i < length ch
   pub begins : start ≡ (span_of a ch i).start
-  pub long : length array ≡ pile_length
   pub size : length root ≡ size_of table
   pub plausible : Plausible t
   pub counted : t.elements ≤ nodes_most

@@ -1,3 +1,4 @@
+pub mod Room
 pub mod Pile
 pub mod Sum
 pub mod Tree

@@ -9,9 +9,9 @@ ghost use Rattle.totals.specs.Place.{added_totals};
 ghost use Rattle.totals.specs.Replaceable.{Replaceable};
 
 use behind::behind_totals;
-use closures::{ROWS_LENGTH, ROWS_MOST};
-use index::{INDEX_LENGTH, write_index};
-use pile::PILE_LENGTH;
+use closures::{KeptClosures, ROWS_LENGTH, ROWS_MOST};
+use index::{INDEX_LENGTH, Indexed, write_index};
+use pile::{PILE_LENGTH, Pile, Work};
 use sets::state::SET_MOST;
 use sets::whole::write_set;
 use tables::head::set_size;
@@ -45,36 +45,35 @@ pub fn forecast_totals(
 {
     let mut index = [0u32; INDEX_LENGTH];
     write_index(table, &mut index);
-    let mut sets = [0u32; PILE_LENGTH];
-    let mut owners = [0u32; ROWS_MOST];
-    let mut rows = [0u32; ROWS_LENGTH];
-    let mut pending = [0u32; STATES_MOST];
-    let counted = tree_totals(
-        alphabet,
+    let indexed = Indexed {
         table,
-        &index,
-        replacement,
-        &mut sets,
-        &mut owners,
-        &mut rows,
-        &mut pending,
-    );
+        index: &index,
+    };
+    let mut pile = Pile {
+        sets: [0u32; PILE_LENGTH],
+        height: 0,
+    };
+    let mut work = Work {
+        closures: KeptClosures {
+            owners: [0u32; ROWS_MOST],
+            rows: [0u32; ROWS_LENGTH],
+        },
+        pending: [0u32; STATES_MOST],
+    };
+    let counted = tree_totals(alphabet, indexed, replacement, &mut pile, &mut work);
     let size = set_size(table);
     let mut root = [0u32; SET_MOST];
-    write_set(&mut root, &sets[..size]);
+    write_set(&mut root, &pile.sets[..size]);
     behind_totals(
         alphabet,
-        table,
-        &index,
+        indexed,
         &chapter[..count],
         element,
         start,
         marks,
         &root[..size],
         counted,
-        &mut sets,
-        &mut owners,
-        &mut rows,
-        &mut pending,
+        &mut pile,
+        &mut work,
     )
 }

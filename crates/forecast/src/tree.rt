@@ -8,48 +8,33 @@ ghost use Rattle.forecast.specs.Pile.{Kept};
 ghost use Rattle.forecast.specs.Sum.{Plausible};
 ghost use Rattle.forecast.specs.Tree.{TreeCountable};
 
-use super::pile::step_set;
+use super::pile::{Pile, Work};
 use super::sum::add_set;
-use alphabet::node_arity;
+use index::Indexed;
 use tables::head::set_size;
 use totals::Totals;
 
-// Works out the nodes one after the other, and answers their totals. The root's set is the only one that is left in the array.
+// Works out the nodes one after the other, and answers their totals. The root's set is the only one that is left on the pile.
 pub(crate) fn tree_totals(
     alphabet: &[u32],
-    table: &[u32],
-    index: &[u32],
+    indexed: Indexed,
     nodes: &[u32],
-    sets: &mut [u32],
-    owners: &mut [u32],
-    rows: &mut [u32],
-    pending: &mut [u32],
+    pile: &mut Pile,
+    work: &mut Work,
 ) -> Totals
-    requires { TreeCountable alphabet.now table.now index.now nodes.now sets.old owners.old rows.old pending.old }
-    ensures answer { totals_in result ≡ totals_of table.now (node_sets alphabet.now table.now nodes.now) }
+    requires { TreeCountable alphabet.now indexed.table.now indexed.index.now nodes.now work.old }
+    ensures answer { totals_in result ≡ totals_of indexed.entry.table.now (node_sets alphabet.now indexed.entry.table.now nodes.now) }
     ensures plausible { Plausible result }
-    ensures root { stored_set (size_of table.now) sets.new 0
-        ≡ root_set alphabet.now table.now nodes.now }
-    ensures kept { Kept alphabet.now table.now index.now owners.new rows.new
-        pending.new }
+    ensures root { stored_set (size_of indexed.entry.table.now) pile.new.sets 0
+        ≡ root_set alphabet.now indexed.entry.table.now nodes.now }
+    ensures kept { Kept alphabet.now indexed.entry.table.now indexed.entry.index.now work.new }
 {
-    let size = set_size(table);
-    let mut totals = Totals {
-        elements: 0,
-        hits: 0,
-        cells: 0,
-    };
-    let mut height = 0;
-    let mut i = 0;
-    while i < nodes.len() {
-        let w = nodes[i];
-        let children = node_arity(alphabet, w);
-        let set = step_set(
-            alphabet, table, index, w, sets, height, owners, rows, pending,
-        );
-        totals = add_set(table, totals, &set[..size]);
-        height = height - children + 1;
-        i += 1;
+    let size = set_size(indexed.table);
+    let mut totals = Totals::default();
+    pile.height = 0;
+    for w in nodes {
+        let set = pile.step(alphabet, indexed, *w, work);
+        totals = add_set(indexed.table, totals, &set[..size]);
     }
     totals
 }

@@ -1,19 +1,17 @@
--- `forecast::behind::behind_totals` meets its contract: the sets before the place and the root's set are put on the array, and the nodes
+-- `forecast::behind::behind_totals` meets its contract: the sets before the place and the root's set are put on the pile, and the nodes
 -- behind the place are passed.
 use native.Mathlib.Omega.{arith}
-use borrow.Author.Rules.{rules}
 use Rattle.forecast.proofs.RunFacts.{row_fits, row_small, row_is}
 use Rattle.forecast.proofs.BehindLaws.{behind-stackable, behind-puttable, behind-passable, behind-is}
 use Rattle.forecast.proofs.behind.behind_totals.Goals as goal
 
-pub stack_sets-base-requires : goal.stack_sets-base-requires
-stack_sets-base-requires c =
+pub stack_sets-requires : goal.stack_sets-requires
+stack_sets-requires c =
     behind-stackable c.requires
 
-pub put_set-height-requires : goal.put_set-height-requires
-put_set-height-requires c =
-    behind-puttable c.requires _ _
-    (search rules) c.stack_sets-base.ensures
+pub put-requires : goal.put-requires
+put-requires c =
+    behind-puttable c.requires _ c.stack_sets.ensures
 
 pub overflow_mul-at : goal.overflow_mul-at
 overflow_mul-at c =
@@ -30,24 +28,18 @@ offset_bounds-marks-at c =
     let l = row_small c.requires.marked _ c.requires.inside _ c.set_size-size.ensures in
     omega arith
 
-pub slice_bounds-same_words-count : goal.slice_bounds-same_words-count
-slice_bounds-same_words-count c = omega arith
-
-pub slice_bounds-same_words-start : goal.slice_bounds-same_words-start
-slice_bounds-same_words-start c = omega arith
-
 pub slice_bounds-same_words-end : goal.slice_bounds-same_words-end
 slice_bounds-same_words-end c =
     row_fits c.requires.marked _ c.requires.inside _ c.set_size-size.ensures
 
 pub pass_nodes-requires : goal.pass_nodes-requires
 pass_nodes-requires c =
-    behind-passable c.requires _ _ (search rules) c.stack_sets-base.ensures _ _ (search rules) c.put_set-height.ensures.answer
-    c.put_set-height.ensures.sets _
+    behind-passable c.requires c.stack_sets.new.pile c.stack_sets.ensures c.put.new.self c.put.ensures.height
+    c.put.ensures.sets _
 
 pub returns : goal.returns
 returns c =
-    behind-is c.requires _ _ (search rules) c.stack_sets-base.ensures _ _ (search rules) c.put_set-height.ensures.answer
-    c.put_set-height.ensures.sets _ _ (row_is c.requires.marked _ c.requires.inside _ c.set_size-size.ensures)
+    behind-is c.requires c.stack_sets.new.pile c.stack_sets.ensures c.put.new.self c.put.ensures.height
+    c.put.ensures.sets _ _ (row_is c.requires.marked _ c.requires.inside _ c.set_size-size.ensures)
     c.same_words-same.ensures _
     c.pass_nodes.ensures

@@ -1,5 +1,4 @@
 -- `forecast::behind::pass_node` meets its contract: the stored set is put on the array, or the one that is worked out.
-use native.Mathlib.Omega.{arith}
 use borrow.Author.Tests.{not-true, not-false}
 use Rattle.forecast.proofs.StepSetLaws.{step-kind}
 use Rattle.forecast.proofs.TreeLaws.{value-front, value-inside, value-size, value-short}
@@ -10,32 +9,22 @@ use Rattle.forecast.proofs.behind.pass_node.Goals as goal
 pub node_arity-children-requires : goal.node_arity-children-requires
 node_arity-children-requires c = step-kind c.requires.step
 
-pub put_set-top-requires : goal.put_set-top-requires
-put_set-top-requires c =
+pub put-requires : goal.put-requires
+put-requires c =
     pass-puttable c.requires _ c.node_arity-children.ensures
-
-pub overflow_sub-result : goal.overflow_sub-result
-overflow_sub-result c = omega (arith, c.if-children-reach.true)
-
-pub overflow_add-result : goal.overflow_add-result
-overflow_add-result c =
-    omega (
-      arith,
-      c.requires.reached,
-    )
 
 pub returns-then-children-reach : goal.returns-then-children-reach
 returns-then-children-reach c =
     let g = c.requires in
     record {
       passed =
-          pass-beside g _ c.node_arity-children.ensures _ c.put_set-top.ensures.answer
-          c.put_set-top.ensures.sets c.if-children-reach.true;
+          pass-beside g _ c.node_arity-children.ensures _ c.put.ensures.height
+          c.put.ensures.sets c.if-children-reach.true;
       kept = g.step.kept;
     }
 
-pub put_set-top-requires-then-not-passing : goal.put_set-top-requires-then-not-passing
-put_set-top-requires-then-not-passing c =
+pub put-requires-then-not-passing : goal.put-requires-then-not-passing
+put-requires-then-not-passing c =
     pass-puttable c.requires _ c.node_arity-children.ensures
 
 pub add_set-requires : goal.add_set-requires
@@ -45,56 +34,41 @@ add_set-requires c =
 pub returns-then-not-passing : goal.returns-then-not-passing
 returns-then-not-passing c =
     let g = c.requires in
-    let put = c.put_set-top-then-not-passing.ensures in
+    let put = c.put-then-not-passing.ensures in
     record {
       passed =
-          pass-stored g _ c.node_arity-children.ensures _ put.answer put.sets c.if-children-reach.false
+          pass-stored g _ c.node_arity-children.ensures _ put.height put.sets c.if-children-reach.false
           (not-true _ c.if-not-passing.true) _ c.add_set.ensures.answer c.add_set.ensures.plausible;
       kept = g.step.kept;
     }
 
-pub step_set-set-requires : goal.step_set-set-requires
-step_set-set-requires c =
-    c.requires.step
-
 pub slice_bounds-set-end : goal.slice_bounds-set-end
 slice_bounds-set-end c =
-    value-inside _ _ (pass-small c.requires) _ _ _ c.step_set-set.ensures.answer _ c.set_size-size.ensures
+    value-inside _ _ (pass-small c.requires) _ _ _ c.step-set.ensures.answer _ c.set_size-size.ensures
 
 pub slice_bounds-same_words-end : goal.slice_bounds-same_words-end
 slice_bounds-same_words-end c =
-    value-size _ _ (pass-small c.requires) _ _ _ c.step_set-set.ensures.answer _ c.set_size-size.ensures
-
-pub overflow_sub-result-2 : goal.overflow_sub-result-2
-overflow_sub-result-2 c =
-    omega (
-      arith,
-      c.node_arity-children.ensures,
-      c.requires.step.fits,
-    )
-
-pub overflow_add-result-2 : goal.overflow_add-result-2
-overflow_add-result-2 c = omega (arith, c.requires.step.high)
+    value-size _ _ (pass-small c.requires) _ _ _ c.step-set.ensures.answer _ c.set_size-size.ensures
 
 pub slice_bounds-set-end-2 : goal.slice_bounds-set-end-2
 slice_bounds-set-end-2 c =
-    value-inside _ _ (pass-small c.requires) _ _ _ c.step_set-set.ensures.answer _ c.set_size-size.ensures
+    value-inside _ _ (pass-small c.requires) _ _ _ c.step-set.ensures.answer _ c.set_size-size.ensures
 
 pub slice_bounds-add_set-end : goal.slice_bounds-add_set-end
 slice_bounds-add_set-end c =
-    value-size _ _ (pass-small c.requires) _ _ _ c.step_set-set.ensures.answer _ c.set_size-size.ensures
+    value-size _ _ (pass-small c.requires) _ _ _ c.step-set.ensures.answer _ c.set_size-size.ensures
 
 pub add_set-requires-2 : goal.add_set-requires-2
 add_set-requires-2 c =
-    pass-addable c.requires _ (value-short _ _ (pass-small c.requires) _ _ _ c.step_set-set.ensures.answer _ c.set_size-size.ensures)
+    pass-addable c.requires _ (value-short _ _ (pass-small c.requires) _ _ _ c.step-set.ensures.answer _ c.set_size-size.ensures)
 
 pub returns : goal.returns
 returns c =
-    let set = c.step_set-set.ensures in
+    let set = c.step-set.ensures in
     record {
       passed =
-          pass-worked c.requires _ c.node_arity-children.ensures c.if-children-reach.false (not-false _ c.if-not-passing.false) _
-          set.sets _ (value-front _ _ (pass-small c.requires) _ _ _ set.answer _ c.set_size-size.ensures)
+          pass-worked c.requires _ c.node_arity-children.ensures c.if-children-reach.false (not-false _ c.if-not-passing.false)
+          set.height set.sets _ (value-front _ _ (pass-small c.requires) _ _ _ set.answer _ c.set_size-size.ensures)
           _ c.same_words-same.ensures _ c.add_set-2.ensures.answer c.add_set-2.ensures.plausible;
       kept = set.kept;
     }

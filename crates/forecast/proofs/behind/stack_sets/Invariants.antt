@@ -1,10 +1,6 @@
--- `forecast::behind::stack_sets` meets its contract: before each turn the stored sets of the roots of the first i nodes stand in the array.
-use Prim.Native.Nat.{◌-◌}
+-- `forecast::behind::stack_sets` meets its contract: before each turn the stored sets of the roots of the first i nodes are on the pile.
 use Rattle.forecast.proofs.StackSetsLaws.{StackingSets}
 use Rattle.forecast.proofs.behind.stack_sets.Given as goal
 
 abbrev pub invariant-loop-i : goal.invariant-loop-i
-invariant-loop-i l = StackingSets l.alphabet l.table l.nodes l.count l.marks l.sets l.height l.i
-
-abbrev pub decreases-loop-i : goal.decreases-loop-i
-decreases-loop-i l = l.count - l.i
+invariant-loop-i l = StackingSets l.alphabet l.table l.nodes l.count l.marks l.pile l.i

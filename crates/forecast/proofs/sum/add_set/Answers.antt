@@ -3,15 +3,6 @@ use native.Mathlib.Omega.{arith}
 use Rattle.forecast.proofs.SumLaws.{hit_few, cells-small, set-added}
 use Rattle.forecast.proofs.sum.add_set.Goals as goal
 
-pub overflow_add-result-2 : goal.overflow_add-result-2
-overflow_add-result-2 c =
-    let g = c.requires in omega (
-      arith,
-      g.few,
-      g.plausible.hits,
-      hit_few c.contains-hit.result,
-    )
-
 pub overflow_cast-result-2 : goal.overflow_cast-result-2
 overflow_cast-result-2 c =
     omega (

@@ -1,10 +1,9 @@
--- `forecast::pile::step_set` meets its contract: the sets from the first child's on are those of the children, and the set that is
+-- `forecast::pile::Pile::step` meets its contract: the sets from the first child's on are those of the children, and the set that is
 -- worked out from them is put in their place.
 use native.Mathlib.Omega.{arith}
-use Rattle.forecast.proofs.StepSetLaws.{step-kind, few-children, part-inside, part_small, children-are, step-node}
-use Rattle.forecast.proofs.StepSetLaws.{set_is, set-length, set_long, set-fits, set-put, kept-later}
-use borrow.Author.Rules.{rules}
-use Rattle.forecast.proofs.pile.step_set.Goals as goal
+use Rattle.forecast.proofs.StepSetLaws.{step-kind, few-children, part_small, children-are, step-node}
+use Rattle.forecast.proofs.StepSetLaws.{set_is, set-length, set_long, set-puttable, set-put, set-height, kept-later}
+use Rattle.forecast.proofs.pile.Pile.step.Goals as goal
 
 pub node_arity-children-requires : goal.node_arity-children-requires
 node_arity-children-requires c = step-kind c.requires
@@ -12,14 +11,14 @@ node_arity-children-requires c = step-kind c.requires
 pub overflow_mul-at : goal.overflow_mul-at
 overflow_mul-at c = let l = part_small c.requires _ c.set_size-size.ensures _ c.node_arity-children.ensures in omega arith
 
-pub offset_bounds-sets-at : goal.offset_bounds-sets-at
-offset_bounds-sets-at c = let l = part_small c.requires _ c.set_size-size.ensures _ c.node_arity-children.ensures in omega arith
+pub offset_bounds-self-at : goal.offset_bounds-self-at
+offset_bounds-self-at c = let l = part_small c.requires _ c.set_size-size.ensures _ c.node_arity-children.ensures in omega arith
 
 pub slice_bounds-node_set-count : goal.slice_bounds-node_set-count
-slice_bounds-node_set-count c = part-inside c.requires _ c.set_size-size.ensures _ c.node_arity-children.ensures
+slice_bounds-node_set-count c = part_small c.requires _ c.set_size-size.ensures _ c.node_arity-children.ensures
 
 pub slice_bounds-node_set-start : goal.slice_bounds-node_set-start
-slice_bounds-node_set-start c = part-inside c.requires _ c.set_size-size.ensures _ c.node_arity-children.ensures
+slice_bounds-node_set-start c = part_small c.requires _ c.set_size-size.ensures _ c.node_arity-children.ensures
 
 pub slice_bounds-first-end : goal.slice_bounds-first-end
 slice_bounds-first-end c =
@@ -37,13 +36,13 @@ pub slice_bounds-set-end : goal.slice_bounds-set-end
 slice_bounds-set-end c =
     set_long c.requires _ c.set_size-size.ensures _ c.node_arity-children.ensures _ c.node_set-set.ensures.answer
 
-pub slice_bounds-write_set_at-end : goal.slice_bounds-write_set_at-end
-slice_bounds-write_set_at-end c =
+pub slice_bounds-put-end : goal.slice_bounds-put-end
+slice_bounds-put-end c =
     set-length c.requires _ c.set_size-size.ensures _ c.node_arity-children.ensures _ c.node_set-set.ensures.answer
 
-pub write_set_at-requires : goal.write_set_at-requires
-write_set_at-requires c =
-    set-fits c.requires _ c.set_size-size.ensures _ c.node_arity-children.ensures _ c.node_set-set.ensures.answer
+pub put-requires : goal.put-requires
+put-requires c =
+    set-puttable c.requires _ c.set_size-size.ensures _ c.node_arity-children.ensures _ c.node_set-set.ensures.answer
 
 pub returns : goal.returns
 returns c =
@@ -53,6 +52,7 @@ returns c =
     let set = c.node_set-set.ensures.answer in
     record {
       answer = set_is g _ size _ children _ set;
-      sets = set-put g _ size _ children _ set _ c.write_set_at.ensures;
-      kept = kept-later g (search rules) c.node_set-set.ensures.closures;
+      height = set-height g _ size _ children _ set c.put.ensures.height;
+      sets = set-put g _ size _ children _ set c.put.new.self c.put.ensures.sets;
+      kept = kept-later g c.node_set-set.ensures.closures;
     }
