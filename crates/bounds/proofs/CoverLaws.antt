@@ -1,6 +1,10 @@
 -- The runs one after the other: the pairs bound every tree that the words so far make.
-use Rattle.std.proofs.Common.{◌≡◌, ℕ, ◌+◌, ◌-◌, ◌*◌, ◌<◌, ◌≤◌, min, true, false, List, [], ◌∷◌, ◌++◌, length, get_or, take, drop, sym, refl, ap, ◌∙◌, subst, arith, length-drop, length-take, take_all, take-add}
+use Rattle.std.proofs.Common.{◌≡◌, ℕ, ◌+◌, ◌-◌, ◌*◌, ◌<◌, ◌≤◌, min, true, false, List, [], ◌∷◌, ◌++◌, length, get_or, take, drop, sym, refl, ap, ◌∙◌, subst, arith, length-drop, take_all, take-add}
 use native.Mathlib.Decide.{ℕ_discrete, dec_lt, dec_le}
+use mathlib.Core.List.{append-nil}
+use lib.Seq.{take_at, drop_at, drop-drop}
+use lib.ListN.{length-append, drop_of_length-le}
+use Rattle.std.proofs.lemmas.List.{nil_from_length}
 use Rattle.words.specs.Lists.{all, highest}
 use Rattle.words.specs.Shape.{trees_by, stack_after_by, height_over, height_of_by}
 use Rattle.words.specs.Postfix.{arity, trees}
@@ -12,7 +16,8 @@ use Rattle.words.proofs.AcceptedTree.{accepted-tree}
 use Rattle.words.proofs.HoleLaws.{append-holes}
 use Rattle.syntax.specs.HeightStack.{heights_after}
 use Rattle.bounds.specs.Runs.{run_most, RanksOf, BelowBound, InRun, RunRead, RunReadable, RunOf, TreeReadable, TreeWithin, BoundOf}
-use Rattle.bounds.specs.Pairs.{pairs_room, bound_at, PairsReadable, RunPuttable, RunPut}
+use Rattle.bounds.specs.Pairs.{bounds_of, bound_at, FirstPair, RunPuttable, RunPut}
+use Rattle.bounds.specs.declared.pairs.Pairs.{Pairs}
 use Rattle.bounds.specs.declared.runs.RunFigures.{RunFigures}
 use Rattle.bounds.proofs.RunLaws.{at_map}
 
@@ -70,124 +75,107 @@ covered-tree a ws bound g = record {
 
 -- ---- the loop over the runs
 
-pub record RunsSoFar (ranks ws places bounds : List ℕ) (top made start : ℕ) : Type 0 where
-  pub places-long : length places ≡ pairs_room
-  pub bounds-long : length bounds ≡ pairs_room
-  pub few : top * 32 ≤ start
-  pub top-most : top < pairs_room
+-- `start` counts whole runs, also where the last one is shorter; `rest` are the words to come
+pub record RunsSoFar (ranks ws : List ℕ) (pairs : Pairs) (made start : ℕ) (rest : List ℕ) : Type 0 where
+  pub rest-is : rest ≡ drop start ws
+  pub few : pairs.top * 32 ≤ start
   pub made-most : made ≤ start
   pub some : 0 < start → 0 < made
-  pub low : highest bounds ≤ run_most + start
-  pub covered : (a : List ℕ) → RanksOf a ranks → Covered a (take start ws) made (bound_at places bounds top)
+  pub low : highest (bounds_of pairs.pairs) ≤ run_most + start
+  pub covered : (a : List ℕ) → RanksOf a ranks → Covered a (take start ws) made (bound_at pairs)
 
-pub runs_none : (ranks ws places bounds : List ℕ) → length places ≡ pairs_room → length bounds ≡ pairs_room → highest bounds ≤ 0
-    → RunsSoFar ranks ws places bounds 0 0 0
-runs_none ranks ws places bounds p b l = record {
-  places-long = p;
-  bounds-long = b;
-  few = omega arith;
-  top-most = omega arith;
+pub runs_none : (ranks ws : List ℕ) (pairs : Pairs) → FirstPair pairs → (rest : List ℕ) → rest ≡ ws → RunsSoFar ranks ws pairs 0 0 rest
+runs_none ranks ws pairs first rest e = record {
+  rest-is = e;
+  few = let f = first.first in omega arith;
   made-most = omega arith;
   some = λ h. absurd (omega arith);
-  low = omega arith;
-  covered = λ a k. covered_none a (bound_at places bounds 0);
+  low = let l = first.low in omega arith;
+  covered = λ a k. covered_none a (bound_at pairs);
 }
 
-module _ {ranks ws places bounds : List ℕ} {top made start : ℕ} (g : RunsSoFar ranks ws places bounds top made start)
+module _ {ranks ws : List ℕ} {pairs : Pairs} {made start : ℕ} {rest : List ℕ} (g : RunsSoFar ranks ws pairs made start rest)
     (room : TreeReadable ranks ws) where
-  -- the words of the next run
-  module _ (h : start < length ws) (end : ℕ) (e : end ≡ min (start + run_most) (length ws)) where
-    abbrev run : List ℕ
-    run = take (end - start) (drop start ws)
+  rest_long : length rest ≡ length ws - start
+  rest_long = ap length g.rest-is ∙ length-drop start ws
 
-    run_long : length run ≡ end - start
-    run_long =
-        let t = length-take (end - start) (drop start ws) in
-        let d = length-drop start ws in
-        omega arith
-
+  -- the words of the next run, and those behind it
+  module _ (run behind : List ℕ) (cut : rest ≡ run ++ behind) (size : length run ≡ min run_most (length rest)) (some : 0 < length rest) where
     run_is : run ≡ take run_most (drop start ws)
-    run_is = go (dec_le (start + run_most) (length ws))
+    run_is = sym (ap (take run_most) (sym g.rest-is ∙ cut) ∙ go (dec_le run_most (length rest)))
       where
-        go : Dec (start + run_most ≤ length ws) → run ≡ take run_most (drop start ws)
-        go (yes l) =
-            let q : end - start ≡ run_most = omega arith in
-            ap (λ (n : ℕ). take n (drop start ws)) q
-        go (no l) =
-            let d = length-drop start ws in
-            take_all (end - start) (drop start ws) (omega arith) ∙ sym (take_all run_most (drop start ws) (omega arith))
+        go : Dec (run_most ≤ length rest) → take run_most (run ++ behind) ≡ run
+        go (yes h) = take_at run behind run_most (omega arith)
+        go (no h) =
+            let n = ap length cut ∙ length-append run behind in
+            let z : behind ≡ [] = nil_from_length behind (omega arith) in
+            rw z (rw (append-nil run) (take_all run_most run (omega arith)))
+
+    behind_is : behind ≡ drop (start + run_most) ws
+    behind_is = sym (sym (drop-drop run_most start ws) ∙ ap (drop run_most) (sym g.rest-is ∙ cut) ∙ go (dec_le run_most (length rest)))
+      where
+        go : Dec (run_most ≤ length rest) → drop run_most (run ++ behind) ≡ behind
+        go (yes h) = drop_at run behind run_most (omega arith)
+        go (no h) =
+            let n = ap length cut ∙ length-append run behind in
+            let z : behind ≡ [] = nil_from_length behind (omega arith) in
+            rw z (rw (append-nil run) (drop_of_length-le run {i = run_most} (omega arith)))
 
     pub run_room : RunReadable ranks run made
     run_room =
         let m = g.made-most in
         let f = room.few in
-        let l = run_long in
+        let l = rest_long in
         record { symbols = room.symbols; few = omega arith }
 
     module _ (r : RunFigures) (read : RunOf ranks run made r) where
-      pub pairs-room : RunPuttable places bounds top r.fewest r.joined
-      pairs-room =
-          let p = g.places-long in
-          let b = g.bounds-long in
+      pub pairs_puttable : RunPuttable pairs r.fewest r.joined
+      pairs_puttable =
           let f = g.few in
           let l = g.low in
           let m = g.made-most in
           let n = room.few in
-          let o = run_long in
+          let o = rest_long in
           let fm = read.fewest-most in
           let jm = read.joined-most in
-          record { places-room = omega arith; bounds-room = omega arith; fewest-low = omega arith; bounds-low = omega arith }
+          record { room = omega arith; fewest-low = omega arith; bounds-low = omega arith }
 
-      pub runs-more : r.passed ≡ true → (places' bounds' : List ℕ) (top' : ℕ) → length places' ≡ length places
-          → length bounds' ≡ length bounds → RunPut places bounds top r.fewest r.joined places' bounds' top'
-          → RunsSoFar ranks ws places' bounds' top' r.made (start + run_most)
-      runs-more passed places' bounds' top' lp lb put =
+      pub runs_more : (pairs' : Pairs) → RunPut pairs r.fewest r.joined pairs' → RunsSoFar ranks ws pairs' r.made (start + run_most) behind
+      runs_more pairs' put =
           let f = g.few in
           let l = g.low in
           let m = g.made-most in
           let n = room.few in
-          let o = run_long in
+          let o = rest_long in
           let mm = read.made-most in
           let jm = read.joined-most in
           let pf = put.few in
           let pl = put.low in
           let pw = put.words in
           record {
-            places-long = lp ∙ g.places-long;
-            bounds-long = lb ∙ g.bounds-long;
+            rest-is = behind_is;
             few = omega arith;
-            top-most = omega arith;
             made-most = omega arith;
-            some = λ s. read.some passed (omega arith);
+            some = λ s. read.some (omega arith);
             low = omega arith;
             covered = λ a k.
                 rw (take-add start run_most ws, ← run_is)
                 (covered-run a (take start ws) run made r.made r.fewest r.joined put.high
-                (bound_at places bounds top) (bound_at places' bounds' top') (g.covered a k) (read.read passed a k)
+                (bound_at pairs) (bound_at pairs') (g.covered a k) (read.read a k)
                 (omega arith) put.taken put.kept put.at
                 (λ p q. let u = put.fresh p q in omega arith));
           }
 
   -- all words are read
-  pub runs-look : PairsReadable places bounds top
-  runs-look =
-      let p = g.places-long in
-      let b = g.bounds-long in
-      let t = g.top-most in
-      record { places-room = omega arith; bounds-room = omega arith }
-
-  pub runs-end : length ws ≤ start → made ≤ 1 → (bound : ℕ) → bound ≡ bound_at places bounds top 1 → BoundOf ranks ws bound
-  runs-end h few bound e = record {
-    tree = λ some a k.
+  pub runs_end : length rest ≡ 0 → made ≤ 1 → (bound : ℕ) → bound ≡ bound_at pairs 1 → BoundOf ranks ws bound
+  runs_end h few bound e = record {
+    tree = λ a k.
+        let l = rest_long in
         let r = room.some in
         let m = g.some (omega arith) in
         let one : made ≡ 1 = omega arith in
         rw e
-        (covered-tree a ws (bound_at places bounds top)
-        (subst (λ (l : List ℕ). Covered a l 1 (bound_at places bounds top)) (take_all start ws h)
-        (subst (λ (n : ℕ). Covered a (take start ws) n (bound_at places bounds top)) one (g.covered a k))));
+        (covered-tree a ws (bound_at pairs)
+        (subst (λ (l : List ℕ). Covered a l 1 (bound_at pairs)) (take_all start ws (omega arith))
+        (subst (λ (n : ℕ). Covered a (take start ws) n (bound_at pairs)) one (g.covered a k))));
   }
-
--- 0 says nothing
-pub bound-nothing : (ranks ws : List ℕ) → BoundOf ranks ws 0
-bound-nothing ranks ws = record { tree = λ some. absurd (omega arith) }

@@ -1,6 +1,6 @@
 -- Laws of a run of words: how high the trees are that it leaves, place by place.
-use Rattle.std.proofs.Common.{◌≡◌, ℕ, zero, suc, ◌+◌, ◌-◌, ◌%◌, ◌^◌, ◌<◌, ◌≤◌, min, Bool, true, false, cond, ◌&&◌, leb, List, [], ◌∷◌, ◌++◌, length, get_or, take, drop, sym, refl, ap, ◌∙◌, subst, add-one, arith, length-append, length-drop, take-suc, lt-ltb, eq-eqb, leb-false, leb-true}
-use mathlib.Core.Bool.{false≢true}
+use Rattle.std.proofs.Common.{◌≡◌, ℕ, zero, suc, ◌+◌, ◌-◌, ◌%◌, ◌^◌, ◌<◌, ◌≤◌, min, true, false, ◌&&◌, leb, List, [], ◌∷◌, ◌++◌, length, get_or, take, drop, sym, refl, ap, ◌∙◌, subst, add-one, arith, length-append, length-drop, take-suc, lt-ltb, eq-eqb, leb-false, leb-true}
+use Rattle.std.specs.Int.{from_bool}
 use native.Mathlib.Decide.{dec_lt}
 use lib.Seq.{take-length}
 use Rattle.words.specs.Lists.{all, count, highest}
@@ -17,8 +17,7 @@ use Rattle.words.proofs.StackLaws.{stack-append}
 use Rattle.words.proofs.PostfixLaws.{trees-snoc}
 use Rattle.words.proofs.HoleLaws.{append-holes}
 use Rattle.syntax.specs.HeightStack.{heights_after, heights_after_word}
-use Rattle.bounds.specs.Runs.{one_if_at_most, RanksOf, AtPlaces, InRun, RunRead, RunOf, RunReadable, stopped_run}
-use Rattle.bounds.specs.declared.runs.RunFigures.{RunFigures}
+use Rattle.bounds.specs.Runs.{RanksOf, AtPlaces, InRun, RunRead, RunOf, RunReadable}
 use Rattle.bounds.proofs.ElementLaws.{counted-at}
 
 -- ---- properties of places and heights
@@ -208,15 +207,6 @@ module _ (a ranks : List ℕ) (k : RanksOf a ranks) (w c : ℕ) (kind : is_of no
 
 -- ---- the loop over the words of a run
 
--- a word is counted once at most
-pub count-one : (m n j : ℕ) → j ≡ one_if_at_most m n → j ≤ 1
-unfolding one_if_at_most
-count-one m n j e = go (leb m n) e
-  where
-    go : (b : Bool) → j ≡ cond b 1 0 → j ≤ 1
-    go true e = omega arith
-    go false e = omega arith
-
 pub record RunSoFar (ranks ws : List ℕ) (before made fewest joined i : ℕ) : Type 0 where
   pub within : i ≤ length ws
   pub made-most : made ≤ before + i
@@ -239,9 +229,8 @@ module _ {ranks ws : List ℕ} {before made fewest joined i : ℕ} (g : RunSoFar
     (room : RunReadable ranks ws before) where
   pub so_far_more : i < length ws → (n : ℕ) → n ≡ count (is_of node_kind) ws → length ws ≤ n
       → (c : ℕ) → c ≡ get_or ranks (symbol_of (get_or ws i 0)) 0 → c ≤ made
-      → (m : ℕ) → m ≡ (made - c + 1) % 2 ^ 32 → (j : ℕ) → j ≡ one_if_at_most m fewest → (f : ℕ) → f ≡ min m fewest
+      → (m : ℕ) → m ≡ (made - c + 1) % 2 ^ 32 → (j : ℕ) → j ≡ from_bool (leb m fewest) → (f : ℕ) → f ≡ min m fewest
       → RunSoFar ranks ws before m f (joined + j) (i + 1)
-  unfolding one_if_at_most
   so_far_more h n en all c ec enough m em j ej f ef = go (tested (leb (made - c + 1) fewest))
     where
       whole : m ≡ made - c + 1
@@ -299,7 +288,7 @@ module _ {ranks ws : List ℕ} {before made fewest joined i : ℕ} (g : RunSoFar
           (known-node a ranks k w c kind ec few) (known-plain a ranks k w c kind ec few) (known-arity a ranks k w c kind ec few)
           enough b l))
 
-  pub so-far-end : length ws ≤ i → RunOf ranks ws before (record { passed = true; made = made; fewest = fewest; joined = joined })
+  pub so-far-end : length ws ≤ i → RunOf ranks ws before (record { made = made; fewest = fewest; joined = joined })
   so-far-end h =
       let l = g.within in
       let m = g.made-most in
@@ -309,18 +298,7 @@ module _ {ranks ws : List ℕ} {before made fewest joined i : ℕ} (g : RunSoFar
         made-most = omega arith;
         fewest-most = g.fewest-most;
         joined-most = omega arith;
-        some = λ p h. g.some (omega arith);
-        read = λ p a k.
+        some = λ h. g.some (omega arith);
+        read = λ a k.
             subst (λ (l : List ℕ). RunRead a l before made fewest joined) (ap (λ (n : ℕ). take n ws) q ∙ take-length ws) (g.read a k);
       }
-
-pub run-stopped : (ranks ws : List ℕ) (before : ℕ) (run : RunFigures) → run ≡ stopped_run → RunOf ranks ws before run
-run-stopped ranks ws before run e =
-    rw e
-    record {
-      made-most = omega arith;
-      fewest-most = omega arith;
-      joined-most = omega arith;
-      some = λ p. absurd (false≢true p);
-      read = λ p. absurd (false≢true p);
-    }

@@ -39,10 +39,10 @@ module _ (a ws : List ℕ) where
           omega arith;
     }
 
-    pub shape-bounded : (bound : ℕ) → BoundOf ranks ws bound → (bound ≡ 0 → ⊥) → (low : ℕ) → low ≡ min bound (length ws)
+    pub shape-bounded : (bound : ℕ) → BoundOf ranks ws bound → (low : ℕ) → low ≡ min (length ws) bound
         → ShapeOf a ws (record { bound = Ok low; holes = false })
-    shape-bounded bound g some low e =
-        let t = g.tree (omega arith) a ranks-of in
+    shape-bounded bound g low e =
+        let t = g.tree a ranks-of in
         record {
           fault = sym t.fault;
           low =

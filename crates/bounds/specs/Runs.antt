@@ -3,23 +3,15 @@
 -- A stack of heights has the last tree on top; a tree's place is 1 at the bottom. Over a run of words, `fewest` is the fewest trees at
 -- any time. Trees on lower places are as they were; those on higher places are made of the run's words alone. On place `fewest`
 -- stands a tree over one of those that were there from this place on, and `joined` words of the run stand one over the other on it.
-use Rattle.std.specs.Prelude.{◌≡◌, ℕ, suc, ◌+◌, ◌<◌, ◌≤◌, true, false, cond, List, [], ◌∷◌, length, nat_le, slice_index}
+use Rattle.std.specs.Prelude.{◌≡◌, ℕ, suc, ◌+◌, ◌<◌, ◌≤◌, true, false, List, [], ◌∷◌, length, slice_index}
 use Rattle.words.specs.Lists.{all}
 use Rattle.words.specs.Limits.{nodes_most}
-use Rattle.words.specs.Word.{node_kind, symbol_range, is_of}
+use Rattle.words.specs.Word.{symbol_range}
 use Rattle.words.specs.Alphabet.{rank_of, is_hole}
 use Rattle.words.specs.Postfix.{trees, height_of}
 use Rattle.words.specs.Chapter.{is_node, tree_fault, holes_in}
 use Rattle.syntax.specs.HeightStack.{heights_after}
 use Rattle.bounds.specs.declared.runs.RunFigures.{RunFigures}
-
--- 1 where the first number is at most the second, and else 0
-unfoldable pub one_if_at_most : ℕ → ℕ → ℕ
-one_if_at_most m n = cond (nat_le m n) 1 0
-
--- 1 for a word of the chapter's kind with clear spare bits, and else 0
-unfoldable pub element_one : ℕ → ℕ
-element_one w = cond (is_of node_kind w) 1 0
 
 -- the most words of a run
 abbrev pub run_most : ℕ
@@ -61,22 +53,18 @@ pub record RunRead (a ws : List ℕ) (before made fewest joined : ℕ) : Type 0 
       → ((p : ℕ) → fewest ≤ p → p ≤ before → bound p ≤ high)
       → AtPlaces (InRun bound fewest (high + joined) (length ws)) (heights_after a ws s)
 
--- the answer where a word fails
-abbrev pub stopped_run : RunFigures
-stopped_run = record { passed = false; made = 0; fewest = 0; joined = 0 }
-
 -- what reading a run asks
 pub record RunReadable (ranks ws : List ℕ) (before : ℕ) : Type 0 where
   pub symbols : symbol_range ≤ length ranks
   pub few : before + length ws ≤ nodes_most
 
--- what it answers
+-- what it answers where no word fails
 pub record RunOf (ranks ws : List ℕ) (before : ℕ) (run : RunFigures) : Type 0 where
   pub made-most : run.made ≤ before + length ws
   pub fewest-most : run.fewest ≤ before
   pub joined-most : run.joined ≤ length ws
-  pub some : run.passed ≡ true → 0 < length ws → 0 < run.made
-  pub read : run.passed ≡ true → (a : List ℕ) → RanksOf a ranks → RunRead a ws before run.made run.fewest run.joined
+  pub some : 0 < length ws → 0 < run.made
+  pub read : (a : List ℕ) → RanksOf a ranks → RunRead a ws before run.made run.fewest run.joined
 
 -- ---- the tree
 
@@ -92,6 +80,6 @@ pub record TreeReadable (ranks ws : List ℕ) : Type 0 where
   pub some : 0 < length ws
   pub few : length ws ≤ nodes_most
 
--- a bound of the tree, or 0, which says nothing
+-- a bound of the tree
 pub record BoundOf (ranks ws : List ℕ) (bound : ℕ) : Type 0 where
-  pub tree : 0 < bound → (a : List ℕ) → RanksOf a ranks → TreeWithin a ws bound
+  pub tree : (a : List ℕ) → RanksOf a ranks → TreeWithin a ws bound

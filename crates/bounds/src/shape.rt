@@ -3,7 +3,7 @@ ghost use Rattle.std.specs.Prelude.{◌≤◌, length};
 ghost use Rattle.words.specs.Limits.{nodes_most};
 ghost use Rattle.bounds.specs.TreeShape.{ShapeOf};
 
-use super::runs::{lower, tree_bound};
+use super::runs::tree_bound;
 use alphabet::{SYMBOLS, write_ranks};
 use syntax::chapter::{holes_in, tree_fault};
 use words::limits::{HEIGHT_MOST, NODES_MOST};
@@ -42,12 +42,11 @@ pub fn tree_shape(alphabet: &[u32], words: &[u32]) -> Shape
     }
     let mut ranks = [NO_RANK; SYMBOLS];
     write_ranks(alphabet, &mut ranks);
-    let bound = tree_bound(&ranks, words);
-    if bound == 0 {
-        return counted_shape(alphabet, words);
-    }
-    Shape {
-        bound: Ok(lower(bound, words.len() as u32) as usize),
-        holes: false,
+    match tree_bound(&ranks, words) {
+        Some(bound) => Shape {
+            bound: Ok(words.len().min(bound as usize)),
+            holes: false,
+        },
+        None => counted_shape(alphabet, words),
     }
 }
