@@ -10,13 +10,11 @@ use words::word::{COUNT_RANGE, STATE_RANGE};
 fn head_word(table: &[u32]) -> u32
     ensures { result ≡ get_or table.now 0 0 }
 {
-    if 0 < table.len() {
-        return table[0];
-    }
-    0
+    table.first().copied().unwrap_or(0)
 }
 
 // How many states there are.
+#[tactic(auto, unfolding(automaton::specs::Transition::automaton_of))]
 pub fn state_count(table: &[u32]) -> usize
     ensures { result ≡ (automaton_of table.now).states }
 {
@@ -24,6 +22,7 @@ pub fn state_count(table: &[u32]) -> usize
 }
 
 // The final state.
+#[tactic(auto, unfolding(automaton::specs::Transition::automaton_of, operations::specs::Marks::final_of))]
 pub fn final_state(table: &[u32]) -> usize
     ensures { result ≡ final_of table.now }
 {
@@ -31,6 +30,7 @@ pub fn final_state(table: &[u32]) -> usize
 }
 
 // Document 01's S: the words of one node's state set.
+#[tactic(auto, unfolding(automaton::specs::Transition::automaton_of, operations::specs::Marks::size_of))]
 pub fn set_size(table: &[u32]) -> usize
     ensures { result ≡ size_of table.now }
 {

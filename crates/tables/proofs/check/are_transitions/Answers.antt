@@ -2,16 +2,14 @@
 use Rattle.tables.proofs.TableScanLaws.{checked-none, checked-more, checked-fails, checked-end}
 use Rattle.tables.proofs.check.are_transitions.Goals as goal
 
-pub loop-i-init : goal.loop-i-init
-loop-i-init c = checked-none _ _ _
+pub loop-word-init : goal.loop-word-init
+loop-word-init c = checked-none _ _ _
 
-pub returns-then-next-eq0 : goal.returns-then-next-eq0
-returns-then-next-eq0 c =
-    checked-fails c.loop-i.invariant c.loop-i-test.true _ c.sources_next-next.ensures c.if-next-eq0.true
+pub loop-word-preserved : goal.loop-word-preserved
+loop-word-preserved c = checked-more c.loop-word.invariant c.loop-word-test.true _ c.in-Some.ensures
 
-pub loop-i-preserved : goal.loop-i-preserved
-loop-i-preserved c =
-    checked-more c.loop-i.invariant c.loop-i-test.true _ c.sources_next-next.ensures c.if-next-eq0.false
+pub returns-in_default : goal.returns-in_default
+returns-in_default c = checked-fails c.loop-word.invariant c.loop-word-test.true c.in_default.ensures
 
 pub returns : goal.returns
-returns c = checked-end c.loop-i.invariant c.loop-i-test.false
+returns c = checked-end c.loop-word.invariant c.loop-word-test.false

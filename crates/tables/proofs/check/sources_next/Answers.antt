@@ -4,7 +4,6 @@ use mathlib.Core.List.{[], ◌∷◌}
 use native.Mathlib.Omega.{arith}
 use Rattle.words.specs.Word.{transition_kind, epsilon_kind, source_kind}
 use Rattle.words.specs.declared.word.Kind.TheVariants.{Transition, Epsilon, Source}
-use Rattle.words.specs.Alphabet.{rank_of}
 use Rattle.words.proofs.DecodedLaws.{told-number, left-number}
 use Rattle.tables.proofs.CheckLaws.{spare-bits, state-outside, no_source, no-table-word, symbol-unknown}
 use Rattle.tables.proofs.CheckLaws.{above-outside, transition-next, epsilon-next, source-next}
@@ -20,10 +19,6 @@ pub returns-then-left-gt0 : goal.returns-then-left-gt0
 returns-then-left-gt0 c =
     let n = told-number _ _ c.kind_of-kind.ensures Transition c.in-Transition.is (omega arith) in
     no_source _ _ _ _ c.if-left-gt0.true (λ i. omega arith)
-
-pub overflow_add-result : goal.overflow_add-result
-unfolding rank_of
-overflow_add-result c = omega (arith, c.rank.ensures)
 
 pub returns-then-symbol-alphabet : goal.returns-then-symbol-alphabet
 returns-then-symbol-alphabet c =
@@ -59,7 +54,7 @@ returns-else-above-states c =
 pub returns-in-Source : goal.returns-in-Source
 returns-in-Source c =
     source-next _ _ _ (sym c.spare_bits_clear.ensures ∙ c.if-not-spare_bits_clear.false)
-    c.if-below-states.false _ (told-number _ _ c.kind_of-kind.ensures Source c.in-Source.is (omega arith))
+    c.if-below-states.false _ (told-number _ _ c.kind_of-kind.ensures Source c.in-Source.is (omega arith)) _ c.checked_sub.ensures
 
 pub returns-in_default : goal.returns-in_default
 returns-in_default c =
