@@ -29,6 +29,7 @@ use Rattle.nodes.proofs.LoopLaws.{node_set_at}
 use Rattle.nodes.proofs.LoopLaws as loops
 use Rattle.nodes.proofs.MarkLaws.{MarksHolding, holding-set, set_from-rows, marked_from-rows}
 use Rattle.nodes.proofs.MarkedSets.{marked_sets, length-marked_sets}
+use Rattle.std.specs.declared.ops.ControlFlow.TheVariants.{Continue, Break}
 use Rattle.propagation.specs.declared.Progress.{Progress}
 use Rattle.propagation.specs.Propagation.{propagate_step, propagate_from, initial}
 use Rattle.propagation.proofs.PropagateNodeLaws.{recomputed-is, step-ancestor, propagate-continues, propagate-stops}
@@ -232,7 +233,8 @@ module _ (c : ExchangeCall) (ok : words_fault c ≡ 0) where
 
     -- the root is worked out, and the loop is behind it
     step-root : (b : Bool) → same_words new old ≡ b
-        → (work, record { reach = 1; recomputed = m + 1; active = not b }) ≡ propagate_step a table tree (s + m) before (initial m)
+        → (work, cond (not b) (Continue (record { reach = 1; recomputed = m + 1 })) (Break (m + 1)))
+        ≡ propagate_step a table tree (s + m) before (initial m)
     unfolding marked_from
     step-root b h =
         step-ancestor a table tree (s + m) before (initial m) _ refl (omega arith) (work, not b)
@@ -260,10 +262,10 @@ module _ (c : ExchangeCall) (ok : words_fault c ≡ 0) where
         go : Tested (same_words new old)
             → Same a table tree ch element rest above propagated (cond (same_words new old) (rows, length xs) onward)
         go (holds b) =
-            rw (propagate-stops a table tree (s + m) before (initial m) left work _ (step-root true b) refl, b)
+            rw (propagate-stops a table tree (s + m) before (initial m) left work _ (step-root true b), b)
             (record { sets = work-holds; count = count })
         go (fails b) =
-            rw (propagate-continues a table tree (s + m) before (initial m) left work _ (step-root false b) refl, b) (behind _ refl count)
+            rw (propagate-continues a table tree (s + m) before (initial m) left work _ (step-root false b), b) (behind _ refl count)
 
     pub left-outcomes : (marks' : List ℕ) (count : ℕ)
         → (marks', count)

@@ -92,9 +92,9 @@ module _ (a table ch used : List ℕ) (element : ℕ) (rest : List ℕ) (above :
         let y : HoldingTree (arity a) used element (suc j) (d - r + 1) =
         subst (λ (k : ℕ). HoldingTree (arity a) used element (suc j) (d - k + 1)) word
         (holding-others (arity a) used element j d g.holding l') in
-        let t' : Progress = record { reach = t.reach - r + 1; recomputed = t.recomputed; active = true } in
+        let t' : Progress = record { reach = t.reach - r + 1; recomputed = t.recomputed } in
         let p : propagates i (suc n) marks t ≡ propagates (suc i) n marks t' =
-        propagate-continues a table ch i marks t n marks t' (step-beside a table ch i marks t r refl (omega arith)) refl in
+        propagate-continues a table ch i marks t n marks t' (step-beside a table ch i marks t r refl (omega arith)) in
         let q : propagates_sets i (suc n) rows t.recomputed ≡ propagates_sets (suc i) n rows t.recomputed =
         propagate_sets-beside a table ch above i n rows t.recomputed
         (above-here ∙ takes-others (arity a) used element j d g.holding l') in
@@ -129,20 +129,19 @@ module _ (a table ch used : List ℕ) (element : ℕ) (rest : List ℕ) (above :
 
         go : Tested (same_words new old) → Same (propagates i (suc n) marks t) (propagates_sets i (suc n) rows t.recomputed)
         go (holds b) =
-            let t' : Progress = record { reach = 1; recomputed = t.recomputed + 1; active = false } in
             let p : propagates i (suc n) marks t ≡ (marks, t.recomputed + 1) =
-            propagate-stops a table ch i marks t n marks t'
-            (step-ancestor a table ch i marks t r refl (omega arith) (marks, false) (recomputed-same a table ch i marks b)) refl in
+            propagate-stops a table ch i marks t n marks (t.recomputed + 1)
+            (step-ancestor a table ch i marks t r refl (omega arith) (marks, false) (recomputed-same a table ch i marks b)) in
             let q : propagates_sets i (suc n) rows t.recomputed ≡ (rows, t.recomputed + 1) =
             propagate_sets-last a table ch above i n rows t.recomputed is-above (tests ∙ b) in
             rw (p, q) (record { sets = g.sets; count = refl })
         go (fails b) =
-            let t' : Progress = record { reach = 1; recomputed = t.recomputed + 1; active = true } in
+            let t' : Progress = record { reach = 1; recomputed = t.recomputed + 1 } in
             let marks' = marked_at a table ch i marks in
             let rows' = set rows i (loops.set_from_sets a table ch i rows) in
             let p : propagates i (suc n) marks t ≡ propagates (suc i) n marks' t' =
             propagate-continues a table ch i marks t n marks' t'
-            (step-ancestor a table ch i marks t r refl (omega arith) (marks', true) (recomputed-is a table ch i marks false b)) refl in
+            (step-ancestor a table ch i marks t r refl (omega arith) (marks', true) (recomputed-is a table ch i marks false b)) in
             let q : propagates_sets i (suc n) rows t.recomputed ≡ propagates_sets (suc i) n rows' (t.recomputed + 1) =
             propagate_sets-onward a table ch above i n rows t.recomputed is-above (tests ∙ b) in
             rw (p, q)

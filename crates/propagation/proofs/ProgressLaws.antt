@@ -1,7 +1,6 @@
 -- The invariant of the loop over the replacement's root and the nodes behind it: what is still to be done gives what the whole loop gives,
 -- and the stack and what is kept from node to node are right.
 use mathlib.Core.Path.{◌≡◌, refl, ap, ◌∙◌, sym}
-use mathlib.Core.Bool.{true, false}
 use mathlib.Core.List.{List}
 use Prim.Native.Nat.{ℕ, suc, ◌+◌, ◌-◌, ◌<◌, ◌≤◌}
 use native.Mathlib.Omega.{arith}
@@ -9,6 +8,7 @@ use native.Mathlib.Numerals.{add-one}
 use lib.ListN.{length}
 use Rattle.memo.specs.declared.Memo.{Memo}
 use Rattle.nodes.specs.declared.stack.Roots.{Roots}
+use Rattle.std.specs.declared.ops.ControlFlow.TheVariants.{Continue, Break}
 use Rattle.nodes.specs.Marking.{Maintained}
 use Rattle.nodes.proofs.WorkableLaws.{workable-long, bounded-tree}
 use Rattle.propagation.specs.declared.Progress.{Progress}
@@ -57,22 +57,22 @@ module _ {a table index ch : List ℕ} {root count : ℕ} {marks₀ : List ℕ} 
             few-recomputed = omega arith;
           }
 
-      module _ {m : List ℕ} {next : Progress} (e : (m, next) ≡ propagate_step a table ch i marks t) where
-        one : length ch - i ≡ suc (length ch - suc i)
-        one = omega arith
+      one : length ch - i ≡ suc (length ch - suc i)
+      one = omega arith
 
-        pub propagating-stops : next.active ≡ false
-            → (m, next.recomputed) ≡ propagate_from a table ch root (length ch - root) marks₀ (initial count)
-        propagating-stops h =
+      module _ {m : List ℕ} where
+        pub propagating-stops : {last : ℕ} → (m, Break last) ≡ propagate_step a table ch i marks t
+            → (m, last) ≡ propagate_from a table ch root (length ch - root) marks₀ (initial count)
+        propagating-stops {last} e =
             sym
             (g.same ∙ ap (λ (n : ℕ). propagate_from a table ch i n marks t) one
-            ∙ propagate-stops a table ch i marks t (length ch - suc i) m next e h)
+            ∙ propagate-stops a table ch i marks t (length ch - suc i) m last e)
 
-        pub propagating-more : next.active ≡ true → length m ≡ length marks
+        pub propagating-more : {next : Progress} → (m, Continue next) ≡ propagate_step a table ch i marks t → length m ≡ length marks
             → {roots' : Roots} {memo' : Memo}
             → Maintained a table ch (i + 1) m roots' memo'
             → Propagating a table ch root count marks₀ m roots' next memo' (i + 1)
-        propagating-more h p d =
+        propagating-more {next} e p d =
             let low = g.low in
             let o = g.few-reached in
             let r = g.few-recomputed in
@@ -88,7 +88,7 @@ module _ {a table index ch : List ℕ} {root count : ℕ} {marks₀ : List ℕ} 
               few-recomputed = omega arith;
               same =
                   g.same ∙ ap (λ (n : ℕ). propagate_from a table ch i n marks t) one
-                  ∙ propagate-continues a table ch i marks t (length ch - suc i) m next e h
+                  ∙ propagate-continues a table ch i marks t (length ch - suc i) m next e
                   ∙ ap (λ (k : ℕ). propagate_from a table ch k (length ch - k) m next) (sym (add-one i));
             }
 

@@ -8,6 +8,8 @@ use lib.ListN.{length, get_or, set, take, drop, length-drop}
 use lib.Seq.{paste, take-take, take_at, length-take-le}
 use lib.Dec.{ltb}
 use borrow.Author.Tests.{lt-ltb, le-ltb}
+use Rattle.std.specs.declared.ops.ControlFlow.{ControlFlow}
+use Rattle.std.specs.declared.ops.ControlFlow.TheVariants.{Continue, Break}
 use Rattle.words.specs.Postfix.{arity}
 use Rattle.automaton.specs.StateSet.{StateSet}
 use Rattle.operations.specs.Marks.{size_of, stored_set, same_words}
@@ -25,7 +27,7 @@ use Rattle.nodes.proofs.WorkableLaws.{workable-size, bounded-tree, workable-mark
 use Rattle.nodes.proofs.RootStackLaws.{represented-more}
 use Rattle.nodes.proofs.MarkLaws.{length-set_from}
 use Rattle.propagation.specs.declared.Progress.{Progress}
-use Rattle.propagation.specs.Propagation.{recompute_at, propagate_step, propagate_from}
+use Rattle.propagation.specs.Propagation.{recompute_at, propagate_step, behind_step, propagate_from}
 
 -- ---- one node is recomputed
 
@@ -117,11 +119,11 @@ module _ {a table index ch : List ℕ} {i : ℕ} {marks : List ℕ} {roots : Roo
       }
 
 module _ (a table ch : List ℕ) (i : ℕ) (marks : List ℕ) (t : Progress) where
-  abbrev beside : ℕ → List ℕ × Progress
-  beside r = (marks, record { reach = t.reach - r + 1; recomputed = t.recomputed; active = true })
+  abbrev beside : ℕ → List ℕ × ControlFlow ℕ Progress
+  beside r = (marks, Continue (record { reach = t.reach - r + 1; recomputed = t.recomputed }))
 
-  abbrev ancestor : List ℕ × Bool → List ℕ × Progress
-  ancestor p = (p.0, record { reach = 1; recomputed = t.recomputed + 1; active = p.1 })
+  abbrev ancestor : List ℕ × Bool → List ℕ × ControlFlow ℕ Progress
+  ancestor p = (p.0, cond p.1 (Continue (record { reach = 1; recomputed = t.recomputed + 1 })) (Break (t.recomputed + 1)))
 
   abbrev r : ℕ
   r = arity a (get_or ch i 0)
@@ -141,29 +143,48 @@ module _ (a table ch : List ℕ) (i : ℕ) (marks : List ℕ) (t : Progress) whe
       ∙ sym (ap (λ (x : Bool). cond x (beside r) (ancestor (recompute_at a table ch i marks)))
       (le-ltb r t.reach (subst (λ (x : ℕ). t.reach ≤ x) e h)))
 
+  -- whether its words changed
+  module _ (k : ℕ) (e : k ≡ arity a (get_or ch i 0)) (h : t.reach ≤ k) {m : List ℕ} {b : Bool} (q : (m, b) ≡ recompute_at a table ch i marks) where
+    abbrev answer : Bool → List ℕ × ControlFlow ℕ Progress
+    answer x = ancestor (m, x)
+
+    pub step-last : b ≡ false → (m, Break (t.recomputed + 1)) ≡ propagate_step a table ch i marks t
+    step-last f = ap answer (sym f) ∙ step-ancestor k e h (m, b) q
+
+    pub step-onward : b ≡ true → (m, Continue (record { reach = 1; recomputed = t.recomputed + 1 })) ≡ propagate_step a table ch i marks t
+    step-onward f = ap answer (sym f) ∙ step-ancestor k e h (m, b) q
+
   -- what one node adds to the counts
   pub record Small (next : Progress) : Type 0 where
     pub reach : next.reach ≤ t.reach + 1
     pub recomputed : next.recomputed ≤ t.recomputed + 1
 
-  pub step_small : (m : List ℕ) (next : Progress) → (m, next) ≡ propagate_step a table ch i marks t → Small next
+  abbrev SmallOn : ControlFlow ℕ Progress → Type 0
+  SmallOn (Continue next) = Small next
+  SmallOn (Break count) = Unit {0}
+
+  pub step_small : (m : List ℕ) (next : Progress) → (m, Continue next) ≡ propagate_step a table ch i marks t → Small next
   unfolding propagate_step
-  step_small m next e = subst Small (sym (ap (λ (p : List ℕ × Progress). p.1) e)) (go (ltb r t.reach))
+  step_small m next e =
+      subst SmallOn (sym (ap (λ (p : List ℕ × ControlFlow ℕ Progress). p.1) e))
+      (go (ltb r t.reach) (recompute_at a table ch i marks).0 (recompute_at a table ch i marks).1)
     where
-      go : (x : Bool) → Small (cond x (beside r) (ancestor (recompute_at a table ch i marks))).1
-      go true = record { reach = omega arith; recomputed = omega arith }
-      go false = record { reach = omega arith; recomputed = omega arith }
+      go : (x : Bool) (m : List ℕ) (b : Bool) → SmallOn (cond x (beside r) (ancestor (m, b))).1
+      go true m b = record { reach = omega arith; recomputed = omega arith }
+      go false m true = record { reach = omega arith; recomputed = omega arith }
+      go false m false = tt
 
-  module _ (n : ℕ) (m : List ℕ) (next : Progress) (e : (m, next) ≡ propagate_step a table ch i marks t) where
-    turn : propagate_from a table ch i (suc n) marks t
-        ≡ cond next.active (propagate_from a table ch (suc i) n m next) (m, next.recomputed)
+  module _ (n : ℕ) (m : List ℕ) where
+    turn : (next : ControlFlow ℕ Progress) → (m, next) ≡ propagate_step a table ch i marks t
+        → propagate_from a table ch i (suc n) marks t ≡ behind_step m (λ t'. propagate_from a table ch (suc i) n m t') next
     unfolding propagate_from
-    turn =
-        ap (λ (p : List ℕ × Progress). cond p.1.active (propagate_from a table ch (suc i) n p.0 p.1)
-        (p.0, p.1.recomputed)) (sym e)
+    turn next e =
+        ap (λ (p : List ℕ × ControlFlow ℕ Progress). behind_step p.0 (λ t'. propagate_from a table ch (suc i) n p.0 t') p.1) (sym e)
 
-    pub propagate-continues : next.active ≡ true → propagate_from a table ch i (suc n) marks t ≡ propagate_from a table ch (suc i) n m next
-    propagate-continues h = turn ∙ ap (λ (x : Bool). cond x (propagate_from a table ch (suc i) n m next) (m, next.recomputed)) h
+    pub propagate-continues : (next : Progress) → (m, Continue next) ≡ propagate_step a table ch i marks t
+        → propagate_from a table ch i (suc n) marks t ≡ propagate_from a table ch (suc i) n m next
+    propagate-continues next e = turn (Continue next) e
 
-    pub propagate-stops : next.active ≡ false → propagate_from a table ch i (suc n) marks t ≡ (m, next.recomputed)
-    propagate-stops h = turn ∙ ap (λ (x : Bool). cond x (propagate_from a table ch (suc i) n m next) (m, next.recomputed)) h
+    pub propagate-stops : (count : ℕ) → (m, Break count) ≡ propagate_step a table ch i marks t
+        → propagate_from a table ch i (suc n) marks t ≡ (m, count)
+    propagate-stops count e = turn (Break count) e

@@ -12,15 +12,15 @@ use nodes::marking::mark_node;
 use nodes::stack::Roots;
 use sets::state::SET_MOST;
 use sets::whole::{same_words, write_set};
+use std::ops::ControlFlow;
 use tables::head::set_size;
 
 // How far the loop is: how many roots on the stack, counted from the top, reach down to the one whose tree holds the
-// replacement (0 before the replacement's root is put there), how many nodes were recomputed, and whether work continues.
+// replacement (0 before the replacement's root is put there), and how many nodes were recomputed.
 #[derive(Drop)]
 pub struct Progress {
     pub reach: usize,
     pub recomputed: usize,
-    pub active: bool,
 }
 
 // Recomputes node i from the marks as they stand. The node's own words there are still those stored before the call: they are
@@ -48,7 +48,8 @@ fn recompute(
 }
 
 // Passes node i. A node that takes only roots above the one whose tree holds the replacement is no ancestor of it: its
-// words stay. The replacement's root and its ancestors are recomputed.
+// words stay. The replacement's root and its ancestors are recomputed; one that keeps its words ends the loop, with how many nodes
+// were recomputed.
 fn propagate_node(
     alphabet: &[u32],
     indexed: Indexed,
@@ -58,29 +59,29 @@ fn propagate_node(
     roots: &mut Roots,
     progress: Progress,
     memo: &mut Memo,
-) -> Progress
+) -> ControlFlow<usize, Progress>
     requires { Propagable alphabet.now indexed.table.now indexed.index.now nodes.now i marks.old roots.old progress memo.old }
     ensures marks { (marks.new, result)
         ≡ propagate_step alphabet.now indexed.entry.table.now nodes.now i marks.old progress }
     ensures maintained { Maintained alphabet.now indexed.entry.table.now nodes.now (i + 1) marks.new roots.new memo.new }
 {
     let children = node_arity(alphabet, nodes[i]);
-    let reach = progress.reach;
-    let recomputed = progress.recomputed;
-    if children < reach {
+    if children < progress.reach {
         roots.push(children, i);
-        return Progress {
-            reach: reach - children + 1,
-            recomputed,
-            active: true,
-        };
+        return ControlFlow::Continue(Progress {
+            reach: progress.reach - children + 1,
+            recomputed: progress.recomputed,
+        });
     }
     let changed = recompute(alphabet, indexed, nodes, i, marks, roots, memo);
-    Progress {
-        reach: 1,
-        recomputed: recomputed + 1,
-        active: changed,
+    let recomputed = progress.recomputed + 1;
+    if !changed {
+        return ControlFlow::Break(recomputed);
     }
+    ControlFlow::Continue(Progress {
+        reach: 1,
+        recomputed,
+    })
 }
 
 // Passes the nodes from `root` on, the replacement's root, until one that is recomputed keeps its words or the nodes end.
@@ -104,12 +105,11 @@ pub fn propagate(
     let mut progress = Progress {
         reach: 0,
         recomputed: count,
-        active: true,
     };
     for i in root..nodes.len() {
-        progress = propagate_node(alphabet, indexed, nodes, i, marks, roots, progress, memo);
-        if !progress.active {
-            return progress.recomputed;
+        match propagate_node(alphabet, indexed, nodes, i, marks, roots, progress, memo) {
+            ControlFlow::Continue(next) => progress = next,
+            ControlFlow::Break(recomputed) => return recomputed,
         }
     }
     progress.recomputed

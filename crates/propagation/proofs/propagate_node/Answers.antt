@@ -2,7 +2,7 @@
 use native.Mathlib.Omega.{arith}
 use Rattle.nodes.proofs.WorkableLaws.{node-kind, bounded-tree}
 use Rattle.nodes.proofs.NodeLaws.{node-pushable}
-use Rattle.propagation.proofs.PropagateNodeLaws.{node-passed, step-beside, step-ancestor}
+use Rattle.propagation.proofs.PropagateNodeLaws.{node-passed, step-beside, step-last, step-onward}
 use Rattle.propagation.proofs.propagate_node.Goals as goal
 
 pub node_arity-children-requires : goal.node_arity-children-requires
@@ -16,14 +16,20 @@ push-requires c =
     c.requires.at
     _ c.node_arity-children.ensures _ (omega arith)
 
-pub returns-then-children-reach : goal.returns-then-children-reach
-returns-then-children-reach c = record {
-  marks = step-beside _ _ _ _ _ _ _ c.node_arity-children.ensures c.if-children-reach.true;
+pub returns-then-children-progress : goal.returns-then-children-progress
+returns-then-children-progress c = record {
+  marks = step-beside _ _ _ _ _ _ _ c.node_arity-children.ensures c.if-children-progress.true;
   maintained = node-passed c.requires.at _ c.node_arity-children.ensures c.push.ensures.height c.push.ensures.nodes;
+}
+
+pub returns-then-not-changed : goal.returns-then-not-changed
+returns-then-not-changed c = record {
+  marks = step-last _ _ _ _ _ _ _ c.node_arity-children.ensures (omega arith) c.recompute-changed.ensures.marks c.if-not-changed.true;
+  maintained = c.recompute-changed.ensures.maintained;
 }
 
 pub returns : goal.returns
 returns c = record {
-  marks = step-ancestor _ _ _ _ _ _ _ c.node_arity-children.ensures (omega arith) _ c.recompute-changed.ensures.marks;
+  marks = step-onward _ _ _ _ _ _ _ c.node_arity-children.ensures (omega arith) c.recompute-changed.ensures.marks c.if-not-changed.false;
   maintained = c.recompute-changed.ensures.maintained;
 }
