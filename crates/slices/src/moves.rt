@@ -27,7 +27,8 @@ fn move_down(words: &mut [u32], from: usize, to: usize, count: usize)
     }
 }
 
-// Moves words within the slice; both places may overlap, and where they are the same there is nothing to do.
+// Moves words within the slice; both places may overlap, and where they are the same there is nothing to do. The places are numbers
+// beside the slice, which is the caller's: a struct of them would still need the slice in each contract.
 #[tactic(auto, using(crate::proofs::CopyLaws::same_place))]
 pub fn move_words(words: &mut [u32], from: usize, to: usize, count: usize)
     requires { Movable words.old from to count }
