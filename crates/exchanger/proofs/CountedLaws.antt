@@ -1,7 +1,7 @@
 -- The totals at the place of a call that is not refused but perhaps by 27, with the numbers that the code works out: how many nodes they
 -- count, and how they decide on 27.
 use mathlib.Core.Path.{◌≡◌, refl, ap, ap₂, ◌∙◌, sym}
-use mathlib.Core.Bool.{true, false}
+use mathlib.Core.Bool.{true, false, ◌||◌}
 use mathlib.Core.List.{List, ◌++◌, map}
 use Prim.Native.Nat.{ℕ, ◌+◌, ◌-◌, ◌*◌, ◌<◌, ◌≤◌}
 use native.Mathlib.Omega.{arith}
@@ -79,6 +79,17 @@ module _ (c : ExchangeCall) (ok : words_fault c ≡ 0) (s : ℕ) (qs : s ≡ sta
 
     pub added-decides : (t added : Totals) → added ≡ added_totals c → wrong_totals t fallen added ≡ wrong_totals t (old_totals c) (new_totals c)
     added-decides t added q = ap (wrong_totals t fallen) q ∙ place-decides t
+
+-- where the elements are in range, hits and cells decide
+pub figures-decide : (t f a : Totals) → out_of_range t.elements f.elements a.elements ≡ false
+    → (out_of_range t.hits f.hits a.hits || out_of_range t.cells f.cells a.cells) ≡ wrong_totals t f a
+unfolding wrong_totals
+figures-decide t f a e = rw e
+
+pub figures-fit : (t f a : Totals) → out_of_range t.elements f.elements a.elements ≡ false → out_of_range t.hits f.hits a.hits ≡ false
+    → out_of_range t.cells f.cells a.cells ≡ false → false ≡ wrong_totals t f a
+unfolding wrong_totals
+figures-fit t f a e h c = rw (e, h, c)
 
 -- ---- how much can be added there
 

@@ -1,14 +1,18 @@
 -- The answer, both slices and the record of a call: as they were where it is refused, by its words or by 27, and otherwise what the new
 -- tree and its outcomes give.
-use mathlib.Core.Path.{◌≡◌, refl, ◌∙◌, sym}
+use mathlib.Core.Path.{◌≡◌, refl, ap, ◌∙◌, sym}
 use mathlib.Core.Bool.{true, false}
 use mathlib.Core.List.{List}
+use Rattle.std.specs.Prelude.{Result, Ok, Err}
 use Prim.Native.Nat.{ℕ}
 use native.Mathlib.Omega.{arith}
 use lib.ListN.{take}
 use borrow.Author.Tests.{ne_eqb}
 use Rattle.words.specs.Answer.{Answer, refused, accepted}
 use Rattle.words.specs.Refusal.{refusal}
+use Rattle.words.specs.Decoded.{number_in, fault_in}
+use Rattle.words.specs.declared.refusal.Refusal.{Refusal}
+use Rattle.words.proofs.NumberLaws.{number_some}
 use Rattle.words.proofs.AnswerLaws.{answer-refused, answer-accepted, exit-refused, exit-accepted}
 use Rattle.automaton.specs.Table.{table_word_count, table_in}
 use Rattle.automaton.proofs.LengthWordLaws.{cut_in}
@@ -19,9 +23,9 @@ use Rattle.operations.specs.Exchange.{exchange_answer, exchange_chapter, exchang
 use Rattle.operations.proofs.AcceptedLaws.{call-fault, words-first, totals-last}
 
 module _ (c : ExchangeCall) where
-  pub call_passes : (r : ℕ) → r ≡ refusal (words_refusals c) → r ≡ 0 → words_fault c ≡ 0
+  pub call-passes : {r : Result ℕ Refusal} {start : ℕ} → fault_in r ≡ refusal (words_refusals c) → r ≡ Ok start → words_fault c ≡ 0
   unfolding words_fault
-  call_passes r q h = sym q ∙ h
+  call-passes q e = sym q ∙ ap fault_in e
 
   module _ (t : Totals) where
     -- the contract of Exchange
@@ -37,9 +41,11 @@ module _ (c : ExchangeCall) where
       (exit-refused q _ c.chapter h, (exit-refused q _ c.marks h, sym (rw (← q, ne_eqb r 0 h)))),
     )
 
-    pub call-refused : (r : ℕ) → r ≡ refusal (words_refusals c) → (r ≡ 0 → ⊥) → Exits (refused r) c.chapter c.marks t
+    pub call-refused : (d : Refusal) → number_in d ≡ refusal (words_refusals c) → Exits (refused (number_in d)) c.chapter c.marks t
     unfolding words_fault
-    call-refused r q h = refused-by r (q ∙ sym (words-first c t (λ z. h (q ∙ z)))) h
+    call-refused d q =
+        let some = number_some d in
+        refused-by (number_in d) (q ∙ sym (words-first c t (λ z. some (q ∙ z)))) some
 
     pub totals-refused : words_fault c ≡ 0 → wrong_totals t (old_totals c) (new_totals c) ≡ true → Exits (refused 27) c.chapter c.marks t
     totals-refused ok w = refused-by 27 (sym (totals-last c t ok w)) (λ z. omega arith)
@@ -56,22 +62,10 @@ module _ (c : ExchangeCall) where
           (y ∙ exit-accepted refl _ c.chapter none, (z ∙ exit-accepted refl _ c.marks none, u ∙ sym (rw none))),
         )
 
--- a call that its words refuse, by the table in its slice, for `grind`
-module _ (a slice ch ms : List ℕ) (n i : ℕ) (xs : List ℕ) (t : Totals) (k r : ℕ) (e : k ≡ table_word_count slice)
-    (q : r ≡ refusal (words_refusals (exchange_call a (take k slice) ch ms n i xs))) (h : r ≡ 0 → ⊥) where
-  refused-cut : Exits (exchange_call a (table_in slice) ch ms n i xs) t (refused r) ch ms t
-  refused-cut = rw (← cut_in slice e) (call-refused (exchange_call a (take k slice) ch ms n i xs) t r q h)
-
-  pub refused_answer : exchange_answer (exchange_call a (table_in slice) ch ms n i xs) t ≡ refused r
-  refused_answer = sym refused-cut.0
-
-  pub refused_chapter : exchange_chapter (exchange_call a (table_in slice) ch ms n i xs) t ≡ ch
-  refused_chapter = sym refused-cut.1.0
-
-  pub refused_marks : exchange_marks (exchange_call a (table_in slice) ch ms n i xs) t ≡ ms
-  refused_marks = sym refused-cut.1.1.0
-
-  pub refused_totals : exchange_totals (exchange_call a (table_in slice) ch ms n i xs) t ≡ t
-  refused_totals = sym refused-cut.1.1.1
-
-pub ruleset refused_call = (refused_answer, refused_chapter, refused_marks, refused_totals)
+-- a call that its words refuse, by the table in its slice
+module _ (a slice ch ms : List ℕ) (n i : ℕ) (xs : List ℕ) (t : Totals) where
+  pub refused-cut : {k : ℕ} {r : Result ℕ Refusal} {d : Refusal} → k ≡ table_word_count slice
+      → fault_in r ≡ refusal (words_refusals (exchange_call a (take k slice) ch ms n i xs)) → r ≡ Err d
+      → Exits (exchange_call a (table_in slice) ch ms n i xs) t (refused (number_in d)) ch ms t
+  refused-cut {k} {d = d} e q h =
+      rw (← cut_in slice e) (call-refused (exchange_call a (take k slice) ch ms n i xs) t d (sym (ap fault_in h) ∙ q))

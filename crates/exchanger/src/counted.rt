@@ -1,26 +1,28 @@
 // A call that is refused, if at all, by 27 (document 02, U10): the totals at the place are counted before and behind the exchange, and
 // whether the record may be moved is known before any lent word changes.
-ghost use Rattle.std.specs.Prelude.{◌≡◌};
+ghost use Rattle.std.specs.Prelude.{◌≡◌, ◌||◌};
 ghost use Rattle.operations.specs.ExchangeCall.{exchange_call};
 ghost use Rattle.operations.specs.Totals.{out_of_range, wrong_totals};
 ghost use Rattle.operations.specs.Exchange.{old_totals, new_totals, exchange_answer, exchange_chapter, exchange_marks, exchange_totals};
 ghost use Rattle.totals.specs.TotalsIn.{totals_in};
 ghost use Rattle.totals.specs.Place.{fallen_totals, added_totals};
 ghost use Rattle.totals.specs.Replaceable.{Replaceable};
-ghost use Rattle.exchanger.specs.ExchangeAnswer.{answer_in_exchanged};
+ghost use Rattle.exchanger.specs.ExchangeAnswer.{answer_in_counted, totals_behind};
 
+use super::ExchangeCounted;
 use super::subtree::replace_subtree;
-use super::{ExchangeCounted, Exchanged};
 use forecast::forecast_totals;
 use tables::head::set_size;
 use totals::Totals;
 use totals::listed::{list_ancestors, listed_totals, move_numbers};
 use totals::moves::{has_room, is_out_of_range, moved_totals};
 use words::limits::HEIGHT_MOST;
+use words::refusal::Refusal;
 
-// Whether the hits come out of range, where `fallen` of them are at the place and `many` nodes will be. If the record has room for a hit
-// at each, it need not be known how many there will be.
-fn wrong_hits(
+// Whether hits or cells come out of range, where `fallen` are the totals at the place: those that will be there are worked out
+// beforehand. What that takes of the stack stays out of other calls.
+#[inline(never)]
+fn wrong_figures(
     alphabet: &[u32],
     table: &[u32],
     chapter: &[u32],
@@ -29,22 +31,16 @@ fn wrong_hits(
     element: usize,
     start: usize,
     replacement: &[u32],
-    many: usize,
-    before: u32,
-    fallen: u32,
+    before: Totals,
+    fallen: Totals,
 ) -> bool
-    requires replaceable { Replaceable (exchange_call alphabet.now table.now chapter.now marks.now count element replacement.now) start }
-    requires many_value { many ≡ (added_totals (exchange_call alphabet.now table.now chapter.now marks.now count element replacement.now)).elements }
+    requires { Replaceable (exchange_call alphabet.now table.now chapter.now marks.now count element replacement.now) start }
     ensures { result
-        ≡ out_of_range before fallen
-        (added_totals
-        (exchange_call alphabet.now table.now chapter.now marks.now count element
-        replacement.now)
-        ).hits }
+        ≡ (out_of_range (totals_in before).hits (totals_in fallen).hits
+        (added_totals (exchange_call alphabet.now table.now chapter.now marks.now count element replacement.now)).hits
+        || out_of_range (totals_in before).cells (totals_in fallen).cells
+        (added_totals (exchange_call alphabet.now table.now chapter.now marks.now count element replacement.now)).cells) }
 {
-    if has_room(before, fallen, many) {
-        return false;
-    }
     let added = forecast_totals(
         alphabet,
         table,
@@ -55,52 +51,13 @@ fn wrong_hits(
         start,
         replacement,
     );
-    is_out_of_range(before, fallen, added.hits)
-}
-
-// The same of the cells, of which each word of the marks has room for 32.
-fn wrong_cells(
-    alphabet: &[u32],
-    table: &[u32],
-    chapter: &[u32],
-    count: usize,
-    marks: &[u32],
-    element: usize,
-    start: usize,
-    replacement: &[u32],
-    many: usize,
-    before: u32,
-    fallen: u32,
-) -> bool
-    requires replaceable { Replaceable (exchange_call alphabet.now table.now chapter.now marks.now count element replacement.now) start }
-    requires many_value { many ≡ (added_totals (exchange_call alphabet.now table.now chapter.now marks.now count element replacement.now)).elements }
-    ensures { result
-        ≡ out_of_range before fallen
-        (added_totals
-        (exchange_call alphabet.now table.now chapter.now marks.now count element
-        replacement.now)
-        ).cells }
-{
-    let size = set_size(table);
-    if has_room(before, fallen, many * size * 32) {
-        return false;
-    }
-    let added = forecast_totals(
-        alphabet,
-        table,
-        chapter,
-        count,
-        marks,
-        element,
-        start,
-        replacement,
-    );
-    is_out_of_range(before, fallen, added.cells)
+    is_out_of_range(before.hits, fallen.hits, added.hits)
+        || is_out_of_range(before.cells, fallen.cells, added.cells)
 }
 
 // Whether 27 applies, where `fallen` are the totals at the place. As many nodes will be there as the replacement has, and the ancestors.
-// Hits and cells are asked for in functions of their own, each of which can have the totals worked out beforehand: with two callers,
-// what that takes of the stack stays out of other calls.
+// If the record has room for a hit at each and for a cell at each of the 32 bits of each word of their marks, it need not be known how
+// many there will be.
 fn wrong_totals(
     alphabet: &[u32],
     table: &[u32],
@@ -127,22 +84,14 @@ fn wrong_totals(
     if is_out_of_range(before.elements, fallen.elements, many as u32) {
         return true;
     }
-    if wrong_hits(
-        alphabet,
-        table,
-        chapter,
-        count,
-        marks,
-        element,
-        start,
-        replacement,
-        many,
-        before.hits,
-        fallen.hits,
-    ) {
-        return true;
+    let size = set_size(table);
+    let bits = many * size * 32;
+    let hits_fit = has_room(before.hits, fallen.hits, many);
+    let cells_fit = has_room(before.cells, fallen.cells, bits);
+    if hits_fit && cells_fit {
+        return false;
     }
-    wrong_cells(
+    wrong_figures(
         alphabet,
         table,
         chapter,
@@ -151,9 +100,8 @@ fn wrong_totals(
         element,
         start,
         replacement,
-        many,
-        before.cells,
-        fallen.cells,
+        before,
+        fallen,
     )
 }
 
@@ -169,9 +117,9 @@ pub(crate) fn replace_counted(
     start: usize,
     replacement: &[u32],
     before: Totals,
-) -> ExchangeCounted
+) -> Result<ExchangeCounted, Refusal>
     requires { Replaceable (exchange_call alphabet.now table.now chapter.old marks.old count element replacement.now) start }
-    ensures answer { answer_in_exchanged result.exchanged
+    ensures answer { answer_in_counted result
         ≡ exchange_answer
         (exchange_call alphabet.now table.now chapter.old marks.old count element
         replacement.now)
@@ -186,7 +134,7 @@ pub(crate) fn replace_counted(
         (exchange_call alphabet.now table.now chapter.old marks.old count element
         replacement.now)
         (totals_in before) }
-    ensures totals { totals_in result.totals
+    ensures totals { totals_behind result (totals_in before)
         ≡ exchange_totals
         (exchange_call alphabet.now table.now chapter.old marks.old count element
         replacement.now)
@@ -207,12 +155,9 @@ pub(crate) fn replace_counted(
         before,
         fallen,
     ) {
-        return ExchangeCounted {
-            exchanged: Exchanged::Refused(27),
-            totals: before,
-        };
+        return Err(Refusal::WrongTotals);
     }
-    let exchanged = replace_subtree(
+    let replaced = replace_subtree(
         alphabet,
         table,
         chapter,
@@ -225,8 +170,8 @@ pub(crate) fn replace_counted(
     let behind = start + replacement.len();
     move_numbers(&mut above[..many], element + 1, behind);
     let added = listed_totals(table, marks, start, behind, &above[..many]);
-    ExchangeCounted {
-        exchanged,
+    Ok(ExchangeCounted {
+        replaced,
         totals: moved_totals(before, fallen, added),
-    }
+    })
 }

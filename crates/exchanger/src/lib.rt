@@ -6,34 +6,34 @@ ghost use Rattle.automaton.specs.Table.{table_in};
 ghost use Rattle.operations.specs.ExchangeCall.{exchange_call};
 ghost use Rattle.operations.specs.Exchange.{exchange_answer, exchange_chapter, exchange_marks, exchange_totals};
 ghost use Rattle.totals.specs.TotalsIn.{totals_in};
-ghost use Rattle.exchanger.specs.ExchangeAnswer.{answer_in_exchanged};
+ghost use Rattle.exchanger.specs.ExchangeAnswer.{answer_in_counted, totals_behind, answer_in_exchanged};
 
 use counted::replace_counted;
 use refusals::exchange::exchange_fault;
 use tables::length::table_word_count;
 use totals::Totals;
+use words::refusal::Refusal;
 
 mod counted;
 mod subtree;
 mod tail;
 
-// The answer: the new element count and the number of nodes worked out, or the documents' number of a refusal.
-#[derive(Drop)]
-pub enum Exchanged {
-    Replaced(usize, usize),
-    Refused(u32),
+// What an accepted call answers: the new element count and the number of nodes worked out.
+#[derive(Clone, Copy)]
+pub struct Replaced {
+    pub elements: usize,
+    pub worked_out: usize,
 }
 
-// The answer, and the chapter's record of totals as Exchange leaves it.
-#[derive(Drop)]
+// The same, and the chapter's record of totals as Exchange leaves it.
+#[derive(Clone, Copy)]
 pub struct ExchangeCounted {
-    pub exchanged: Exchanged,
+    pub replaced: Replaced,
     pub totals: Totals,
 }
 
 // Document 01's Exchange with the record by value, by the table in its slice: the new element count and the number worked out, or a
 // refusal. What follows the table is not read.
-#[tactic(auto, using(crate::proofs::ExchangeAnswerLaws::refused_call))]
 pub fn exchange_counted(
     alphabet: &[u32],
     table_slice: &[u32],
@@ -43,8 +43,8 @@ pub fn exchange_counted(
     element: usize,
     replacement: &[u32],
     before: Totals,
-) -> ExchangeCounted
-    ensures answer { answer_in_exchanged result.exchanged
+) -> Result<ExchangeCounted, Refusal>
+    ensures answer { answer_in_counted result
         ≡ exchange_answer
         (exchange_call alphabet.now (table_in table_slice.now) chapter.old marks.old
         count element replacement.now)
@@ -59,7 +59,7 @@ pub fn exchange_counted(
         (exchange_call alphabet.now (table_in table_slice.now) chapter.old marks.old
         count element replacement.now)
         (totals_in before) }
-    ensures totals { totals_in result.totals
+    ensures totals { totals_behind result (totals_in before)
         ≡ exchange_totals
         (exchange_call alphabet.now (table_in table_slice.now) chapter.old marks.old
         count element replacement.now)
@@ -69,13 +69,7 @@ pub fn exchange_counted(
     let table = &table_slice[..words];
     let room = marks.len();
     let judged = exchange_fault(alphabet, table, chapter, count, room, element, replacement);
-    if judged.fault != 0 {
-        return ExchangeCounted {
-            exchanged: Exchanged::Refused(judged.fault),
-            totals: before,
-        };
-    }
-    let start = judged.start;
+    let start = judged?;
     replace_counted(
         alphabet,
         table,
@@ -100,7 +94,7 @@ pub fn exchange(
     element: usize,
     replacement: &[u32],
     totals: &mut Totals,
-) -> Exchanged
+) -> Result<Replaced, Refusal>
     ensures answer { answer_in_exchanged result
         ≡ exchange_answer
         (exchange_call alphabet.now (table_in table_slice.now) chapter.old marks.old
@@ -131,7 +125,7 @@ pub fn exchange(
         element,
         replacement,
         *totals,
-    );
+    )?;
     *totals = counted.totals;
-    counted.exchanged
+    Ok(counted.replaced)
 }

@@ -1,13 +1,11 @@
 // An accepted Exchange: an element's subtree gives way to a replacement. The words and the marks behind it move, the
 // replacement's nodes are worked out, and then ancestors, nearest first; no other node is.
-ghost use Rattle.std.specs.Prelude.{◌≡◌};
-ghost use Rattle.words.specs.Answer.{accepted};
+ghost use Rattle.std.specs.Prelude.{◌≡◌, [], ◌∷◌};
 ghost use Rattle.operations.specs.ExchangeCall.{exchange_call};
 ghost use Rattle.operations.specs.Exchange.{exchange_values, new_chapter, new_marks};
 ghost use Rattle.totals.specs.Replaceable.{Replaceable};
-ghost use Rattle.exchanger.specs.ExchangeAnswer.{answer_in_exchanged};
 
-use super::Exchanged;
+use super::Replaced;
 use super::tail::move_tail;
 use slices::moves::copy_words;
 use tables::head::set_size;
@@ -24,13 +22,12 @@ pub(crate) fn replace_subtree(
     element: usize,
     start: usize,
     replacement: &[u32],
-) -> Exchanged
+) -> Replaced
     requires { Replaceable (exchange_call alphabet.now table.now chapter.old marks.old count element replacement.now) start }
-    ensures answer { answer_in_exchanged result
-        ≡ accepted
-        (exchange_values
+    ensures answer { result.elements ∷ result.worked_out ∷ []
+        ≡ exchange_values
         (exchange_call alphabet.now table.now chapter.old marks.old count element
-        replacement.now)) }
+        replacement.now) }
     ensures chapter { chapter.new
         ≡ new_chapter
         (exchange_call alphabet.now table.now chapter.old marks.old count element
@@ -48,5 +45,8 @@ pub(crate) fn replace_subtree(
     copy_words(chapter, start, replacement);
     move_tail(marks, count * size, element * size, root * size);
     let recomputed = update_marks(alphabet, table, &chapter[..total], start, root, marks);
-    Exchanged::Replaced(total, recomputed)
+    Replaced {
+        elements: total,
+        worked_out: recomputed,
+    }
 }

@@ -4,9 +4,11 @@ use mathlib.Core.Path.{sym}
 use native.Mathlib.Omega.{arith}
 use lib.ListN.{take}
 use lib.Seq.{length-take-le}
+use Rattle.std.proofs.lemmas.Result.{IfOk-at_ok, err_from_is_err_and}
 use Rattle.automaton.proofs.LengthWordLaws.{table_word_count-inside, cut_in}
 use Rattle.operations.specs.ExchangeCall.{exchange_call}
-use Rattle.exchanger.proofs.ExchangeAnswerLaws.{call_passes}
+use Rattle.totals.specs.TotalsIn.{totals_in}
+use Rattle.exchanger.proofs.ExchangeAnswerLaws.{call-passes, refused-cut}
 use Rattle.exchanger.proofs.exchange_counted.Goals as goal
 
 pub slice_bounds-table-end : goal.slice_bounds-table-end
@@ -14,28 +16,34 @@ slice_bounds-table-end c =
     let inside = table_word_count-inside c.args.table_slice.now in
     sym (length-take-le _ _ (omega (arith, c.table_word_count-words.ensures)))
 
+pub returns-in_err-start : goal.returns-in_err-start
+returns-in_err-start c =
+    let all =
+    refused-cut c.args.alphabet.now c.args.table_slice.now c.args.chapter.now c.args.marks.now c.args.count c.args.element
+    c.args.replacement.now (totals_in c.args.before) c.table_word_count-words.ensures c.exchange_fault-judged.ensures.fault
+    c.in_err-start.was in
+    let p = err_from_is_err_and c.from_residual.result c.from_residual.ensures.1 in
+    record {
+      answer = rw (p.1, p.2) all.0;
+      chapter = all.1.0;
+      marks = all.1.1.0;
+      totals = rw p.1 all.1.1.1;
+    }
+
 pub replace_counted-requires : goal.replace_counted-requires
 replace_counted-requires c =
     let q =
     exchange_call c.args.alphabet.now (take c.table_word_count-words.result c.args.table_slice.now) c.args.chapter.now
     c.args.marks.now c.args.count c.args.element c.args.replacement.now in
     record {
-      passes = call_passes q _ c.exchange_fault-judged.ensures.fault (omega arith);
-      begins = c.exchange_fault-judged.ensures.begins (omega arith);
+      passes = call-passes q c.exchange_fault-judged.ensures.fault c.in_ok-start.was;
+      begins = IfOk-at_ok _ c.in_ok-start.was c.exchange_fault-judged.ensures.begins;
     }
 
-pub returns-clause-answer : goal.returns-clause-answer
-returns-clause-answer c =
-    rw (← cut_in _ c.table_word_count-words.ensures) c.replace_counted.ensures.answer
-
-pub returns-clause-chapter : goal.returns-clause-chapter
-returns-clause-chapter c =
-    rw (← cut_in _ c.table_word_count-words.ensures) c.replace_counted.ensures.chapter
-
-pub returns-clause-marks : goal.returns-clause-marks
-returns-clause-marks c =
-    rw (← cut_in _ c.table_word_count-words.ensures) c.replace_counted.ensures.marks
-
-pub returns-clause-totals : goal.returns-clause-totals
-returns-clause-totals c =
-    rw (← cut_in _ c.table_word_count-words.ensures) c.replace_counted.ensures.totals
+pub returns : goal.returns
+returns c = record {
+  answer = rw (← cut_in _ c.table_word_count-words.ensures) c.replace_counted.ensures.answer;
+  chapter = rw (← cut_in _ c.table_word_count-words.ensures) c.replace_counted.ensures.chapter;
+  marks = rw (← cut_in _ c.table_word_count-words.ensures) c.replace_counted.ensures.marks;
+  totals = rw (← cut_in _ c.table_word_count-words.ensures) c.replace_counted.ensures.totals;
+}

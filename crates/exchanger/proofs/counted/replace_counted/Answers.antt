@@ -1,10 +1,11 @@
 -- `exchanger::counted::replace_counted` meets its contract: where 27 applies nothing has changed; otherwise the exchange is made, and the
 -- record is moved by what the totals at the place were and are.
-use mathlib.Core.Path.{◌≡◌, ap₂, ◌∙◌, sym}
+use mathlib.Core.Path.{◌≡◌, ap, ap₂, ◌∙◌, sym}
 use Prim.Native.Nat.{◌≤◌}
 use native.Mathlib.Omega.{arith}
 use lib.ListN.{length}
 use lib.Seq.{length-take-le, take_at}
+use Rattle.words.specs.Answer.{accepted}
 use Rattle.operations.specs.ExchangeCall.{exchange_call}
 use Rattle.operations.specs.Totals.{moved_totals}
 use Rattle.totals.specs.TotalsIn.{totals_in}
@@ -102,7 +103,7 @@ listed_totals-added-requires c =
     let moved-long : length c.move_numbers.new.list ≡ c.list_ancestors-many.result =
     c.move_numbers.auto.list ∙ length-take-le _ _ room in
     added-countable q c.requires.passes _ (listed-words _ _ _ _ c.list_ancestors-many.ensures.answer c.list_ancestors-many.ensures.list) _ c.requires.begins _
-    (take_at c.move_numbers.new.list _ _ moved-long ∙ c.move_numbers.ensures) _ c.replace_subtree-exchanged.auto.marks
+    (take_at c.move_numbers.new.list _ _ moved-long ∙ c.move_numbers.ensures) _ c.replace_subtree-replaced.auto.marks
 
 pub moved_totals-requires : goal.moved_totals-requires
 moved_totals-requires c =
@@ -120,7 +121,7 @@ moved_totals-requires c =
     c.listed_totals-fallen.ensures in
     let added-is : totals_in c.listed_totals-added.result ≡ added_totals q =
     added-listed q c.requires.passes _ (listed-words _ _ _ _ c.list_ancestors-many.ensures.answer c.list_ancestors-many.ensures.list) _ c.requires.begins _
-    (take_at c.move_numbers.new.list _ _ moved-long ∙ c.move_numbers.ensures) _ c.replace_subtree-exchanged.ensures.marks _ c.listed_totals-added.ensures in
+    (take_at c.move_numbers.new.list _ _ moved-long ∙ c.move_numbers.ensures) _ c.replace_subtree-replaced.ensures.marks _ c.listed_totals-added.ensures in
     added-decides q c.requires.passes c.args.start c.requires.begins (totals_in c.listed_totals-fallen.result) fallen-is
     (totals_in c.args.before) (totals_in c.listed_totals-added.result) added-is
     ∙ rw (← c.wrong_totals.ensures) c.if-wrong_totals.false
@@ -141,10 +142,10 @@ returns c =
     c.listed_totals-fallen.ensures in
     let added-is : totals_in c.listed_totals-added.result ≡ added_totals q =
     added-listed q c.requires.passes _ (listed-words _ _ _ _ c.list_ancestors-many.ensures.answer c.list_ancestors-many.ensures.list) _ c.requires.begins _
-    (take_at c.move_numbers.new.list _ _ moved-long ∙ c.move_numbers.ensures) _ c.replace_subtree-exchanged.ensures.marks _ c.listed_totals-added.ensures in
+    (take_at c.move_numbers.new.list _ _ moved-long ∙ c.move_numbers.ensures) _ c.replace_subtree-replaced.ensures.marks _ c.listed_totals-added.ensures in
     let t = totals_in c.args.before in
     let all =
     call-replaced q t c.requires.passes (rw (← c.wrong_totals.ensures) c.if-wrong_totals.false) _ _ _ _
-    c.replace_subtree-exchanged.ensures.answer c.replace_subtree-exchanged.ensures.chapter c.replace_subtree-exchanged.ensures.marks
+    (ap accepted c.replace_subtree-replaced.ensures.answer) c.replace_subtree-replaced.ensures.chapter c.replace_subtree-replaced.ensures.marks
     (c.moved_totals.ensures ∙ ap₂ (moved_totals t) fallen-is added-is ∙ sym (same-moved q c.requires.passes t)) in
     record { answer = all.0; chapter = all.1.0; marks = all.1.1.0; totals = all.1.1.1 }

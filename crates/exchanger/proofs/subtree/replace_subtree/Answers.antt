@@ -4,7 +4,6 @@ use mathlib.Core.Path.{ap₂}
 use mathlib.Core.List.{[], ◌∷◌}
 use Prim.Native.Nat.{ℕ}
 use native.Mathlib.Omega.{arith}
-use Rattle.words.specs.Answer.{accepted}
 use Rattle.operations.specs.ExchangeCall.{exchange_call}
 use Rattle.exchanger.proofs.CallNumberLaws.{call-numbers, chapter-movable, marks-movable}
 use Rattle.exchanger.proofs.ReplaceLaws.{chapter-exit, chapter-count, call-updatable, marks-exit}
@@ -142,7 +141,7 @@ returns c =
     _ _ c.move_tail.ensures c.copy_words.ensures _ c.move_tail-2.ensures c.move_tail-2.auto.words
     _ _ c.update_marks-recomputed.ensures in
     record {
-      answer = ap₂ (λ (i j : ℕ). accepted (i ∷ j ∷ [])) f.total left.count-is;
+      answer = ap₂ (λ (i j : ℕ). i ∷ j ∷ []) f.total left.count-is;
       chapter = chapter-exit q c.requires.passes c.args.start c.requires.begins c.set_size-size.result c.set_size-size.ensures _ _ c.move_tail.ensures c.copy_words.ensures;
       marks = left.words;
     }
