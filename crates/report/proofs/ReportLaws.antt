@@ -16,14 +16,6 @@ use Rattle.operations.specs.Listing.{matches_of, list_fault, list_answer, list_e
 use Rattle.operations.proofs.AcceptedLaws.{list-accepted}
 use Rattle.operations.proofs.CompileLaws.{compile-result}
 use Rattle.operations.proofs.MatchLaws.{matches_of-few}
-use Rattle.matcher.specs.declared.Ran.{Ran}
-use Rattle.matcher.specs.declared.Ran.TheVariants.{Marked, Refused as Ran-as-Refused}
-use Rattle.matcher.specs.declared.Listed.{Listed}
-use Rattle.matcher.specs.declared.Listed.TheVariants.{Matches, Refused as Listed-as-Refused}
-use Rattle.matcher.specs.MatcherAnswers.{answer_in_ran, answer_in_listed}
-use Rattle.compiler.specs.declared.Compiled.{Compiled}
-use Rattle.compiler.specs.declared.Compiled.TheVariants.{Table, Refused as Compiled-as-Refused}
-use Rattle.compiler.specs.CompileAnswer.{answer_in_compiled}
 use Rattle.encoding.specs.ByteWriting.{BytesWritten}
 use Rattle.encoding.proofs.ByteWritingLaws.{bytes-written-same, bytes-written-whole}
 use Rattle.lines.specs.Line.{refused_line, head_line, hit_lines}
@@ -56,6 +48,12 @@ module _ (complete : Bool) (a e ch : List ℕ) {out out' : List ℕ} {r : ℕ} (
       whole (output_of complete a e ch) out out' r (output-short complete a e ch) fits
       (bytes-written-same w (sym (complete-output complete a e ch t)))
 
+  -- a refusal is told, where nothing was written before
+  pub refused-whole : {before : List ℕ} (n : ℕ) → complete ≡ true → (marklist_output a e ch ≡ refused_line n) × (before ≡ out)
+      → BytesWritten 0 (refused_line n) before out' r
+      → (r ≡ length (output_of complete a e ch)) × (out' ≡ output_of complete a e ch ++ drop r out)
+  refused-whole n t told w = complete-whole t (bytes-written-same (rw told.1 at w) (sym told.0))
+
   pub early-whole : complete ≡ false → BytesWritten 0 (refused_line 0) out out' r
       → (r ≡ length (output_of complete a e ch)) × (out' ≡ output_of complete a e ch ++ drop r out)
   early-whole t w =
@@ -64,18 +62,14 @@ module _ (complete : Bool) (a e ch : List ℕ) {out out' : List ℕ} {r : ℕ} (
 
 -- ---- Compile
 
-module _ (a e ch : List ℕ) where
-  pub refused-compiled : {n x : ℕ} {out out' : List ℕ} (r : Compiled) → r ≡ Compiled-as-Refused n
-      → answer_in_compiled r ≡ compile_answer a e (zeros table_most)
-      → BytesWritten 0 (refused_line n) out out' x → BytesWritten 0 (marklist_output a e ch) out out' x
-  refused-compiled {n} r q h w =
-      let g : refused n ≡ compile_answer a e (zeros table_most) = rw q at h in
-      bytes-written-same w (sym (compile-refusal a e ch (zeros table_most) n (many table_most) g))
+module _ (a e : List ℕ) where
+  pub refused-compiled : (ch : List ℕ) (n : ℕ) → refused n ≡ compile_answer a e (zeros table_most) → marklist_output a e ch ≡ refused_line n
+  refused-compiled ch n h = compile-refusal a e ch (zeros table_most) n (many table_most) h
 
-module _ (a e slice : List ℕ) {table : List ℕ} {k : ℕ} (r : Compiled) (told : r ≡ Table k)
-    (h : answer_in_compiled r ≡ compile_answer a e slice) (exit : table ≡ compile_exit a e slice) where
-  pub chapter-reportable : length slice ≡ table_most → ChapterReportable a e table
-  chapter-reportable long = record { slice = slice; long = long; words = k; answer = rw told at h; same = exit }
+  pub chapter-reportable : {table : List ℕ} {k : ℕ} → accepted (k ∷ []) ≡ compile_answer a e (zeros table_most)
+      → table ≡ compile_exit a e (zeros table_most) → ChapterReportable a e table
+  chapter-reportable {k = k} h exit =
+      record { slice = zeros table_most; long = many table_most; words = k; answer = h; same = exit }
 
 -- the table in the slice is the compiled one, and the slice begins with its head
 module _ {a e table : List ℕ} (t : ChapterReportable a e table) where
@@ -96,32 +90,22 @@ pub over_output : (a e ch slice : List ℕ) (words : ℕ) → chapter_most < len
 over_output a e ch slice words h answer long = chapter-over a e ch slice words long answer h
 
 module _ {a e table : List ℕ} (t : ChapterReportable a e table) (ch : List ℕ) where
-  pub refused_over : {x : ℕ} {out out' : List ℕ} → chapter_most < length ch → BytesWritten 0 (refused_line 9) out out' x
-      → BytesWritten 0 (marklist_output a e ch) out out' x
-  refused_over h w = bytes-written-same w (sym (over_output a e ch t.slice t.words h t.answer t.long))
-
   module _ (few : length ch ≤ chapter_most) where
-    pub refused-ran : {n x : ℕ} {out out' : List ℕ} (r : Ran) → r ≡ Ran-as-Refused n
-        → answer_in_ran r ≡ run_answer a (table_in table) ch (zeros marks_length)
-        → BytesWritten 0 (refused_line n) out out' x → BytesWritten 0 (marklist_output a e ch) out out' x
-    refused-ran {n} r q h w =
-        let g : refused n ≡ run_answer a (table_in table) ch (zeros marks_length) = rw q at h in
-        bytes-written-same w
-        (sym
-        (run-refusal a e ch t.slice t.words t.long t.answer few (zeros marks_length) n (many marks_length)
-        (g ∙ ap (λ (l : List ℕ). run_answer a l ch (zeros marks_length)) (table-in t))))
+    pub refused-ran : (n : ℕ) → refused n ≡ run_answer a (table_in table) ch (zeros marks_length) → marklist_output a e ch ≡ refused_line n
+    refused-ran n h =
+        run-refusal a e ch t.slice t.words t.long t.answer few (zeros marks_length) n (many marks_length)
+        (h ∙ ap (λ (l : List ℕ). run_answer a l ch (zeros marks_length)) (table-in t))
 
-    pub marked : {n cells : ℕ} {marks : List ℕ} (r : Ran) → r ≡ Marked n cells
-        → answer_in_ran r ≡ run_answer a (table_in table) ch (zeros marks_length)
+    pub marked : {n cells : ℕ} {marks : List ℕ} → accepted (n ∷ cells ∷ []) ≡ run_answer a (table_in table) ch (zeros marks_length)
         → marks ≡ run_exit a (table_in table) ch (zeros marks_length) → HitsReportable a e table ch marks
-    marked {n} {cells} r q h exit = record {
+    marked {n} {cells} h exit = record {
       chapter = t;
       few = few;
       slice = zeros marks_length;
       long = many marks_length;
       nodes = n;
       cells = cells;
-      answer = rw q at h;
+      answer = h;
       same = exit;
     }
 
@@ -132,28 +116,26 @@ record ListedFew (n k : ℕ) : Type 0 where
   elements : n ≤ chapter_most
   hits : k ≤ chapter_most
 
-listed-few : (a table : List ℕ) (n : ℕ) (marks : List ℕ) {k : ℕ} (q : Listed) → q ≡ Matches k
-    → answer_in_listed q ≡ list_answer a table n marks (zeros chapter_most) → ListedFew n k
-unfolding list_answer
-listed-few a table n marks {k} q e h =
-    let g : accepted (k ∷ []) ≡ list_answer a table n marks (zeros chapter_most) = rw e at h in
-    let v =
-    accepted-values (list_fault a table n (length marks) (length (zeros chapter_most))) (length (matches_of table n marks) ∷ [])
-    (k ∷ []) (sym g) in
-    let fits = (list-accepted a table n (length marks) (length (zeros chapter_most)) v.0).list in
-    let long = many chapter_most in
-    let few = matches_of-few table marks n in
-    let count : length (matches_of table n marks) ≡ k = head-eq_of_cons-eq v.1 in
-    record { elements = omega arith; hits = omega arith }
+module _ (a table : List ℕ) (n : ℕ) (marks : List ℕ) {k : ℕ}
+    (h : accepted (k ∷ []) ≡ list_answer a table n marks (zeros chapter_most)) where
+  listed-few : ListedFew n k
+  unfolding list_answer
+  listed-few =
+      let v =
+      accepted-values (list_fault a table n (length marks) (length (zeros chapter_most))) (length (matches_of table n marks) ∷ [])
+      (k ∷ []) (sym h) in
+      let fits = (list-accepted a table n (length marks) (length (zeros chapter_most)) v.0).list in
+      let long = many chapter_most in
+      let few = matches_of-few table marks n in
+      let count : length (matches_of table n marks) ≡ k = head-eq_of_cons-eq v.1 in
+      record { elements = omega arith; hits = omega arith }
 
-module _ (a table : List ℕ) (n : ℕ) (marks : List ℕ) {k : ℕ} (q : Listed) (e : q ≡ Matches k)
-    (h : answer_in_listed q ≡ list_answer a table n marks (zeros chapter_most)) where
   pub hits-most : k ≤ chapter_most
-  hits-most = (listed-few a table n marks q e h).hits
+  hits-most = listed-few.hits
 
   -- so a span can be asked of its elements
   pub elements-few : n ≤ nodes_most
-  elements-few = omega (arith, (listed-few a table n marks q e h).elements)
+  elements-few = omega (arith, listed-few.elements)
 
 module _ {a e table ch marks : List ℕ} (m : HitsReportable a e table ch marks) where
   -- the table is the compiled one
@@ -173,23 +155,20 @@ module _ {a e table ch marks : List ℕ} (m : HitsReportable a e table ch marks)
       ≡ list_answer a (compiled_table a e) (length ch) left (zeros chapter_most)
   same_answer = ap₂ (λ (l ms : List ℕ). list_answer a l (length ch) ms (zeros chapter_most)) (table-in t) marks-are
 
-  pub never-refused : {f : ℕ} (q : Listed) → q ≡ Listed-as-Refused f
-      → answer_in_listed q ≡ list_answer a (table_in table) (length ch) marks (zeros chapter_most) → ⊥
-  never-refused {f} q told h =
-      let g : refused f ≡ list_answer a (table_in table) (length ch) marks (zeros chapter_most) = rw told at h in
+  pub never-refused : {f : ℕ} → refused f ≡ list_answer a (table_in table) (length ch) marks (zeros chapter_most) → ⊥
+  never-refused {f} h =
       list-not-refused a e ch t.slice t.words t.long t.answer m.few
       m.slice (zeros chapter_most) m.long (many chapter_most)
       m.nodes m.cells runs f
-      (g ∙ same_answer)
+      (h ∙ same_answer)
 
-  pub lines-written : {hits states x : ℕ} {out out' list : List ℕ} (q : Listed) → q ≡ Matches hits
-      → answer_in_listed q ≡ list_answer a (table_in table) (length ch) marks (zeros chapter_most)
+  pub lines-written : {hits states x : ℕ} {out out' list : List ℕ}
+      → accepted (hits ∷ []) ≡ list_answer a (table_in table) (length ch) marks (zeros chapter_most)
       → list ≡ list_exit a (table_in table) (length ch) marks (zeros chapter_most)
       → states ≡ (automaton_of table).states
       → BytesWritten 0 (head_line (length ch) states (length (take hits list)) ++ hit_lines a ch (take hits list)) out out' x
       → BytesWritten 0 (marklist_output a e ch) out out' x
-  lines-written {hits} {states} {list = list} q told h wrote s w =
-      let g : accepted (hits ∷ []) ≡ list_answer a (table_in table) (length ch) marks (zeros chapter_most) = rw told at h in
+  lines-written {hits} {states} {list = list} h wrote s w =
       let l : list ≡ list_exit a (compiled_table a e) (length ch) left (zeros chapter_most) =
       wrote ∙ ap₂ (λ (l ms : List ℕ). list_exit a l (length ch) ms (zeros chapter_most)) (table-in t) marks-are in
       let z : states ≡ (automaton_of (compiled_table a e)).states = s ∙ table-states t in
@@ -197,12 +176,12 @@ module _ {a e table ch marks : List ℕ} (m : HitsReportable a e table ch marks)
       listed-long a e ch t.slice t.words t.long t.answer m.few
       m.slice (zeros chapter_most) m.long (many chapter_most) m.nodes
       m.cells runs hits
-      (g ∙ same_answer)
+      (h ∙ same_answer)
       ∙ sym (ap (λ (ls : List ℕ). length (take hits ls)) l) in
       bytes-written-same w
       (sym
       (listed-output a e ch t.slice t.words t.long t.answer m.few
       m.slice (zeros chapter_most) m.long (many chapter_most) m.nodes
       m.cells runs hits
-      (g ∙ same_answer)
+      (h ∙ same_answer)
       ∙ rw (← l, ← n, z)))

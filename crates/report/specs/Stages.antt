@@ -1,13 +1,17 @@
 -- What the functions between Compile and the lines are given. It serves the inner functions.
-use Rattle.std.specs.Prelude.{ℕ, ◌+◌, ◌*◌, ◌/◌, ◌≤◌, ◌≡◌, List, [], ◌∷◌, length}
+use Rattle.std.specs.Prelude.{ℕ, ◌+◌, ◌*◌, ◌/◌, ◌≤◌, ◌≡◌, List, [], ◌∷◌, length, Result, Ok, Err}
 use Rattle.words.specs.Limits.{alphabet_most, expression_most, table_most}
 use Rattle.words.specs.Answer.{accepted}
+use Rattle.words.specs.Decoded.{number_in}
+use Rattle.words.specs.declared.refusal.Refusal.{Refusal}
 use Rattle.automaton.specs.Table.{table_in}
 use Rattle.operations.specs.Compile.{compile_answer, compile_exit}
 use Rattle.operations.specs.Run.{run_answer, run_exit}
 use Rattle.sets.specs.Size.{set_most}
 use Rattle.encoding.specs.Words.{word_bytes}
-use Rattle.report.specs.Output.{chapter_most}
+use Rattle.encoding.specs.ByteWriting.{BytesWritten}
+use Rattle.lines.specs.Line.{refused_line}
+use Rattle.report.specs.Output.{chapter_most, marklist_output}
 
 -- how many words are kept of what is read: one more than the most that is accepted
 abbrev pub alphabet_kept : ℕ
@@ -48,3 +52,8 @@ pub record HitsReportable (a e table ch marks : List ℕ) : Type 0 where
   pub cells : ℕ
   pub answer : accepted (nodes ∷ cells ∷ []) ≡ run_answer a (table_in table) ch slice
   pub same : marks ≡ run_exit a (table_in table) ch slice
+
+-- what a function leaves that writes the output, or writes nothing and answers the refusal that is to be told
+abbrev pub Reported : List ℕ → List ℕ → List ℕ → List ℕ → List ℕ → Result ℕ Refusal → Type 0
+Reported a e ch out out' (Ok next) = BytesWritten 0 (marklist_output a e ch) out out' next
+Reported a e ch out out' (Err why) = (marklist_output a e ch ≡ refused_line (number_in why)) × (out' ≡ out)
