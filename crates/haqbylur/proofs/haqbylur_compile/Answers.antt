@@ -4,4 +4,4 @@ use Rattle.haqbylur.proofs.AnswerValueLaws.{compile-small}
 use Rattle.haqbylur.proofs.haqbylur_compile.Goals as goal
 
 pub overflow_cast-words : goal.overflow_cast-words
-overflow_cast-words c = omega (arith, compile-small _ _ _ _ c.in-Table.is c.compile.ensures.answer)
+overflow_cast-words c = omega (arith, compile-small _ _ _ _ c.in-Ok.is c.compile-compiled.ensures.answer)

@@ -4,4 +4,4 @@ use Rattle.haqbylur.proofs.AnswerValueLaws.{list-small}
 use Rattle.haqbylur.proofs.haqbylur_list.Goals as goal
 
 pub overflow_cast-hits : goal.overflow_cast-hits
-overflow_cast-hits c = omega (arith, list-small _ _ _ _ _ _ c.in-Matches.is c.list.ensures.answer)
+overflow_cast-hits c = omega (arith, list-small _ _ _ _ _ _ c.in-Ok.is c.list-listed.ensures.answer)
