@@ -32,10 +32,10 @@ fn pack(four: &[u32], rank: usize) -> u64
     requires { Packable four.now rank }
     ensures { result ≡ packed (drop (rank_most - rank) four.now) }
 {
-    let first = four[0] as u64 + 1;
-    let second = four[1] as u64 + 1;
-    let third = four[2] as u64 + 1;
-    let fourth = four[3] as u64 + 1;
+    let first = u64::from(four[0]) + 1;
+    let second = u64::from(four[1]) + 1;
+    let third = u64::from(four[2]) + 1;
+    let fourth = u64::from(four[3]) + 1;
     let all = ((fourth * DIGIT_RANGE + third) * DIGIT_RANGE + second) * DIGIT_RANGE + first;
     all >> ((RANK_MOST - rank) * DIGIT_BITS) as u32
 }
@@ -45,7 +45,7 @@ pub(crate) fn step_key(symbol: u32, four: &[u32], rank: usize) -> u64
     requires { Keyable symbol four.now rank }
     ensures { result ≡ step_key symbol (drop (rank_most - rank) four.now) }
 {
-    pack(four, rank) * LAST_DIGIT_RANGE + symbol as u64 + 1
+    pack(four, rank) * LAST_DIGIT_RANGE + u64::from(symbol) + 1
 }
 
 // The slot of a key. Any slot is right; both halves of the key count, so that few steps share one.

@@ -41,8 +41,9 @@ fn mark_new(
         &mut memo.closures,
         &mut memo.pending,
     );
-    let node = representative(marks, &set[..size], i, &mut memo.places);
-    write_set_at(marks, i * size, &set[..size]);
+    let words = &set[..size];
+    let node = representative(marks, words, i, &mut memo.places);
+    write_set_at(marks, i * size, words);
     node
 }
 

@@ -19,7 +19,7 @@ fn place_of(set: &[u32]) -> usize
 {
     let mut mixed: u64 = 0;
     for (k, word) in set.iter().enumerate() {
-        mixed += *word as u64 * (k as u64 * FACTOR + 1);
+        mixed += u64::from(*word) * (k as u64 * FACTOR + 1);
     }
     (mixed % PLACES) as usize
 }

@@ -1,14 +1,7 @@
 -- `step::follow_symbol` meets its contract: the words of the symbol's chain before the current one are followed.
-use mathlib.Core.Path.{sym, ◌∙◌}
-use native.Mathlib.Omega.{arith}
 use borrow.Author.Rules.{rules}
-use Rattle.step.proofs.SymbolLaws.{symbol-first, symbol-checked, symbol-inside, symbol-at, symbol-less, symbol-more, symbol_end}
+use Rattle.step.proofs.SymbolLaws.{symbol-first, symbol-inside, symbol-at, symbol-less, symbol-more, symbol_end}
 use Rattle.step.proofs.follow_symbol.Goals as goal
-
-pub first-word-requires : goal.first-word-requires
-first-word-requires c =
-    let g = c.requires.steppable.node in
-    record { checked = g.indexed; few = omega (arith, g.symbol-below) }
 
 pub loop-word-init : goal.loop-word-init
 loop-word-init c = rw c.first-word.ensures (symbol-first c.requires)
@@ -17,9 +10,8 @@ pub follow_transition-requires : goal.follow_transition-requires
 follow_transition-requires c =
     symbol-at c.loop-word.invariant c.in-Some.is
 
-pub next-word-requires : goal.next-word-requires
-next-word-requires c =
-    record { checked = symbol-checked c.loop-word.invariant; inside = symbol-inside c.loop-word.invariant c.in-Some.is }
+pub next-word-requires-clause-inside : goal.next-word-requires-clause-inside
+next-word-requires-clause-inside c = symbol-inside c.loop-word.invariant c.in-Some.is
 
 pub loop-word-smaller : goal.loop-word-smaller
 loop-word-smaller c = rw (c.next-word.ensures, c.in-Some.is) (symbol-less c.loop-word.invariant c.in-Some.is)
@@ -28,14 +20,6 @@ pub loop-word-preserved : goal.loop-word-preserved
 loop-word-preserved c =
     rw c.next-word.ensures
     (symbol-more c.loop-word.invariant c.in-Some.is (search rules) c.follow_transition.ensures)
-
-pub shape_of-pending : goal.shape_of-pending
-shape_of-pending c = c.loop-word.invariant.pending-long
-
-pub shape_of-set : goal.shape_of-set
-shape_of-set c =
-    c.loop-word.invariant.followable.growing.set.size
-    ∙ sym c.requires.growing.set.size
 
 pub returns : goal.returns
 returns c = symbol_end c.loop-word.invariant c.in_default.is

@@ -2,21 +2,13 @@
 -- sets, or the closure of the target joins the set.
 use mathlib.Core.Path.{sym, ◌∙◌}
 use mathlib.Core.Bool.{true≢false}
-use native.Mathlib.Omega.{arith}
-use Rattle.step.proofs.SymbolLaws.{transition-few, transition-sources, transition-joinable, transition-still, transition-more}
+use Rattle.step.proofs.SymbolLaws.{transition-sources, transition-joinable, transition-still, transition-more}
 use Rattle.step.proofs.follow_transition.Goals as goal
-
-pub target-target-requires : goal.target-target-requires
-target-target-requires c = c.requires.inside
 
 pub returns-then-contains : goal.returns-then-contains
 returns-then-contains c =
     transition-still c.requires
     (λ _. rw (← c.target-target.ensures) (sym c.contains.ensures ∙ c.if-contains.true))
-
-pub overflow_add-i : goal.overflow_add-i
-overflow_add-i c =
-    omega (arith, transition-few c.requires)
 
 pub sources_contained-requires : goal.sources_contained-requires
 sources_contained-requires c =

@@ -1,9 +1,6 @@
 -- `memo::lookup::copy_node` meets its contract: one word is as many words as its index says.
-use Rattle.memo.proofs.NodeWritingLaws.{one-copyable, one-copied}
+use Rattle.memo.proofs.NodeWritingLaws.{one-copied}
 use Rattle.memo.proofs.lookup.copy_node.Goals as goal
-
-pub copy_set-requires : goal.copy_set-requires
-copy_set-requires c = one-copyable _ _ _ _ c.requires c.if-size-eq1.true
 
 pub returns-then-size-eq1 : goal.returns-then-size-eq1
 returns-then-size-eq1 c =
