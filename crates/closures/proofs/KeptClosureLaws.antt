@@ -18,7 +18,7 @@ use Rattle.sets.specs.Size.{set_most}
 use Rattle.sets.proofs.StoredLaws.{stored-written, stored_other}
 use Rattle.sets.proofs.JoinLaws.{joined_length, words-joined, joined-cases, joined-left, joined-right}
 use Rattle.closures.specs.Closure.{PendingStack, Settled, Puttable, Put, Followed, Closable, ClosureOf, rows_most}
-use Rattle.closures.specs.Closure.{ClosedSet, Addable, Added, Keepable, Kept, Joinable, JoinedClosure}
+use Rattle.closures.specs.Closure.{ClosedSet, Addable, Added, Keepable, Kept, JoinedClosure}
 use Rattle.closures.specs.declared.KeptClosures.{KeptClosures}
 use Rattle.closures.proofs.TransitionStartLaws.{member-starts, table-transitions}
 use Rattle.closures.proofs.KeyedWordLaws.{closed_at}
@@ -179,13 +179,6 @@ added-joined {table} {r = r} {c = c} k d =
       holds = joined-right r c same _ d.holds;
       within = λ q e. ⊎_elim inl (λ h. inr (d.within q h)) (joined-cases r c same q e);
     }
-
--- the stack has kept its length
-pub add-again : {table index : List ℕ} {s : ℕ} {kept : KeptClosures} {pending : List ℕ} {r : StateSet} → Joinable table index s kept pending r
-    → {pending' : List ℕ} → length pending' ≡ length pending → Addable table index s pending' r
-add-again g e =
-    let k = g.keepable.closable in
-    record { closable = record { checked = k.checked; state = k.state; fits = rw e k.fits }; set = g.set; below = g.below }
 
 -- the row as a part of the rows
 pub join-end : {table : List ℕ} {s : ℕ} {b : Bool} {kept : KeptClosures} → b ≡ true → Kept table s b kept → {r t : StateSet}

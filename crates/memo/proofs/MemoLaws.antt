@@ -7,7 +7,7 @@ use native.Mathlib.Decide.{ℕ_discrete}
 use lib.ListN.{length, get_or, take, drop, set, replicate, length-set, length-drop, length-replicate, get_or-replicate}
 use lib.Seq.{paste, take_all, get_or-set_same, get_or-set_other}
 use Rattle.words.specs.Lists.{AllBelow}
-use Rattle.words.specs.Limits.{nodes_most, rank_most, states_most}
+use Rattle.words.specs.Limits.{rank_most, states_most}
 use Rattle.words.proofs.AllLaws.{map_below, below_more}
 use Rattle.automaton.specs.Transition.{automaton_of}
 use Rattle.automaton.specs.StateSet.{StateSet, state_set}
@@ -18,7 +18,7 @@ use Rattle.sets.proofs.StoredLaws.{row_inside, stored-before}
 use Rattle.closures.specs.Closure.{Closures, rows_most}
 use Rattle.memo.specs.declared.Memo.{Memo as MemoWords}
 use Rattle.memo.specs.Key.{step_key}
-use Rattle.memo.specs.Memo.{set_over, Slot, empty, occupied, Remembered, NewMarkable, NextMarkable, MarkedNew, MarkedNext, places_most}
+use Rattle.memo.specs.Memo.{set_over, Slot, empty, occupied, Remembered, NextMarkable, MarkedNew, MarkedNext, places_most}
 use Rattle.memo.specs.Memo.{slots_most}
 use Rattle.memo.proofs.KeyLaws.{packed-same, step_key-symbol, key-nodes, key-some}
 use Rattle.memo.proofs.NodeWritingLaws.{length-set_over, size_few}
@@ -105,10 +105,6 @@ module _ {table index : List ℕ} {f : ℕ} {marks four : List ℕ} {rank i : �
   part-is =
       take_all (rank_most - (rank_most - rank)) cs (rw (length-drop (rank_most - rank) four) (omega (arith, g.keyable.nodes.length-is)))
 
-  -- what working it out asks
-  pub next-new : NewMarkable table index f marks (take (rank_most - (rank_most - rank)) (drop (rank_most - rank) four)) i words
-  next-new = rw part-is g.new
-
   module _ (key : ℕ) (k : key ≡ step_key f (drop (rank_most - rank) four)) (s : ℕ) (l : s < slots_most) where
     -- a slot with the key holds a node that has the state set
     module _ (h : get_or words.keys s 0 ≡ key) where
@@ -134,9 +130,6 @@ module _ {table index : List ℕ} {f : ℕ} {marks four : List ℕ} {rank i : �
       stored : take (size_of table) (drop (get_or words.known s 0 * size_of table) marks) ≡ set_over table f marks cs
       unfolding stored_set
       stored = slot-found.1
-
-      pub found-few : get_or words.known s 0 < nodes_most
-      found-few = let few = g.new.few in omega (arith, slot-found.0)
 
       module _ (n : ℕ) (sn : n ≡ size_of table) where
         pub found-copyable : Copyable marks (get_or words.known s 0 * n) (i * n) n

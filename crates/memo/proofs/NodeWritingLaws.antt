@@ -12,12 +12,12 @@ use Rattle.automaton.specs.StateSet.{StateSet, state_set}
 use Rattle.automaton.proofs.SetLength.{length-state_set}
 use Rattle.operations.specs.Marks.{size_of, stored_set}
 use Rattle.sets.specs.Copyable.{Copyable}
-use Rattle.sets.specs.Size.{marks_most, set_most}
+use Rattle.sets.specs.Size.{set_most}
 use Rattle.sets.proofs.StoredLaws.{stored-written, stored-before}
-use Rattle.sets.proofs.SizeLaws.{words-few, set-small}
+use Rattle.sets.proofs.SizeLaws.{set-small}
 use Rattle.step.specs.NodeSteppable.{child_sets}
 use Rattle.memo.specs.declared.Memo.{Memo as MemoWords}
-use Rattle.memo.specs.Memo.{set_over, Placeable, Represents, itself, earlier, NewMarkable, MarkedNew}
+use Rattle.memo.specs.Memo.{set_over, Represents, itself, earlier, NewMarkable, MarkedNew}
 
 pub length-set_over : (table : List ℕ) (f : ℕ) (marks cs : List ℕ) → length (set_over table f marks cs) ≡ size_of table
 unfolding set_over size_of
@@ -50,21 +50,8 @@ module _ {table index : List ℕ} {f : ℕ} {marks cs : List ℕ} {i : ℕ} {wor
       let n = length-set_over table f marks cs in
       rw (set_is, length-append v (replicate (set_most - size_of table) 0)) (omega arith)
 
-  pub set-few : i * size ≤ marks_most
-  set-few = let few = g.few in words-few i size (omega arith) (omega (arith, size_few g))
-
   pub set-fits : i * size + length (take size set) ≤ length marks
   set-fits = rw (← set-length, s) g.row
-
-  pub set-placeable : Placeable marks (take size set) i words.places
-  set-placeable =
-      let row = g.row in
-      record {
-        few = g.few;
-        small = rw (← set-length, s) (size_few g);
-        rows = rw (← set-length, s) (omega arith);
-        places-are = g.places-are;
-      }
 
   pub set_new : (r : ℕ) → Represents marks (take size set) i r → (marks' : List ℕ)
       → marks' ≡ paste marks (i * size) (take size set) (length (take size set)) → MarkedNew table f marks cs i marks' r
@@ -97,16 +84,6 @@ module _ {table index : List ℕ} {f : ℕ} {marks cs : List ℕ} {i : ℕ} {wor
 module _ (marks : List ℕ) (node i size : ℕ) (g : Copyable marks (node * size) (i * size) size) (e : size ≡ 1) where
   times-one : (n : ℕ) → n * size ≡ n
   times-one n = ap (λ (k : ℕ). n * k) e ∙ mul-one n
-
-  pub one-copyable : Copyable marks node i 1
-  one-copyable = record {
-    small = omega arith;
-    inside =
-        record {
-          source = omega (arith, g.inside.source, times-one node, e);
-          target = omega (arith, g.inside.target, times-one i, e);
-        };
-  }
 
   pub one-copied : (marks' : List ℕ) → marks' ≡ paste marks i (take 1 (drop node marks)) 1
       → marks' ≡ paste marks (i * size) (take size (drop (node * size) marks)) size

@@ -4,23 +4,12 @@ use mathlib.Core.Bool.{Bool, true}
 use mathlib.Core.List.{List}
 use Prim.Native.Nat.{ℕ, ◌+◌, ◌-◌, ◌*◌, ◌<◌, ◌≤◌}
 use native.Mathlib.Omega.{arith}
-use native.Mathlib.Nat.{le_trans, mul-le-mul_right}
 use lib.ListN.{length, take, drop}
-use Rattle.words.specs.Word.{word_range}
 use Rattle.operations.specs.Marks.{stored_set, same_words}
 use Rattle.operations.proofs.MarksLaws.{same-words}
-use Rattle.sets.specs.Size.{marks_most, set_most}
-use Rattle.sets.proofs.StoredLaws.{row_inside}
-use Rattle.sets.proofs.SizeLaws.{words-few}
 use Rattle.memo.specs.Memo.{Placeable, Represents, earlier}
 
 module _ {marks set : List ℕ} {i : ℕ} {places : List ℕ} (g : Placeable marks set i places) (node : ℕ) (l : node < i) where
-  pub place_inside : node * length set + length set ≤ length marks
-  place_inside = row_inside node i (length set) (length marks) l g.rows
-
-  pub place-few : node * length set ≤ marks_most
-  place-few = let few = g.few in words-few node (length set) (omega arith) g.small
-
   pub represents : (b : Bool)
       → b ≡ same_words (take (node * length set + length set - node * length set) (drop (node * length set) marks)) set
       → b ≡ true → Represents marks set i node
@@ -36,6 +25,3 @@ module _ {marks set : List ℕ} {i : ℕ} {places : List ℕ} (g : Placeable mar
 pub record Mixing (set : List ℕ) (mixed k : ℕ) : Type 0 where
   pub inside : k ≤ length set
   pub few : mixed ≤ k * 9007199254740992
-
-pub mixed-word : (w k : ℕ) → w < word_range → k < set_most → w * (k * 40503 + 1) ≤ 9007199254740992
-mixed-word w k h l = le_trans (mul-le-mul_right (k * 40503 + 1) (let x : w ≤ word_range = omega arith in x)) (omega arith)

@@ -70,9 +70,6 @@ module _ {table : List ℕ} {at size : ℕ} {marks children : List ℕ} {k : ℕ
     some : 0 < length (sources_at (drop (at + k) table))
     some = omega (arith, s.left)
 
-    pub sources-held-inside : at + k < length table
-    sources-held-inside = sources-inside table (at + k) some
-
     next : all_contained (sources_at (drop (at + k) table)) (child_sets size marks (drop k children))
         ≡ contains (stored_set size marks (get_or children k 0)) (state_below (get_or table (at + k) 0))
         && all_contained (sources_at (drop (at + k + 1) table)) (child_sets size marks (drop (k + 1) children))

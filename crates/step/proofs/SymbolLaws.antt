@@ -10,7 +10,6 @@ use native.Mathlib.Decide.{ℕ_discrete, dec_lt}
 use lib.ListN.{length, get_or, drop}
 use Rattle.std.proofs.Common.{Option, Some, None}
 use Rattle.words.specs.Word.{state_below}
-use Rattle.words.specs.Limits.{table_most}
 use Rattle.automaton.specs.Transition.{Transition, automaton_of, sources_at}
 use Rattle.automaton.specs.StateSet.{StateSet, all_contained}
 use Rattle.automaton.specs.Reached.{Reached, by_epsilon}
@@ -50,9 +49,6 @@ module _ {table index : List ℕ} {size : ℕ} {marks children : List ℕ} {kept
 
   target_below : state_below (get_or table i 0) < (automaton_of table).states
   target_below = symbol-below checked i g.inside symbol
-
-  pub transition-few : i < table_most
-  transition-few = omega (arith, (keyed checked).few, g.inside)
 
   -- a transition on the node's symbol has as many part states as the node has children
   pub transition-sources : SourcesReadable table (i + 1) size marks children
