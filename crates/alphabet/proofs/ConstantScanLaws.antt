@@ -1,4 +1,4 @@
--- The constants of an alphabet, word by word: those of the first i entries, their number, and a list that they are written
+-- The constants of an alphabet, word by word: those of the first i entries, and a list that they are written
 -- into.
 use mathlib.Core.Path.{◌≡◌, refl, ap, ◌∙◌, sym, subst}
 use mathlib.Core.Bool.{true, false, cond}
@@ -56,7 +56,7 @@ module _ (a : List ℕ) (i : ℕ) where
           let l = ltb-false i (length a) h in
           ap constants_of (take_all (i + 1) a (omega arith) ∙ sym (take_all i a l))
 
--- ---- counting: n of the first i entries are constants
+-- ---- n of the first i entries are constants
 
 pub record Counted (a : List ℕ) (n i : ℕ) : Type 0 where
   pub few : n ≤ i
@@ -72,9 +72,6 @@ module _ {a : List ℕ} {n i : ℕ} (c : Counted a n i) where
 
   pub counted_skip : is_constant a i ≡ false → Counted a n (i + 1)
   counted_skip e = let few = c.few in record { few = omega arith; count = rw (constants-skip a i e) c.count }
-
-  pub counted-end : length a ≤ i → n ≡ length (constants_of a)
-  counted-end h = c.count ∙ ap (λ (l : List ℕ). length (constants_of l)) (take_all i a h)
 
 -- ---- writing: the n constants of the first i entries, at most as many as an alphabet can have, are stored from the first word on
 

@@ -1,4 +1,3 @@
 pub mod ConstantScanLaws
 pub mod RankLaws
-pub mod HoleScanLaws
 pub mod RankedLaws

@@ -2,7 +2,7 @@
 use mathlib.Core.Path.{◌≡◌, refl, ◌∙◌}
 use mathlib.Core.Bool.{true, false, cond}
 use mathlib.Core.List.{List}
-use Prim.Native.Nat.{ℕ, ◌+◌, ◌<◌, ◌≤◌}
+use Prim.Native.Nat.{ℕ, ◌+◌, ◌<◌, ◌≤◌, min}
 use native.Mathlib.Omega.{arith}
 use native.Mathlib.Decide.{ℕ_discrete}
 use lib.ListN.{length, get_or, set, length-set}
@@ -49,18 +49,9 @@ module _ {a ranks₀ ranks : List ℕ} {k : ℕ} (g : RanksSoFar a ranks₀ rank
       left s e (no q) = get_or-set_other ranks k s v 0 q ∙ g.holes s e
 
   -- every symbol is written, or the list is full
-  pub ranks-end : length a ≤ k → RanksWritten a ranks₀ ranks
+  pub ranks-end : min (length a) (length ranks₀) ≤ k → RanksWritten a ranks₀ ranks
   ranks-end h = record {
     known = λ s b l. g.known s (omega arith);
     holes = g.holes;
     unknown = λ s b. g.rest s (let w = g.within in omega arith);
   }
-
-  pub ranks-full : length ranks ≤ k → RanksWritten a ranks₀ ranks
-  ranks-full h =
-      let e = g.long in
-      record {
-        known = λ s b l. g.known s (omega arith);
-        holes = g.holes;
-        unknown = λ s b. g.rest s (let w = g.within in omega arith);
-      }

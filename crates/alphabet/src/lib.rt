@@ -20,13 +20,13 @@ use words::word::{HOLE_RANGE, Kind, SYMBOL_RANGE, kind_of, spare_bits_clear};
 pub const SYMBOLS: usize = SYMBOL_RANGE as usize;
 
 // The rank of a symbol; 0 for an unknown one.
+#[tactic(auto, unfolding(words::specs::Alphabet::rank_of))]
 pub fn rank(alphabet: &[u32], symbol: usize) -> usize
     ensures { result ≡ rank_of alphabet.now symbol }
 {
-    if symbol < alphabet.len() {
-        return (alphabet[symbol] % SYMBOL_RANGE) as usize;
-    }
-    0
+    alphabet
+        .get(symbol)
+        .map_or(0, |&w| (w % SYMBOL_RANGE) as usize)
 }
 
 // The rank of the symbol in bits 7..0 of a word.
@@ -37,6 +37,7 @@ fn symbol_rank(alphabet: &[u32], w: u32) -> usize
 }
 
 // Whether an entry marks a hole. Only here is the mark read.
+#[tactic(auto, unfolding(words::specs::Alphabet::marks_hole))]
 fn marks_hole(w: u32) -> bool
     ensures { result ≡ marks_hole w }
 {
@@ -58,10 +59,8 @@ fn rank_unless_hole(w: u32, other: u32) -> u32
 pub fn write_ranks(alphabet: &[u32], ranks: &mut [u32])
     ensures { RanksWritten alphabet.now ranks.old ranks.new }
 {
-    let mut symbol = 0;
-    while symbol < alphabet.len() && symbol < ranks.len() {
+    for symbol in 0..alphabet.len().min(ranks.len()) {
         ranks[symbol] = rank_unless_hole(alphabet[symbol], ranks[symbol]);
-        symbol += 1;
     }
 }
 
@@ -97,20 +96,19 @@ pub fn arity(alphabet: &[u32], w: u32) -> usize
 }
 
 // Whether the alphabet has the symbol and its rank is 0.
+#[tactic(auto, unfolding(words::specs::Alphabet::is_constant))]
 pub fn is_constant(alphabet: &[u32], symbol: usize) -> bool
     ensures { result ≡ is_constant alphabet.now symbol }
 {
-    if symbol < alphabet.len() {
-        return rank(alphabet, symbol) == 0;
-    }
-    false
+    symbol < alphabet.len() && rank(alphabet, symbol) == 0
 }
 
 // Whether a symbol is a hole; an unknown one is not.
+#[tactic(auto, unfolding(words::specs::Alphabet::is_hole, words::specs::Alphabet::marks_hole))]
 pub fn is_hole(alphabet: &[u32], symbol: usize) -> bool
     ensures { result ≡ is_hole alphabet.now symbol }
 {
-    symbol < alphabet.len() && marks_hole(alphabet[symbol])
+    alphabet.get(symbol).is_some_and(|&w| marks_hole(w))
 }
 
 // Whether the alphabet has a hole.
@@ -163,6 +161,7 @@ fn entries_only(alphabet: &[u32]) -> bool
 }
 
 // Whether the words are no alphabet: none, too many, or one that is no entry.
+#[tactic(auto, unfolding(words::specs::Alphabet::no_alphabet))]
 fn no_alphabet(alphabet: &[u32]) -> bool
     ensures { result ≡ no_alphabet alphabet.now }
 {
@@ -173,13 +172,7 @@ fn no_alphabet(alphabet: &[u32]) -> bool
 pub fn count_constants(alphabet: &[u32]) -> usize
     ensures { result ≡ length (constants_of alphabet.now) }
 {
-    let mut count: usize = 0;
-    for symbol in 0..alphabet.len() {
-        if is_constant(alphabet, symbol) {
-            count += 1;
-        }
-    }
-    count
+    alphabet.iter().filter(|&&w| w % SYMBOL_RANGE == 0).count()
 }
 
 // Writes the constants in symbol order into the first words of the list, as far as it reaches, and answers how many there are.

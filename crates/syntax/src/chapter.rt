@@ -37,7 +37,7 @@ fn nodes_only(alphabet: &[u32], words: &[u32]) -> bool
 }
 
 // Document 01's 10 or 11, the first that applies. The words before word i are nodes and make `made` trees. Where word i lacks
-// children, the words from it on are judged for 10 before 11.
+// children, the words from it on are judged for 10 before 11. `one_tree` would read a chapter a second time.
 pub fn tree_fault(alphabet: &[u32], words: &[u32]) -> Result<(), Refusal>
     ensures { fault_in result ≡ tree_fault alphabet.now words.now }
 {

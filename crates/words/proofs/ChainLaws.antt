@@ -1,62 +1,52 @@
--- What `all` and `any` of a chain over a slice's words answer, as a test of every word or of some.
-use mathlib.Core.Path.{◌≡◌, refl, sym, ◌∙◌}
-use mathlib.Core.Bool.{Bool, true, false, ◌&&◌, ◌||◌}
+-- What `all` and `any` of a chain over a slice's words answer, as the test of every word or of some; `search rules` finds the premise.
+use Rattle.std.specs.Prelude.{IsTrue, ◌↔◌, EachIndex, SomeIndex, slice_index}
+use mathlib.Core.Path.{◌≡◌, refl, sym}
+use mathlib.Core.Bool.{Bool, true, false, ◌||◌}
 use mathlib.Core.List.{List, [], ◌∷◌}
-use Prim.Native.Nat.{ℕ, zero, suc, ◌+◌, ◌<◌, ◌≤◌}
+use Prim.Native.Nat.{ℕ, zero, suc}
 use native.Mathlib.Omega.{arith}
-use lib.ListN.{length, get_or}
-use Rattle.std.specs.Bool.{MatchBool}
-use Rattle.std.specs.List.{AllWithin, HoldsAt}
 use Rattle.words.specs.Lists.{all, some}
+use Rattle.words.proofs.TestLaws.{Tested, holds, fails, tested, and-true}
 
--- every number passes
-all-passed : (f : ℕ → Bool) (ws : List ℕ) → AllWithin (λ w. f w ≡ true) ws 0 (length ws) → all f ws ≡ true
-all-passed f [] h = refl
-all-passed f (w ∷ ws) h =
-    let first : f w ≡ true = h 0 0 (omega arith) (omega arith) in
-    let rest : all f ws ≡ true = all-passed f ws (λ k d low high. h (suc k) d (omega arith) (omega arith)) in
-    rw (first, rest)
+-- two tests that hold together are one
+same-test : (a b : Bool) → (a ≡ true → b ≡ true) → (b ≡ true → a ≡ true) → a ≡ b
+same-test true b p q = sym (p refl)
+same-test false true p q = q refl
+same-test false false p q = refl
 
--- one number fails
-all-failed : (f : ℕ → Bool) (ws : List ℕ) (k : ℕ) → k < length ws → HoldsAt (λ w. f w ≡ false) ws k → all f ws ≡ false
-all-failed f [] k h e = absurd (omega arith)
-all-failed f (w ∷ ws) zero h e = let first : f w ≡ false = e 0 in rw first
-all-failed f (w ∷ ws) (suc k) h e =
-    let rest : all f ws ≡ false = all-failed f ws k (omega arith) (λ d. e d) in
-    go (f w) rest
-  where
-    go : (b : Bool) → all f ws ≡ false → ◌≡◌ {A = Bool} (b && all f ws) false
-    go true r = r
-    go false r = refl
+module _ (f : ℕ → Bool) where
+  all-each : (ws : List ℕ) → EachIndex ws (λ k. f (slice_index ws k) ≡ true) → all f ws ≡ true
+  all-each [] h = refl
+  all-each (w ∷ ws) h =
+      let first : f w ≡ true = h 0 (omega arith) in
+      let rest : all f ws ≡ true = all-each ws (λ k l. h (suc k) (omega arith)) in
+      rw (first, rest)
 
-pub all-told : (f : ℕ → Bool) (ws : List ℕ) (r : Bool)
-    → MatchBool r (AllWithin (λ w. f w ≡ true) ws 0 (length ws)) ((k : ℕ) × (k < length ws) × HoldsAt (λ w. f w ≡ false) ws k)
-    → r ≡ all f ws
-all-told f ws true h = sym (all-passed f ws h)
-all-told f ws false h = sym (all-failed f ws h.0 h.1 h.2)
+  each-all : (ws : List ℕ) → all f ws ≡ true → EachIndex ws (λ k. f (slice_index ws k) ≡ true)
+  each-all [] e k l = absurd (omega arith)
+  each-all (w ∷ ws) e zero l = (and-true (f w) (all f ws) e).0
+  each-all (w ∷ ws) e (suc k) l = each-all ws (and-true (f w) (all f ws) e).1 k (omega arith)
 
--- one number passes
-some-found : (f : ℕ → Bool) (ws : List ℕ) (k : ℕ) → k < length ws → HoldsAt (λ w. f w ≡ true) ws k → some f ws ≡ true
-some-found f [] k h e = absurd (omega arith)
-some-found f (w ∷ ws) zero h e = let first : f w ≡ true = e 0 in rw first
-some-found f (w ∷ ws) (suc k) h e =
-    let rest : some f ws ≡ true = some-found f ws k (omega arith) (λ d. e d) in
-    go (f w) rest
-  where
-    go : (b : Bool) → some f ws ≡ true → ◌≡◌ {A = Bool} (b || some f ws) true
-    go true r = refl
-    go false r = r
+  some-one : (ws : List ℕ) → SomeIndex ws (λ k. f (slice_index ws k) ≡ true) → some f ws ≡ true
+  some-one [] (k, l, e) = absurd (omega arith)
+  some-one (w ∷ ws) (zero, l, e) = rw e
+  some-one (w ∷ ws) (suc k, l, e) = go (f w) (some-one ws (k, omega arith, e))
+    where
+      go : (b : Bool) → some f ws ≡ true → ◌≡◌ {A = Bool} (b || some f ws) true
+      go true r = refl
+      go false r = r
 
--- no number passes
-some-none : (f : ℕ → Bool) (ws : List ℕ) → AllWithin (λ w. f w ≡ false) ws 0 (length ws) → some f ws ≡ false
-some-none f [] h = refl
-some-none f (w ∷ ws) h =
-    let first : f w ≡ false = h 0 0 (omega arith) (omega arith) in
-    let rest : some f ws ≡ false = some-none f ws (λ k d low high. h (suc k) d (omega arith) (omega arith)) in
-    rw (first, rest)
+  one-some : (ws : List ℕ) → some f ws ≡ true → SomeIndex ws (λ k. f (slice_index ws k) ≡ true)
+  one-some [] e = absurd (cc)
+  one-some (w ∷ ws) e = go (tested (f w)) (λ r. one-some ws r)
+    where
+      go : Tested (f w) → (some f ws ≡ true → SomeIndex ws (λ k. f (slice_index ws k) ≡ true))
+          → SomeIndex (w ∷ ws) (λ k. f (slice_index (w ∷ ws) k) ≡ true)
+      go (holds t) rest = (0, omega arith, t)
+      go (fails t) rest = let h = rest (rw t at e) in (suc h.0, let l = h.1 in omega arith, h.2)
 
-pub some-told : (f : ℕ → Bool) (ws : List ℕ) (r : Bool)
-    → MatchBool r ((k : ℕ) × (k < length ws) × HoldsAt (λ w. f w ≡ true) ws k) (AllWithin (λ w. f w ≡ false) ws 0 (length ws))
-    → r ≡ some f ws
-some-told f ws true h = sym (some-found f ws h.0 h.1 h.2)
-some-told f ws false h = sym (some-none f ws h)
+  pub all-told : (ws : List ℕ) (r : Bool) → IsTrue r ↔ EachIndex ws (λ k. f (slice_index ws k) ≡ true) → r ≡ all f ws
+  all-told ws r h = same-test r (all f ws) (λ e. all-each ws (h.0 e)) (λ e. h.1 (each-all ws e))
+
+  pub some-told : (ws : List ℕ) (r : Bool) → IsTrue r ↔ SomeIndex ws (λ k. f (slice_index ws k) ≡ true) → r ≡ some f ws
+  some-told ws r h = same-test r (some f ws) (λ e. some-one ws (h.0 e)) (λ e. h.1 (one-some ws e))

@@ -3,14 +3,12 @@
 use mathlib.Core.Path.{◌≡◌, refl, ap, ◌∙◌, sym, subst}
 use mathlib.Core.Bool.{Bool, true, false, not, cond}
 use mathlib.Core.List.{List, [], ◌∷◌, map, Memᴰ}
-use mathlib.Core.Logic.{⊎_elim}
 use Prim.Native.Nat.{ℕ, suc, ◌<◌}
 use native.Mathlib.Omega.{arith}
 use lib.ListN.{length, get_or}
 use lib.Dec.{eqb}
 use borrow.Author.Tests.{eq-eqb, ne_eqb, eqb-false, not-true}
 use denote.Enum.Declared.{tag_of}
-use types.Run.{OneOf}
 use mir.Val.{has_key}
 use Rattle.words.specs.Lists.{all, list_from}
 use Rattle.words.specs.Word.{Kind, no_kind, kinds, kind_at, kind_number, number_of, kind_of, spare_bits_clear, is_of}

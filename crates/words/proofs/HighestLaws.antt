@@ -1,11 +1,10 @@
--- Laws of the highest number of a list: of its parts and members, and of the loop that finds it.
-use mathlib.Core.Path.{◌≡◌, ap, ap₂, ◌∙◌, sym}
+-- Laws of the highest number of a list: of its parts and members.
+use mathlib.Core.Path.{◌≡◌, ap, ◌∙◌, sym}
 use mathlib.Core.List.{List, [], ◌∷◌, ◌++◌, reverse, reverse_aux}
-use Prim.Native.Nat.{ℕ, zero, suc, ◌+◌, ◌<◌, ◌≤◌, max}
+use Prim.Native.Nat.{ℕ, zero, suc, ◌≤◌, max}
 use native.Mathlib.Omega.{arith}
 use native.Mathlib.Nat.{zero-max, max-zero}
-use lib.ListN.{length, get_or, take, drop, set, replicate, take-append-drop}
-use lib.Seq.{drop-cons, drop-length}
+use lib.ListN.{get_or, take, drop, set, replicate, take-append-drop}
 use Rattle.words.specs.Lists.{highest}
 
 -- ---- parts
@@ -49,34 +48,3 @@ pub highest-zeros : (n : ℕ) → highest (replicate n 0) ≤ 0
 unfolding highest
 highest-zeros zero = omega arith
 highest-zeros (suc n) = let h = highest-zeros n in omega arith
-
--- ---- the loop: `high` is the highest of the first k
-
-pub record HighestSoFar (l : List ℕ) (k high : ℕ) : Type 0 where
-  pub within : k ≤ length l
-  pub same : max high (highest (drop k l)) ≡ highest l
-
-pub highest-none : (l : List ℕ) → HighestSoFar l 0 0
-highest-none l = record { within = omega arith; same = zero-max (highest l) }
-
-module _ {l : List ℕ} {k high : ℕ} (f : HighestSoFar l k high) where
-  pub highest-more : (next : ℕ) → k < length l → next ≡ max high (get_or l k 0) → HighestSoFar l (k + 1) next
-  unfolding highest
-  highest-more next h e =
-      let q : k + 1 ≡ suc k = omega arith in
-      let a : max (max high (get_or l k 0)) (highest (drop (suc k) l)) ≡ max high (max (get_or l k 0) (highest (drop (suc k) l))) =
-      omega arith in
-      record {
-        within = omega arith;
-        same =
-            ap₂ (λ (x i : ℕ). max x (highest (drop i l))) e q ∙ a
-            ∙ ap (λ (r : List ℕ). max high (highest r)) (sym (drop-cons l k 0 h))
-            ∙ f.same;
-      }
-
-  pub highest-end : length l ≤ k → high ≡ highest l
-  unfolding highest
-  highest-end h =
-      let w = f.within in
-      let q : k ≡ length l = omega arith in
-      sym (max-zero high) ∙ ap (λ (r : List ℕ). max high (highest r)) (sym (ap (λ (i : ℕ). drop i l) q ∙ drop-length l)) ∙ f.same

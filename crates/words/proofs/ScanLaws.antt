@@ -1,5 +1,4 @@
--- One step of a scan over a slice: what is left of a list from an index on, tests of every word of it or of some, and the trees that
--- it makes.
+-- One step of a scan over a slice: what is left of a list from an index on, tests of every word of it, and the trees that it makes.
 use mathlib.Core.Path.{◌≡◌, refl, ap, ◌∙◌}
 use mathlib.Core.Bool.{Bool, true, false}
 use mathlib.Core.List.{List, [], ◌∷◌}
@@ -10,7 +9,7 @@ use lib.ListN.{length, get_or, take, drop, length-drop, drop_of_length-le}
 use lib.Seq.{slice, drop-cons, take_all}
 use lib.Dec.{eqb}
 use borrow.Author.Tests.{le-leb, lt-leb}
-use Rattle.words.specs.Lists.{all, some}
+use Rattle.words.specs.Lists.{all}
 use Rattle.words.specs.Shape.{trees_by}
 
 pub drop-step : (l : List ℕ) (i : ℕ) → i < length l → drop i l ≡ get_or l i 0 ∷ drop (i + 1) l
@@ -45,17 +44,6 @@ module _ (f : ℕ → Bool) (l : List ℕ) (i : ℕ) where
 
   pub all_end : length l ≤ i → all f (drop i l) ≡ true
   all_end h = ap (all f) (drop-end l i h)
-
--- the test of some word from index i on
-module _ (f : ℕ → Bool) (l : List ℕ) (i : ℕ) where
-  pub some-found : i < length l → f (get_or l i 0) ≡ true → some f (drop i l) ≡ true
-  some-found h e = ap (some f) (drop-step l i h) ∙ rw e
-
-  pub some-continues : i < length l → f (get_or l i 0) ≡ false → some f (drop i l) ≡ some f (drop (i + 1) l)
-  some-continues h e = ap (some f) (drop-step l i h) ∙ rw e
-
-  pub some_end : length l ≤ i → some f (drop i l) ≡ false
-  some_end h = ap (some f) (drop-end l i h)
 
 -- the trees that the words from index i on make, after d trees; r is the arity of word i
 module _ (arity : ℕ → ℕ) (l : List ℕ) (d i t : ℕ) where

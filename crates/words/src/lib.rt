@@ -1,5 +1,5 @@
-// Words of 32 bits: the kind that a word is of, which bits it names, the limits, and refusals by name. Every answer equals what a definition of
-// `specs/` gives.
+// Words of 32 bits: the kind that a word is of, which bits it names, the limits, and refusals by name. Every answer equals what a
+// definition of `specs/` gives.
 #![tactic(auto)]
 
 pub mod limits;

@@ -29,7 +29,7 @@ pub const HEIGHT_MOST: usize = 512;
 // The most cells of a chapter (document 02, U10).
 pub const CELLS_MOST: usize = 4194304;
 
-// Whether a number is 0 or over the most.
+// Whether a number is 0 or over the most: the documents' words, which a range's `contains` would say no plainer.
 pub fn is_outside(most: usize, n: usize) -> bool
     ensures { result ≡ outside most n }
 {

@@ -83,7 +83,7 @@ pub enum Kind {
     Other,
 }
 
-// The kind of a word. Only here is a kind told by its number.
+// The kind of a word. Only here is a kind told by its number: by one match over a local, the form that document 01 asks for.
 pub fn kind_of(w: u32) -> Kind
     ensures { kind_in result ≡ kind_of w }
 {
