@@ -16,7 +16,8 @@ pub const ROWS_MOST: usize = 64;
 // The words of all rows.
 pub const ROWS_LENGTH: usize = ROWS_MOST * SET_MOST;
 
-// The closures that are kept: a row holds that of state s where its owner is s + 1, and none where its owner is 0.
+// The closures that are kept: a row holds that of state s where its owner is s + 1, and none where its owner is 0. Owners as
+// options would take twice the words, on a small stack.
 #[derive(Drop)]
 pub struct KeptClosures {
     pub owners: [u32; ROWS_MOST],

@@ -93,10 +93,10 @@ shifted a b c d x y z u (suc (suc (suc zero))) h = omega arith
 shifted a b c d x y z u (suc (suc (suc (suc zero)))) h = omega arith
 shifted a b c d x y z u (suc (suc (suc (suc (suc k))))) h = absurd (omega arith)
 
-pub pack-is : {four : List ℕ} {rank : ℕ} → Packable four rank
-    → four_digits (get_or four 0 0) (get_or four 1 0) (get_or four 2 0) (get_or four 3 0) / 2 ^ ((rank_most - rank) * digit_bits)
-    ≡ packed (drop (rank_most - rank) four)
-pack-is {four} {rank} g = go four g.length-is g.below
+pub pack-is : {four : List ℕ} {rank : ℕ} → Packable four rank → {m n o p : ℕ} → m ≡ get_or four 0 0 → n ≡ get_or four 1 0
+    → o ≡ get_or four 2 0 → p ≡ get_or four 3 0
+    → four_digits m n o p / 2 ^ ((rank_most - rank) * digit_bits) ≡ packed (drop (rank_most - rank) four)
+pack-is {four} {rank} g i j k l = rw (i, j, k, l) (go four g.length-is g.below)
   where
     go : (l : List ℕ) → length l ≡ rank_most → AllBelow nodes_most l
         → four_digits (get_or l 0 0) (get_or l 1 0) (get_or l 2 0) (get_or l 3 0) / 2 ^ ((rank_most - rank) * digit_bits)

@@ -22,7 +22,8 @@ pub const PLACES_MOST: usize = 1021;
 
 // What is kept from node to node. Slot s remembers the step with the key keys[s] and the representative known[s], or none where
 // the key is 0; places[k] is the last node that took the place k; the closures of states that were worked out; and a stack of
-// states, which may hold anything. An array of pairs of a key and a node would take 4 bytes more a slot, on a small stack.
+// states, which may hold anything. An array of pairs of a key and a node would take 4 bytes more a slot, and one of options more
+// still, on a small stack.
 #[derive(Drop)]
 pub struct Memo {
     pub keys: [u64; SLOTS_MOST],

@@ -3,4 +3,4 @@ use Rattle.memo.proofs.KeyLaws.{pack-is}
 use Rattle.memo.proofs.key.pack.Goals as goal
 
 pub returns : goal.returns
-returns c = rw (c.from-first.ensures, c.from-second.ensures, c.from-third.ensures, c.from-fourth.ensures) (pack-is c.requires)
+returns c = pack-is c.requires c.from-first.ensures c.from-second.ensures c.from-third.ensures c.from-fourth.ensures
