@@ -104,7 +104,6 @@ pub record Emitted (a cs e : List ℕ) (at : ℕ) (out out' : List ℕ) (stack :
   pub below : height ≤ i
   pub stack-long : length stack ≡ expression_most
   pub low : state ≤ word_states_most * i
-  pub long : length out' ≡ length out
   pub done : List Transition
   pub written : WordsWritten (own_words_most * i) at (transitions_words done) out out' next
   pub left : transitions_from a 0 e [] ≡ done ++ transitions_from a state (drop i e) (stack_in cs (take height stack))
@@ -120,7 +119,6 @@ emitted-none a cs e at out stack h t l =
       below = omega arith;
       stack-long = l;
       low = omega arith;
-      long = refl;
       done = [];
       written = words-written-none at out;
       left = refl;
@@ -176,9 +174,9 @@ module _ {a cs e : List ℕ} {at : ℕ} {out out' : List ℕ} {stack : List Port
       → WordsWritten own_words_most next
       (transitions_words (own_transitions a (get_or e i 0) (full_port cs state) (ports_in cs (part r))))
       out' out'' n
-      → length out'' ≡ length out' → port_in cs p ≡ port_of a state (get_or e i 0) → s ≡ states_of a (get_or e i 0) → s ≤ word_states_most
+      → port_in cs p ≡ port_of a state (get_or e i 0) → s ≡ states_of a (get_or e i 0) → s ≤ word_states_most
       → Emitted a cs e at out out'' (set stack (height - r) p) (height - r + 1) (state + s) n (i + 1)
-  emitted-more r p s n out'' known h le q w l ep es s≤ =
+  emitted-more r p s n out'' known h le q w ep es s≤ =
       let word = get_or e i 0 in
       let base = height - r in
       let few = m.below in
@@ -197,7 +195,6 @@ module _ {a cs e : List ℕ} {at : ℕ} {out out' : List ℕ} {stack : List Port
         below = omega arith;
         stack-long = length-set stack base p ∙ stack-long;
         low = omega arith;
-        long = l ∙ m.long;
         done = m.done ++ own;
         written =
             words-written-same (own_words_most * i + own_words_most) (own_words_most * (i + 1)) at n _ _ out out''

@@ -31,12 +31,12 @@ module _ (n x : ℕ) {at : ℕ} {out out' : List ℕ} {next i : ℕ} (w : ExitsP
   pub exits-within : i ≤ n
   exits-within = let l = length-replicate {A = ℕ} n x in let h = w.within in omega arith
 
-  pub exits-more : (out'' : List ℕ) (r : ℕ) → i < n → length out'' ≡ length out'
+  pub exits-more : (out'' : List ℕ) (r : ℕ) → i < n
       → WordsWritten 1 next (word_of source_kind x ∷ []) out' out'' r → ExitsPushed n x at out out'' r (i + 1)
-  exits-more out'' r h l q =
+  exits-more out'' r h q =
       let long = length-replicate {A = ℕ} n x in
       let h' : i < length (replicate n x) = omega arith in
-      each-written-more w out'' r _ h' l
+      each-written-more w out'' r _ h'
       (rw (add-one i, take-suc (replicate n x) i 0 h', get_or-replicate n i x 0 h)
       (map-append (λ p. word_of source_kind p) (take i (replicate n x)) (x ∷ []))) q
 
@@ -83,12 +83,12 @@ module _ {a : List ℕ} (x : ℕ) {at : ℕ} {out out' : List ℕ} {next k : ℕ
   pub symbols-fit : k < length a → length a ≤ alphabet_most → at + every_symbol_most ≤ last_index → next + symbol_words_most ≤ last_index
   symbols-fit h few fits = let n = words-written-next _ _ _ _ _ _ w.written in omega arith
 
-  pub symbols-more : (out'' : List ℕ) (r : ℕ) → k < length a → length out'' ≡ length out'
+  pub symbols-more : (out'' : List ℕ) (r : ℕ) → k < length a
       → WordsWritten symbol_words_most next (transitions_words (every_symbol x k (get_or a k 0 ∷ []))) out' out'' r
       → SymbolsPushed a x at out out'' r (k + 1)
-  symbols-more out'' r h l q =
+  symbols-more out'' r h q =
       let n : length (take k a) ≡ k = length-take-le k a (omega arith) in
-      each-written-more w out'' r _ h l
+      each-written-more w out'' r _ h
       (rw (add-one k, take-suc a k 0 h, every_symbol-append x 0 (take k a) (get_or a k 0 ∷ []), n, zero-add k)
       (transitions_words-append (every_symbol x 0 (take k a)) (every_symbol x k (get_or a k 0 ∷ [])))) q
 

@@ -32,6 +32,6 @@ abbrev pub EveryPushed : List ℕ → ℕ → ℕ → List ℕ → List ℕ → 
 EveryPushed cs x = EachWritten (every_words x) 1 cs
 
 pub every-pushed-more : {cs : List ℕ} {x at : ℕ} {out out' : List ℕ} {next k : ℕ} → EveryPushed cs x at out out' next k
-    → (out'' : List ℕ) (r s : ℕ) → s ≡ entry_state x k → k < length cs → length out'' ≡ length out'
+    → (out'' : List ℕ) (r s : ℕ) → s ≡ entry_state x k → k < length cs
     → WordsWritten 1 next (transition_words (on_symbol (get_or cs k 0) [] s)) out' out'' r → EveryPushed cs x at out out'' r (k + 1)
-every-pushed-more {cs} {x} {k = k} w out'' r s e h l q = each-written-more w out'' r _ h l (every_words-more x cs k h) (rw e at q)
+every-pushed-more {cs} {x} {k = k} w out'' r s e h q = each-written-more w out'' r _ h (every_words-more x cs k h) (rw e at q)

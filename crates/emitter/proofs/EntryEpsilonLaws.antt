@@ -43,7 +43,7 @@ module _ {cs : List ℕ} {targets : ℕ → List ℕ} {x at : ℕ} {out out' : L
       → next + entry_words_most ≤ last_index
   entries_written-fits h few fits = let n = words-written-next _ _ _ _ _ _ w.written in omega arith
 
-  pub entries_written-more : (out'' : List ℕ) (r : ℕ) → k < length cs → length out'' ≡ length out'
+  pub entries_written-more : (out'' : List ℕ) (r : ℕ) → k < length cs
       → WordsWritten entry_words_most next (transitions_words (epsilons (entry_state x k) (targets (get_or cs k 0)))) out' out'' r
       → EntriesWritten cs targets x at out out'' r (k + 1)
-  entries_written-more out'' r h l q = each-written-more w out'' r _ h l (entry_epsilon_words-more x cs targets k h) q
+  entries_written-more out'' r h q = each-written-more w out'' r _ h (entry_epsilon_words-more x cs targets k h) q

@@ -77,9 +77,8 @@ children-none cs ps from b at out = each-written-none _ 1 ps at out refl
 pub children-more : (cs : List ℕ) (ps : List Port) (from b : ℕ) {at : ℕ} {out out' : List ℕ} {next i : ℕ}
     → ToChildren cs ps from b at out out' next i
     → (p : Port) (to : Option ℕ) (out'' : List ℕ) (r : ℕ) → i < length ps → p ≡ get_or ps i p → EntryRead cs p b to
-    → length out'' ≡ length out'
     → WordsWritten 1 next (epsilon_words from (states_of_entry to)) out' out'' r → ToChildren cs ps from b at out out'' r (i + 1)
-children-more cs ps from b {i = i} w p to out'' r h d e l q =
-    each-written-more w out'' r _ h l
+children-more cs ps from b {i = i} w p to out'' r h d e q =
+    each-written-more w out'' r _ h
     (rw (add-one i, children-entries cs ps b i p h d, ← e.states)
     (epsilon_words-append from (symbol_targets (ports_in cs (take i ps)) b) (states_of_entry to))) q

@@ -22,10 +22,10 @@ abbrev pub Sourced : List Port → ℕ → List ℕ → List ℕ → ℕ → ℕ
 Sourced = EachWritten (λ l. source_words (exits_in l)) 1
 
 pub sourced-more : {ps : List Port} {at : ℕ} {out out' : List ℕ} {next i : ℕ} → Sourced ps at out out' next i
-    → (p : Port) (x : ℕ) (out'' : List ℕ) (r : ℕ) → i < length ps → p ≡ get_or ps i p → x ≡ exit_in p → length out'' ≡ length out'
+    → (p : Port) (x : ℕ) (out'' : List ℕ) (r : ℕ) → i < length ps → p ≡ get_or ps i p → x ≡ exit_in p
     → WordsWritten 1 next (word_of source_kind x ∷ []) out' out'' r → Sourced ps at out out'' r (i + 1)
-sourced-more {ps} {i = i} w p x out'' r h d e l q =
-    each-written-more w out'' r _ h l
+sourced-more {ps} {i = i} w p x out'' r h d e q =
+    each-written-more w out'' r _ h
     (rw (add-one i, take-suc ps i p h, ← d, e)
     (ap source_words (map-append (λ p. exit_in p) (take i ps) (p ∷ []))
     ∙ map-append (λ p. word_of source_kind p) (exits_in (take i ps)) (exit_in p ∷ []))) q

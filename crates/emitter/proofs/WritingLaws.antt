@@ -60,7 +60,6 @@ words-written-one at w out out' e = record { words = e; next = refl; short = ome
 
 pub record EachWritten {A : Type 0} (words_of : List A → List ℕ) (most : ℕ) (members : List A) (at : ℕ) (out out' : List ℕ) (next k : ℕ) : Type 0 where
   pub within : k ≤ length members
-  pub long : length out' ≡ length out
   pub written : WordsWritten (k * most) at (words_of (take k members)) out out' next
 
 pub each-written-none : {A : Type 0} (words_of : List A → List ℕ) (most : ℕ) (members : List A) (at : ℕ) (out : List ℕ) → words_of [] ≡ []
@@ -68,20 +67,18 @@ pub each-written-none : {A : Type 0} (words_of : List A → List ℕ) (most : �
 each-written-none words_of most members at out e =
     record {
       within = omega arith;
-      long = refl;
       written = words-written-same 0 (0 * most) at at [] (words_of []) out out (words-written-none at out) (omega arith) (sym e);
     }
 
 module _ {A : Type 0} {words_of : List A → List ℕ} {most : ℕ} {members : List A} {at : ℕ} {out out' : List ℕ} {next k : ℕ}
     (w : EachWritten words_of most members at out out' next k) where
-  pub each-written-more : (out'' : List ℕ) (r : ℕ) (ws : List ℕ) → k < length members → length out'' ≡ length out'
+  pub each-written-more : (out'' : List ℕ) (r : ℕ) (ws : List ℕ) → k < length members
       → words_of (take (k + 1) members) ≡ words_of (take k members) ++ ws → WordsWritten most next ws out' out'' r
       → EachWritten words_of most members at out out'' r (k + 1)
-  each-written-more out'' r ws h l e q =
+  each-written-more out'' r ws h e q =
       let more : (k + 1) * most ≡ k * most + most = rw (add-one k) (suc-mul k most) in
       record {
         within = omega arith;
-        long = l ∙ w.long;
         written =
             words-written-same (k * most + most) ((k + 1) * most) at r _ _ out out''
             (words-written-more (k * most) most at next r _ ws out out' out'' w.written q) (omega arith) (sym e);

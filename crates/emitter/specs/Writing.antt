@@ -1,6 +1,7 @@
 -- Words written one after the other into a slice, as far as it reaches. It serves the inner functions that write a table.
 use Rattle.std.specs.Prelude.{ℕ, ◌+◌, ◌≤◌, ◌≡◌, List, length}
 use Rattle.std.proofs.lemmas.List.Edits.{sets}
+use Rattle.emitter.specs.declared.writer.Writer.{Writer}
 
 -- What a writer leaves and answers: the words ws stand from index `at` on, those past the end of the slice are left out,
 -- and the answer is the next index in both cases. So a slice of no words serves to count. There are at most `most` words.
@@ -8,6 +9,10 @@ pub record WordsWritten (most at : ℕ) (ws out out' : List ℕ) (r : ℕ) : Typ
   pub words : out' ≡ sets out at ws
   pub next : r ≡ at + length ws
   pub short : length ws ≤ most
+
+-- the same of a writer
+abbrev pub Written : ℕ → List ℕ → Writer → Writer → Type 0
+Written most ws w w' = WordsWritten most w.at ws w.out.now w'.out.now w'.at
 
 -- how far a writer may come
 abbrev pub last_index : ℕ

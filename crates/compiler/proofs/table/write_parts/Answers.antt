@@ -13,12 +13,12 @@ use Rattle.compiler.proofs.table.write_parts.Goals as goal
 
 pub overflow_sub-last : goal.overflow_sub-last
 overflow_sub-last c =
-    let some = (rule-expression _ _ c.requires.accepted).counted.some in
+    let some = (rule-expression _ _ c.requires.compilable.accepted).counted.some in
     omega arith
 
 pub bounds-expression-last : goal.bounds-expression-last
 bounds-expression-last c =
-    let some = (rule-expression _ _ c.requires.accepted).counted.some in
+    let some = (rule-expression _ _ c.requires.compilable.accepted).counted.some in
     omega arith
 
 pub slice_bounds-states_after-end : goal.slice_bounds-states_after-end
@@ -28,7 +28,7 @@ slice_bounds-states_after-end c =
 
 pub states_after-exit-requires : goal.states_after-exit-requires
 states_after-exit-requires c =
-    let p = c.requires in
+    let p = c.requires.compilable in
     let l = c.args.expression.now in
     let few = (rule-expression _ _ p.accepted).counted.few in
     let t = length-take-most l (length l - 1) in
@@ -39,19 +39,19 @@ states_after-exit-requires c =
 
 pub states_of-requires : goal.states_of-requires
 states_of-requires c =
-    let p = c.requires in
+    let p = c.requires.compilable in
     states-countable _ _ (rule-alphabet _ _ p.accepted) (ap length p.constants)
 
 pub word_port-port-requires : goal.word_port-port-requires
 word_port-port-requires c =
     let x =
-    states-few c.args.expression.now (length c.args.expression.now - 1) _ (rule-expression _ _ c.requires.accepted).counted.few
+    states-few c.args.expression.now (length c.args.expression.now - 1) _ (rule-expression _ _ c.requires.compilable.accepted).counted.few
     c.states_after-exit.ensures.1 in
     omega arith
 
-pub push_constants-next-requires : goal.push_constants-next-requires
-push_constants-next-requires c =
-    let p = c.requires in
+pub push_constants-requires : goal.push_constants-requires
+push_constants-requires c =
+    let p = c.requires.compilable in
     let h = rule-alphabet _ _ p.accepted in
     record {
       few = rw p.constants h.constants.few;
@@ -59,23 +59,23 @@ push_constants-next-requires c =
       fits = omega arith;
     }
 
-pub write_words-size-requires : goal.write_words-size-requires
-write_words-size-requires c =
-    let p =
-    c.requires in
-    let n = words-written-next _ _ _ _ _ _ c.push_constants-next.ensures in
+pub write_words-requires : goal.write_words-requires
+write_words-requires c =
+    let p = c.requires.compilable in
+    let n = words-written-next _ _ _ _ _ _ c.push_constants.ensures.written in
     record { accepted = p.accepted; constants = p.constants; fits = omega arith }
 
-pub returns : goal.returns
-returns c =
+pub returns-clause-written : goal.returns-clause-written
+returns-clause-written c =
     let a = c.args in
-    let e = rule-expression _ _ c.requires.accepted in
-    table-written a.alphabet.now a.constants.now a.expression.now e.counted.some _ _ c.word_port-port.result _ _ _ _ _ _ _ _ _
-    c.requires.constants
+    let e = rule-expression _ _ c.requires.compilable.accepted in
+    rw c.requires.at_first
+    (table-written a.alphabet.now a.constants.now a.expression.now e.counted.some _ _ c.word_port-port.result _ _ _ _ _ _ _ _ _
+    c.requires.compilable.constants
     c.states_after-exit.ensures.0
     c.states_of.ensures.0
     c.word_port-port.ensures
-    c.push.ensures
-    c.push_constants-next.ensures
-    c.write_words-size.ensures
-    c.push-2.ensures
+    (rw c.requires.at_first at c.push.ensures.written)
+    c.push_constants.ensures.written
+    c.write_words.ensures.written
+    c.push-2.ensures.written)

@@ -15,8 +15,8 @@ slice_bounds-write_parts-end c =
     let k = c.write_constants-count.ensures in
     sym (length-take-le _ _ (constants-within _ _ _ _ (rule-alphabet _ _ c.requires) refl k.answer k.list))
 
-pub write_parts-requires : goal.write_parts-requires
-write_parts-requires c =
+pub write_parts-requires-clause-compilable : goal.write_parts-requires-clause-compilable
+write_parts-requires-clause-compilable c =
     let k = c.write_constants-count.ensures in
     record {
       accepted = c.requires;

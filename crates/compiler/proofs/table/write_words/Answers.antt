@@ -1,6 +1,6 @@
 -- `compiler::table::write_words` meets its contract: before each turn the transitions of the first i words are written, and those of
 -- the words from i on follow from the next state and the stack.
-use mathlib.Core.Path.{ap}
+use mathlib.Core.Path.{refl, ap, ◌∙◌}
 use native.Mathlib.Omega.{arith}
 use lib.ListN.{length}
 use Rattle.compiler.proofs.AcceptedRuleLaws.{rule-alphabet, rule-expression, states-countable, symbols-emittable}
@@ -12,18 +12,21 @@ use Rattle.compiler.proofs.table.write_words.Goals as goal
 pub loop-w-init : goal.loop-w-init
 loop-w-init c =
     let e = rule-expression _ _ c.requires.accepted in
-    rw c.new-stack.ensures.1 (emitted-none _ _ _ _ _ _ e.words e.shape c.new-stack.ensures.0)
+    record {
+      same_slice = refl;
+      written = rw c.new-stack.ensures.1 (emitted-none _ _ _ _ _ _ e.words e.shape c.new-stack.ensures.0);
+    }
 
 pub top-requires : goal.top-requires
 top-requires c =
     let few = (rule-expression _ _ c.requires.accepted).counted.few in
-    let h = emitted-height c.loop-w.invariant c.loop-w-test.true few in
-    (emitted-children c.loop-w.invariant _ c.loop-w-test.true c.arity-children.ensures, omega arith)
+    let h = emitted-height c.loop-w.invariant.written c.loop-w-test.true few in
+    (emitted-children c.loop-w.invariant.written _ c.loop-w-test.true c.arity-children.ensures, omega arith)
 
 pub invariant_of-word : goal.invariant_of-word
 invariant_of-word c =
     let p = c.requires in
-    let m = c.loop-w.invariant in
+    let m = c.loop-w.invariant.written in
     let a = rule-alphabet _ _ p.accepted in
     let few = (rule-expression _ _ p.accepted).counted.few in
     let h = c.loop-w-test.true in
@@ -35,10 +38,10 @@ invariant_of-word c =
       low = omega arith;
     }
 
-pub push_own-next-requires : goal.push_own-next-requires
-push_own-next-requires c =
+pub push_own-requires : goal.push_own-requires
+push_own-requires c =
     let p = c.requires in
-    let m = c.loop-w.invariant in
+    let m = c.loop-w.invariant.written in
     let few = (rule-expression _ _ p.accepted).counted.few in
     let h = c.loop-w-test.true in
     record {
@@ -52,14 +55,14 @@ push_own-next-requires c =
 pub word_port-requires : goal.word_port-requires
 word_port-requires c =
     let few = (rule-expression _ _ c.requires.accepted).counted.few in
-    let low = c.loop-w.invariant.low in
+    let low = c.loop-w.invariant.written.low in
     let h = c.loop-w-test.true in
     omega arith
 
 pub replace-requires : goal.replace-requires
 replace-requires c =
     let few = (rule-expression _ _ c.requires.accepted).counted.few in
-    (emitted-children c.loop-w.invariant _ c.loop-w-test.true c.arity-children.ensures, emitted-height c.loop-w.invariant c.loop-w-test.true few)
+    (emitted-children c.loop-w.invariant.written _ c.loop-w-test.true c.arity-children.ensures, emitted-height c.loop-w.invariant.written c.loop-w-test.true few)
 
 pub states_of-state-requires : goal.states_of-state-requires
 states_of-state-requires c =
@@ -71,7 +74,7 @@ pub overflow_add-state : goal.overflow_add-state
 overflow_add-state c =
     let p =
     c.requires in
-    let low = c.loop-w.invariant.low in
+    let low = c.loop-w.invariant.written.low in
     let h = c.loop-w-test.true in
     let few = (rule-expression _ _ p.accepted).counted.few in
     let s = c.states_of-state.ensures.1 in
@@ -82,16 +85,16 @@ loop-w-preserved c =
     let p = c.requires in
     let few = (rule-expression _ _ p.accepted).counted.few in
     let k = c.replace.ensures in
-    rw (k.ports, k.height)
-    (emitted-more c.loop-w.invariant _ _ _ _ _ p.constants c.loop-w-test.true few
-    c.arity-children.ensures
-    (rw c.top.ensures at c.push_own-next.ensures) c.push_own-next.auto.out
-    (rw p.constants c.word_port.ensures) c.states_of-state.ensures.0 c.states_of-state.ensures.1)
+    record {
+      same_slice = c.push_own.ensures.same_slice ∙ c.loop-w.invariant.same_slice;
+      written =
+          rw (k.ports, k.height)
+          (emitted-more c.loop-w.invariant.written _ _ _ _ _ p.constants c.loop-w-test.true few
+          c.arity-children.ensures
+          (rw c.top.ensures at c.push_own.ensures.written) (rw p.constants c.word_port.ensures) c.states_of-state.ensures.0 c.states_of-state.ensures.1);
+    }
 
-pub shape_of-out : goal.shape_of-out
-shape_of-out c = c.loop-w.invariant.long
-
-pub returns : goal.returns
-returns c =
-    emitted-end c.loop-w.invariant c.loop-w-test.false (rule-expression _ _
+pub returns-clause-written : goal.returns-clause-written
+returns-clause-written c =
+    emitted-end c.loop-w.invariant.written c.loop-w-test.false (rule-expression _ _
     c.requires.accepted).counted.few

@@ -1,16 +1,16 @@
 -- `emitter::anything::push_exits` meets its contract: before each turn the exit is written i times.
-use mathlib.Core.Path.{refl}
+use mathlib.Core.Path.{refl, ◌∙◌}
 use native.Mathlib.Omega.{arith}
 use Rattle.emitter.proofs.WritingLaws.{words-written-next, each-written-none}
 use Rattle.emitter.proofs.AnythingLaws.{exits-more, exits-end}
 use Rattle.emitter.proofs.anything.push_exits.Goals as goal
 
 pub loop-init : goal.loop-init
-loop-init c = each-written-none _ _ _ _ _ refl
+loop-init c = record { same_slice = refl; written = each-written-none _ _ _ _ _ refl }
 
-pub push-next-requires : goal.push-next-requires
-push-next-requires c =
-    let n = words-written-next _ _ _ _ _ _ c.loop.invariant.written in
+pub push-requires : goal.push-requires
+push-requires c =
+    let n = words-written-next _ _ _ _ _ _ c.loop.invariant.written.written in
     let p = c.requires in
     let t = c.loop-test.true in
     let few = p.0 in
@@ -19,11 +19,10 @@ push-next-requires c =
 
 pub loop-preserved : goal.loop-preserved
 loop-preserved c =
-    exits-more _ _ c.loop.invariant _ _ c.loop-test.true c.push-next.auto.out
-    c.push-next.ensures
+    record {
+      same_slice = c.push.ensures.same_slice ∙ c.loop.invariant.same_slice;
+      written = exits-more _ _ c.loop.invariant.written _ _ c.loop-test.true c.push.ensures.written;
+    }
 
-pub shape_of-out : goal.shape_of-out
-shape_of-out c = c.loop.invariant.long
-
-pub returns : goal.returns
-returns c = exits-end _ _ c.loop.invariant c.loop-test.false c.requires.0
+pub returns-clause-written : goal.returns-clause-written
+returns-clause-written c = exits-end _ _ c.loop.invariant.written c.loop-test.false c.requires.0

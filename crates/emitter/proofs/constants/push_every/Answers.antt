@@ -1,5 +1,5 @@
 -- `emitter::constants::push_every` meets its contract: before each turn the moves of the first k constants are written.
-use mathlib.Core.Path.{refl}
+use mathlib.Core.Path.{refl, ◌∙◌}
 use native.Mathlib.Omega.{arith}
 use Rattle.words.specs.Limits.{constants_most}
 use Rattle.emitter.proofs.WritingLaws.{words-written-next, each-written-none, each-written-end}
@@ -7,7 +7,7 @@ use Rattle.emitter.proofs.ConstantTransitionLaws.{every-pushed-more}
 use Rattle.emitter.proofs.constants.push_every.Goals as goal
 
 pub loop-k-init : goal.loop-k-init
-loop-k-init c = each-written-none _ _ _ _ _ refl
+loop-k-init c = record { same_slice = refl; written = each-written-none _ _ _ _ _ refl }
 
 pub entry_state-entry-requires : goal.entry_state-entry-requires
 entry_state-entry-requires c =
@@ -16,9 +16,9 @@ entry_state-entry-requires c =
     let h = c.loop-k-test.true in
     (p.lt_exit_range, omega arith)
 
-pub push_transition-next-requires : goal.push_transition-next-requires
-push_transition-next-requires c =
-    let w = c.loop-k.invariant in
+pub push_transition-requires : goal.push_transition-requires
+push_transition-requires c =
+    let w = c.loop-k.invariant.written in
     let p = c.requires in
     let few = p.constants_emittable.few in
     let fits = p.constants_emittable.fits in
@@ -29,14 +29,13 @@ push_transition-next-requires c =
 
 pub loop-k-preserved : goal.loop-k-preserved
 loop-k-preserved c =
-    every-pushed-more c.loop-k.invariant _ _ _ c.entry_state-entry.ensures c.loop-k-test.true
-    c.push_transition-next.auto.out c.push_transition-next.ensures
+    record {
+      same_slice = c.push_transition.ensures.same_slice ∙ c.loop-k.invariant.same_slice;
+      written = every-pushed-more c.loop-k.invariant.written _ _ _ c.entry_state-entry.ensures c.loop-k-test.true c.push_transition.ensures.written;
+    }
 
-pub shape_of-out : goal.shape_of-out
-shape_of-out c = c.loop-k.invariant.long
-
-pub returns : goal.returns
-returns c =
-    let i = c.loop-k.invariant.within in
+pub returns-clause-written : goal.returns-clause-written
+returns-clause-written c =
+    let i = c.loop-k.invariant.written.within in
     let few = c.requires.constants_emittable.few in
-    each-written-end c.loop-k.invariant constants_most c.loop-k-test.false (omega arith)
+    each-written-end c.loop-k.invariant.written constants_most c.loop-k-test.false (omega arith)

@@ -16,14 +16,14 @@ push_to_children-requires c =
     let p = c.requires in
     record { fits = p.fits; k_in_bounds = p.k_in_bounds.0 }
 
-pub returns-then-word-k : goal.returns-then-word-k
-returns-then-word-k c =
+pub returns-then-word-k-clause-written : goal.returns-then-word-k-clause-written
+returns-then-word-k-clause-written c =
     let a = c.args in
     product-here a.word.now.constants.now a.word.now.ports.now (entry_state a.word.now.exit a.k) _ _ _ _ _ _ c.requires.k_in_bounds.1
-    c.if-word-k.true c.push_to_children.ensures
+    c.if-word-k.true c.push_to_children.ensures.written
 
-pub returns : goal.returns
-returns c =
+pub returns-clause-written : goal.returns-clause-written
+returns-clause-written c =
     let a = c.args in
     product-other a.word.now.constants.now a.word.now.ports.now (entry_state a.word.now.exit a.k) _ _ _ _ _ _ c.requires.k_in_bounds.1
-    c.if-word-k.false c.push_to_children-2.ensures
+    c.if-word-k.false c.push_to_children-2.ensures.written

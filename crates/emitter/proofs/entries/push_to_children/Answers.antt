@@ -1,4 +1,5 @@
 -- `emitter::entries::push_to_children` meets its contract: before each turn the transitions to the first i children are written.
+use mathlib.Core.Path.{refl, ◌∙◌}
 use native.Mathlib.Omega.{arith}
 use lib.ListN.{get_or}
 use Rattle.words.specs.Limits.{rank_most}
@@ -7,15 +8,15 @@ use Rattle.emitter.proofs.EntryLaws.{children-none, children-more}
 use Rattle.emitter.proofs.entries.push_to_children.Goals as goal
 
 pub loop-port-init : goal.loop-port-init
-loop-port-init c = children-none _ _ _ _ _ _
+loop-port-init c = record { same_slice = refl; written = children-none _ _ _ _ _ _ }
 
 pub entry_at-requires : goal.entry_at-requires
 entry_at-requires c =
     (c.args.word.now.once, (c.requires.k_in_bounds, c.args.word.now.few))
 
-pub push_to-next-requires : goal.push_to-next-requires
-push_to-next-requires c =
-    let w = c.loop-port.invariant in
+pub push_to-requires : goal.push_to-requires
+push_to-requires c =
+    let w = c.loop-port.invariant.written in
     let p = c.requires in
     let k = p.k_in_bounds in
     let few = c.args.word.now.few in
@@ -29,14 +30,13 @@ push_to-next-requires c =
 pub loop-port-preserved : goal.loop-port-preserved
 loop-port-preserved c =
     let a = c.args in
-    children-more a.word.now.constants.now a.word.now.ports.now c.entry_state-from.result (get_or a.word.now.constants.now a.k 0) c.loop-port.invariant
-    _ _ _ _ c.loop-port-test.true c.port-item.is c.entry_at.ensures c.push_to-next.auto.out c.push_to-next.ensures
+    record {
+      same_slice = c.push_to.ensures.same_slice ∙ c.loop-port.invariant.same_slice;
+      written = children-more a.word.now.constants.now a.word.now.ports.now c.entry_state-from.result (get_or a.word.now.constants.now a.k 0) c.loop-port.invariant.written _ _ _ _ c.loop-port-test.true c.port-item.is c.entry_at.ensures c.push_to.ensures.written;
+    }
 
-pub shape_of-out : goal.shape_of-out
-shape_of-out c = c.loop-port.invariant.long
-
-pub returns : goal.returns
-returns c =
-    let i = c.loop-port.invariant.within in
+pub returns-clause-written : goal.returns-clause-written
+returns-clause-written c =
+    let i = c.loop-port.invariant.written.within in
     let few = c.args.word.now.children in
-    rw c.entry_state-from.ensures at (each-written-end c.loop-port.invariant rank_most c.loop-port-test.false (omega arith))
+    rw c.entry_state-from.ensures at (each-written-end c.loop-port.invariant.written rank_most c.loop-port-test.false (omega arith))

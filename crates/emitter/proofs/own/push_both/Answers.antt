@@ -2,7 +2,7 @@
 use Rattle.emitter.proofs.WritingLaws.{words-written-more}
 use Rattle.emitter.proofs.own.push_both.Goals as goal
 
-pub returns : goal.returns
-returns c =
-    words-written-more 1 1 _ _ _ _ _ _ _ _ c.push_epsilon-next.ensures
-    c.push_epsilon.ensures
+pub returns-clause-written : goal.returns-clause-written
+returns-clause-written c =
+    words-written-more 1 1 _ _ _ _ _ _ _ _ c.push_epsilon.ensures.written
+    c.push_epsilon-2.ensures.written

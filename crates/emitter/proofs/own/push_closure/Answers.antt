@@ -8,12 +8,12 @@ use Rattle.emitter.proofs.own.push_closure.Goals as goal
 pub push_entries-requires : goal.push_entries-requires
 push_entries-requires c =
     let fits = c.requires.fits in
-    let m = words-written-next _ _ _ _ _ _ c.push_to-second.ensures in
-    let n = words-written-next _ _ _ _ _ _ c.push_epsilon-next.ensures in
+    let m = words-written-next _ _ _ _ _ _ c.push_to.ensures.written in
+    let n = words-written-next _ _ _ _ _ _ c.push_epsilon.ensures.written in
     record { fits = omega arith; targetable = c.requires.ports_len.0 }
 
-pub returns : goal.returns
-returns c =
+pub returns-clause-written : goal.returns-clause-written
+returns-clause-written c =
     let a = c.args in
     let one = c.requires.ports_len.0 in
     let x = c.exit_of.ensures.0 in
@@ -23,6 +23,6 @@ returns c =
     (to-entry a.word.now.constants.now a.word.now.ports.now 0 c.index-word-0.result _ a.c _ _ _ _ _ _ (omega arith)
     c.entry_at-entry.ensures
     c.constant_index.ensures.1
-    c.push_to-second.ensures)
-    (rw (y, ← x) at c.push_epsilon-next.ensures)
-    c.push_entries.ensures
+    c.push_to.ensures.written)
+    (rw (y, ← x) at c.push_epsilon.ensures.written)
+    c.push_entries.ensures.written

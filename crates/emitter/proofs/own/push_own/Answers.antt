@@ -30,53 +30,53 @@ push_anything-requires c =
     let p = c.requires in
     record { symbols_emittable = p.symbols_emittable.0; fits = p.fits }
 
-pub returns-in-Symbol : goal.returns-in-Symbol
-returns-in-Symbol c =
+pub returns-in-Symbol-clause-written : goal.returns-in-Symbol-clause-written
+returns-in-Symbol-clause-written c =
     let a = c.args in
     let kind = told-kind _ _ c.kind_of-kind.ensures Symbol c.in-Symbol.is in
     transitions-written _ _ _ _ _ _ _
     (own-symbol a.alphabet.now a.w (full_port a.word.now.constants.now a.word.now.exit) a.word.now.constants.now a.word.now.ports.now kind)
-    c.push_symbol.ensures
+    c.push_symbol.ensures.written
 
-pub returns-in-Union : goal.returns-in-Union
-returns-in-Union c =
+pub returns-in-Union-clause-written : goal.returns-in-Union-clause-written
+returns-in-Union-clause-written c =
     let a = c.args in
     let p = c.requires.symbols_emittable.1 in
     let kind = told-kind _ _ c.kind_of-kind.ensures Union c.in-Union.is in
     transitions-written _ _ _ _ _ _ _
     (own-union a.alphabet.now a.w (full_port a.word.now.constants.now a.word.now.exit) a.word.now.constants.now a.word.now.ports.now (p.union kind) kind)
-    c.push_union.ensures
+    c.push_union.ensures.written
 
-pub returns-in-Product : goal.returns-in-Product
-returns-in-Product c =
+pub returns-in-Product-clause-written : goal.returns-in-Product-clause-written
+returns-in-Product-clause-written c =
     let a = c.args in
     let p = c.requires.symbols_emittable.1 in
     let kind = told-kind _ _ c.kind_of-kind.ensures Product c.in-Product.is in
     transitions-written _ _ _ _ _ _ _
     (own-product a.alphabet.now a.w (full_port a.word.now.constants.now a.word.now.exit) a.word.now.constants.now a.word.now.ports.now
     (p.product kind).0 kind)
-    c.push_product.ensures
+    c.push_product.ensures.written
 
-pub returns-in-Closure : goal.returns-in-Closure
-returns-in-Closure c =
+pub returns-in-Closure-clause-written : goal.returns-in-Closure-clause-written
+returns-in-Closure-clause-written c =
     let a = c.args in
     let p = c.requires.symbols_emittable.1 in
     let kind = told-kind _ _ c.kind_of-kind.ensures Closure c.in-Closure.is in
     transitions-written _ _ _ _ _ _ _
     (own-closure a.alphabet.now a.w (full_port a.word.now.constants.now a.word.now.exit) a.word.now.constants.now a.word.now.ports.now
     (p.closure kind).0 kind)
-    c.push_closure.ensures
+    c.push_closure.ensures.written
 
-pub returns-in-Anything : goal.returns-in-Anything
-returns-in-Anything c =
+pub returns-in-Anything-clause-written : goal.returns-in-Anything-clause-written
+returns-in-Anything-clause-written c =
     let a = c.args in
     let kind = told-kind _ _ c.kind_of-kind.ensures Anything c.in-Anything.is in
     transitions-written _ _ _ _ _ _ _
     (own-anything a.alphabet.now a.w (full_port a.word.now.constants.now a.word.now.exit) a.word.now.constants.now a.word.now.ports.now kind)
-    c.push_anything.ensures
+    c.push_anything.ensures.written
 
-pub returns-in_default : goal.returns-in_default
-returns-in_default c =
+pub returns-in_default-clause-written : goal.returns-in_default-clause-written
+returns-in_default-clause-written c =
     let a = c.args in
     no-transitions-written _ _ _ _
     (own-other a.alphabet.now a.w (full_port a.word.now.constants.now a.word.now.exit) a.word.now.constants.now a.word.now.ports.now

@@ -5,30 +5,30 @@ use Rattle.emitter.proofs.EntryLaws.{to-entry}
 use Rattle.emitter.proofs.OwnLaws.{child-exit, product-own}
 use Rattle.emitter.proofs.own.push_product.Goals as goal
 
-pub push_to-next-requires : goal.push_to-next-requires
-push_to-next-requires c =
+pub push_to-requires : goal.push_to-requires
+push_to-requires c =
     let fits = c.requires.fits in
-    let n = words-written-next _ _ _ _ _ _ c.push_epsilon-second.ensures in
+    let n = words-written-next _ _ _ _ _ _ c.push_epsilon.ensures.written in
     let x = c.exit_of-2.ensures.1 in
     (omega arith, (omega arith, c.entry_at-entry.ensures.low))
 
 pub push_entries-requires : goal.push_entries-requires
 push_entries-requires c =
     let fits = c.requires.fits in
-    let m = words-written-next _ _ _ _ _ _ c.push_epsilon-second.ensures in
-    let n = words-written-next _ _ _ _ _ _ c.push_to-next.ensures in
+    let m = words-written-next _ _ _ _ _ _ c.push_epsilon.ensures.written in
+    let n = words-written-next _ _ _ _ _ _ c.push_to.ensures.written in
     record { fits = omega arith; targetable = c.requires.ports_len.0 }
 
-pub returns : goal.returns
-returns c =
+pub returns-clause-written : goal.returns-clause-written
+returns-clause-written c =
     let a = c.args in
     let two = c.requires.ports_len.0 in
     product-own a.word.now.constants.now a.word.now.ports.now _ _ _ _ _ _ _ _ _ _ _ _
     (child-exit a.word.now.constants.now a.word.now.ports.now 0 c.index-word-0.result (omega arith) c.exit_of.ensures.0)
     (child-exit a.word.now.constants.now a.word.now.ports.now 1 c.index-word-1.result (omega arith) c.exit_of-2.ensures.0)
-    c.push_epsilon-second.ensures
+    c.push_epsilon.ensures.written
     (to-entry a.word.now.constants.now a.word.now.ports.now 0 c.index-word-0.result _ a.c _ _ _ _ _ _ (omega arith)
     c.entry_at-entry.ensures
     c.constant_index.ensures.1
-    c.push_to-next.ensures)
-    c.push_entries.ensures
+    c.push_to.ensures.written)
+    c.push_entries.ensures.written

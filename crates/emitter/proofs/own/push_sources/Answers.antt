@@ -1,5 +1,5 @@
 -- `emitter::own::push_sources` meets its contract: before each turn the first i children's exits are written.
-use mathlib.Core.Path.{refl}
+use mathlib.Core.Path.{refl, ◌∙◌}
 use native.Mathlib.Omega.{arith}
 use Rattle.words.specs.Limits.{rank_most}
 use Rattle.emitter.proofs.WritingLaws.{words-written-next, each-written-none, each-written-end}
@@ -7,11 +7,11 @@ use Rattle.emitter.proofs.SourceLaws.{sourced-more}
 use Rattle.emitter.proofs.own.push_sources.Goals as goal
 
 pub loop-port-init : goal.loop-port-init
-loop-port-init c = each-written-none _ _ _ _ _ refl
+loop-port-init c = record { same_slice = refl; written = each-written-none _ _ _ _ _ refl }
 
-pub push-next-requires : goal.push-next-requires
-push-next-requires c =
-    let w = c.loop-port.invariant in
+pub push-requires : goal.push-requires
+push-requires c =
+    let w = c.loop-port.invariant.written in
     let p = c.requires in
     let n = words-written-next _ _ _ _ _ _ w.written in
     let t = c.loop-port-test.true in
@@ -21,15 +21,13 @@ push-next-requires c =
 
 pub loop-port-preserved : goal.loop-port-preserved
 loop-port-preserved c =
-    sourced-more c.loop-port.invariant _ _ _ _
-    c.loop-port-test.true c.port-item.is c.exit_of.ensures.0
-    c.push-next.auto.out c.push-next.ensures
+    record {
+      same_slice = c.push.ensures.same_slice ∙ c.loop-port.invariant.same_slice;
+      written = sourced-more c.loop-port.invariant.written _ _ _ _ c.loop-port-test.true c.port-item.is c.exit_of.ensures.0 c.push.ensures.written;
+    }
 
-pub shape_of-out : goal.shape_of-out
-shape_of-out c = c.loop-port.invariant.long
-
-pub returns : goal.returns
-returns c =
-    let i = c.loop-port.invariant.within in
+pub returns-clause-written : goal.returns-clause-written
+returns-clause-written c =
+    let i = c.loop-port.invariant.written.within in
     let few = c.requires.0 in
-    each-written-end c.loop-port.invariant rank_most c.loop-port-test.false (omega arith)
+    each-written-end c.loop-port.invariant.written rank_most c.loop-port-test.false (omega arith)

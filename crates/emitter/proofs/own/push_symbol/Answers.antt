@@ -7,8 +7,8 @@ use Rattle.emitter.proofs.OwnLaws.{symbol-own}
 use Rattle.emitter.proofs.OwnKindLaws.{symbol-none, no-transitions-written}
 use Rattle.emitter.proofs.own.push_symbol.Goals as goal
 
-pub returns-then-word-eq0 : goal.returns-then-word-eq0
-returns-then-word-eq0 c =
+pub returns-then-word-eq0-clause-written : goal.returns-then-word-eq0-clause-written
+returns-then-word-eq0-clause-written c =
     let a = c.args in
     no-transitions-written _ _ _ _ (symbol-none a.symbol (full_port a.word.now.constants.now a.word.now.exit) a.word.now.constants.now a.word.now.ports.now
     c.if-word-eq0.true)
@@ -16,14 +16,14 @@ returns-then-word-eq0 c =
 pub push_entries-requires : goal.push_entries-requires
 push_entries-requires c =
     let fits = c.requires.fits in
-    let m = words-written-next _ _ _ _ _ _ c.push_transition-sources.ensures in
-    let n = words-written-next _ _ _ _ _ _ c.push_sources-next.ensures in
+    let m = words-written-next _ _ _ _ _ _ c.push_transition.ensures.written in
+    let n = words-written-next _ _ _ _ _ _ c.push_sources.ensures.written in
     record { fits = omega arith; targetable = tt }
 
-pub returns : goal.returns
-returns c =
+pub returns-clause-written : goal.returns-clause-written
+returns-clause-written c =
     let a = c.args in
     symbol-own a.word.now.constants.now a.word.now.ports.now _ _ _ _ _ _ _ _ _ _ c.if-word-eq0.false
-    c.push_transition-sources.ensures
-    c.push_sources-next.ensures
-    c.push_entries.ensures
+    c.push_transition.ensures.written
+    c.push_sources.ensures.written
+    c.push_entries.ensures.written

@@ -7,15 +7,15 @@ use Rattle.emitter.proofs.own.push_union.Goals as goal
 pub push_entries-requires : goal.push_entries-requires
 push_entries-requires c =
     let fits = c.requires.fits in
-    let n = words-written-next _ _ _ _ _ _ c.push_both-next.ensures in
+    let n = words-written-next _ _ _ _ _ _ c.push_both.ensures.written in
     record { fits = omega arith; targetable = tt }
 
-pub returns : goal.returns
-returns c =
+pub returns-clause-written : goal.returns-clause-written
+returns-clause-written c =
     let a = c.args in
     let two = c.requires.ports_len in
     union-own a.word.now.constants.now a.word.now.ports.now _ _ _ _ _ _ _ _ _
     two
     (child-exit a.word.now.constants.now a.word.now.ports.now 0 c.index-word-0.result (omega arith) c.exit_of-first.ensures.0)
     (child-exit a.word.now.constants.now a.word.now.ports.now 1 c.index-word-1.result (omega arith) c.exit_of-second.ensures.0)
-    c.push_both-next.ensures c.push_entries.ensures
+    c.push_both.ensures.written c.push_entries.ensures.written
