@@ -1,15 +1,11 @@
--- Compile's conditions 6, 25 and 7 of what the code counts, and the answer and the table slice of a call.
+-- The answer and the table slice of a call of Compile, refused or accepted.
 use mathlib.Core.Path.{◌≡◌, refl, ap, ◌∙◌, sym}
-use mathlib.Core.Bool.{true, false}
 use mathlib.Core.List.{List, [], ◌∷◌}
-use Prim.Native.Nat.{ℕ, ◌+◌, ◌<◌, ◌≤◌}
+use Prim.Native.Nat.{ℕ, ◌+◌}
 use native.Mathlib.Omega.{arith}
 use native.Mathlib.Nat.{zero-add}
 use lib.ListN.{length}
 use lib.Seq.{sets}
-use borrow.Author.Tests.{lt-ltb, le-ltb}
-use Rattle.words.specs.Limits.{states_most, table_most}
-use Rattle.words.specs.Refusal.{refusal}
 use Rattle.words.specs.Decoded.{number_in}
 use Rattle.words.specs.declared.refusal.Refusal.{Refusal}
 use Rattle.words.specs.declared.refusal.Refusal.TheVariants.{NoAlphabet, WrongConstants, WrongLength, NotExpressionWords, NotOneExpression, TooManyStates, TableTooLong, NoTable, WrongCount, NotNodes}
@@ -17,43 +13,13 @@ use Rattle.words.specs.declared.refusal.Refusal.TheVariants.{NotOneTree, MarksTo
 use Rattle.words.specs.Answer.{refused, accepted}
 use Rattle.words.proofs.ListLaws.{sets-whole}
 use Rattle.words.proofs.AnswerLaws.{answer-refused, answer-accepted, exit-refused, exit-accepted}
-use Rattle.automaton.specs.Numbering.{states_after, compiled}
-use Rattle.operations.specs.Compile.{compiled_table, too_many_states, too_many_words, table_too_long, rule_refusals, compile_fault}
+use Rattle.operations.specs.Compile.{compiled_table, compile_fault}
 use Rattle.operations.specs.Compile.{compile_answer, compile_exit}
 use Rattle.operations.proofs.AcceptedLaws.{compile-accepted}
 
--- ---- 6, 25 and 7
-
-module _ (a e : List ℕ) (s : ℕ) (q : s ≡ states_after a 0 e) where
-  pub states-above : states_most < s → too_many_states a e ≡ true
-  unfolding too_many_states compiled
-  states-above l = lt-ltb states_most (states_after a 0 e) (omega arith)
-
-  pub states-within : s ≤ states_most → too_many_states a e ≡ false
-  unfolding too_many_states compiled
-  states-within l = le-ltb states_most (states_after a 0 e) (omega arith)
-
-module _ (a e : List ℕ) (n : ℕ) (t : n ≡ 0 + length (compiled_table a e)) where
-  pub words-above : table_most < n → too_many_words a e ≡ true
-  unfolding too_many_words
-  words-above l = lt-ltb table_most (length (compiled_table a e)) (omega arith)
-
-  pub words-within : n ≤ table_most → too_many_words a e ≡ false
-  unfolding too_many_words
-  words-within l = le-ltb table_most (length (compiled_table a e)) (omega arith)
-
-module _ (a e : List ℕ) (table_length n : ℕ) (t : n ≡ 0 + length (compiled_table a e)) where
-  pub table-over : table_length < n → table_too_long a e table_length ≡ true
-  unfolding table_too_long
-  table-over l = lt-ltb table_length (length (compiled_table a e)) (omega arith)
-
-  pub table-within : n ≤ table_length → table_too_long a e table_length ≡ false
-  unfolding table_too_long
-  table-within l = le-ltb table_length (length (compiled_table a e)) (omega arith)
-
 -- ---- the answer and the table slice at exit
 
-number-some : (d : Refusal) → number_in d ≡ 0 → ⊥
+pub number-some : (d : Refusal) → number_in d ≡ 0 → ⊥
 number-some NoAlphabet h = omega arith
 number-some WrongConstants h = omega arith
 number-some WrongLength h = omega arith
@@ -82,9 +48,6 @@ module _ (a e slice : List ℕ) where
   compile-refused d h = (answer-refused h _ (number-some d), exit-refused h _ slice (number-some d))
 
   module _ (h : 0 ≡ compile_fault a e (length slice)) where
-    pub rule-passes : refusal (rule_refusals a e) ≡ 0
-    rule-passes = (compile-accepted a e (length slice) (sym h)).rule_table.rule
-
     pub compile-accepts : (n : ℕ) (out : List ℕ) → n ≡ 0 + length (compiled_table a e) → out ≡ sets slice 0 (compiled_table a e)
         → (accepted (n ∷ []) ≡ compile_answer a e slice) × (out ≡ compile_exit a e slice)
     unfolding compile_answer compile_exit

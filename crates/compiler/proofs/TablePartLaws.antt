@@ -1,17 +1,13 @@
 -- Laws of a rule's table: the last word's states, and the table's words in four parts.
-use mathlib.Core.Path.{◌≡◌, refl, ap, ap₂, ◌∙◌, sym, subst}
-use mathlib.Core.Bool.{true}
+use mathlib.Core.Path.{◌≡◌, refl, ap, ap₂, ◌∙◌, sym}
 use mathlib.Core.List.{List, [], ◌∷◌, ◌++◌}
 use Prim.Native.Nat.{ℕ, suc, ◌+◌, ◌-◌, ◌<◌}
 use native.Mathlib.Omega.{arith}
 use lib.ListN.{length, get_or, take}
 use lib.Seq.{take-suc, take_all}
 use Rattle.words.specs.Limits.{constants_most}
-use Rattle.words.specs.Lists.{all}
 use Rattle.words.specs.Word.{head_kind, word_of, above_state}
 use Rattle.words.specs.Alphabet.{constants_of}
-use Rattle.words.specs.ExpressionWords.{is_expression_word}
-use Rattle.words.proofs.TestLaws.{and-true, all_right}
 use Rattle.automaton.specs.Transition.{transitions_words, length_word}
 use Rattle.automaton.specs.Numbering.{Port as States, states_of, port_of, states_after, transitions_from, last_port, compiled}
 use Rattle.automaton.specs.Numbering.{constant_transitions}
@@ -51,13 +47,6 @@ module _ (a : List ℕ) where
 
     last_port-last : last_port a e ≡ port_of a (states_after a 0 front) last
     last_port-last = ap (last_port a) (before_last e some) ∙ last_port-snoc a front last
-
-    -- the last word is a rule word
-    pub word-last : all (is_expression_word a) e ≡ true → is_expression_word a last ≡ true
-    word-last h =
-        (and-true (is_expression_word a last) true
-        (all_right (is_expression_word a) front (last ∷ []) (subst (λ (l : List ℕ). all (is_expression_word a) l ≡ true)
-        (before_last e some) h))).0
 
 -- ---- the table in four parts
 

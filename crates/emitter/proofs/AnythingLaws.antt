@@ -1,24 +1,24 @@
 -- Laws of the own transitions of anything, and of the loops that write them: the part states of a symbol move, and the symbols.
 use mathlib.Core.Path.{◌≡◌, refl, sym}
 use mathlib.Core.List.{List, [], ◌∷◌, append-nil}
-use Prim.Native.Nat.{ℕ, ◌+◌, ◌<◌, ◌≤◌}
+use Prim.Native.Nat.{ℕ, ◌+◌, ◌<◌}
 use native.Mathlib.Omega.{arith}
 use native.Mathlib.Nat.{zero-add}
 use native.Mathlib.Numerals.{add-one}
 use lib.ListN.{length, get_or, take, replicate, length-replicate, get_or-replicate}
 use lib.Seq.{take-suc, length-take-le}
 use borrow.Author.Tests.{eq-eqb, ne_eqb}
-use Rattle.words.specs.Limits.{alphabet_most, rank_most}
+use Rattle.words.specs.Limits.{rank_most}
 use Rattle.words.specs.Word.{source_kind, word_of}
 use Rattle.words.specs.Alphabet.{entry_rank}
 use Rattle.words.proofs.ListLaws.{map-append}
 use Rattle.automaton.specs.Transition.{on_symbol, source_words, transition_words, transitions_words}
 use Rattle.automaton.specs.Numbering.{full_port, every_symbol, anything_targets, anything_transitions}
 use Rattle.automaton.proofs.TransitionLaws.{transitions_words-append, every_symbol-append}
-use Rattle.emitter.specs.Writing.{WordsWritten, last_index}
+use Rattle.emitter.specs.Writing.{WordsWritten}
 use Rattle.emitter.specs.Emission.{symbol_words_most, every_symbol_most, entries_words_most, own_words_most}
-use Rattle.emitter.proofs.WritingLaws.{words-written-none, words-written-more, words-written-same, words-written-next}
-use Rattle.emitter.proofs.WritingLaws.{EachWritten, each-written-none, each-written-more, each-written-end}
+use Rattle.emitter.proofs.WritingLaws.{words-written-none, words-written-more, words-written-same}
+use Rattle.emitter.proofs.WritingLaws.{EachWritten, each-written-none, each-written-more}
 use Rattle.emitter.proofs.EntryEpsilonLaws.{entry_epsilon_words}
 
 -- ---- the exit in every part
@@ -28,9 +28,6 @@ abbrev pub ExitsPushed : ℕ → ℕ → ℕ → List ℕ → List ℕ → ℕ �
 ExitsPushed n x = EachWritten source_words 1 (replicate n x)
 
 module _ (n x : ℕ) {at : ℕ} {out out' : List ℕ} {next i : ℕ} (w : ExitsPushed n x at out out' next i) where
-  pub exits-within : i ≤ n
-  exits-within = let l = length-replicate {A = ℕ} n x in let h = w.within in omega arith
-
   pub exits-more : (out'' : List ℕ) (r : ℕ) → i < n
       → WordsWritten 1 next (word_of source_kind x ∷ []) out' out'' r → ExitsPushed n x at out out'' r (i + 1)
   exits-more out'' r h q =
@@ -39,12 +36,6 @@ module _ (n x : ℕ) {at : ℕ} {out out' : List ℕ} {next i : ℕ} (w : ExitsP
       each-written-more w out'' r _ h'
       (rw (add-one i, take-suc (replicate n x) i 0 h', get_or-replicate n i x 0 h)
       (map-append (λ p. word_of source_kind p) (take i (replicate n x)) (x ∷ []))) q
-
-  pub exits-end : n ≤ i → n ≤ rank_most → WordsWritten rank_most at (source_words (replicate n x)) out out' next
-  exits-end h few =
-      let long = length-replicate {A = ℕ} n x in
-      let k = exits-within in
-      each-written-end w rank_most (omega arith) (omega arith)
 
 -- ---- one symbol
 
@@ -79,10 +70,6 @@ unfolding every_symbol
 symbols-none a x at out = each-written-none _ symbol_words_most a at out refl
 
 module _ {a : List ℕ} (x : ℕ) {at : ℕ} {out out' : List ℕ} {next k : ℕ} (w : SymbolsPushed a x at out out' next k) where
-  -- there is room for the next symbol's move
-  pub symbols-fit : k < length a → length a ≤ alphabet_most → at + every_symbol_most ≤ last_index → next + symbol_words_most ≤ last_index
-  symbols-fit h few fits = let n = words-written-next _ _ _ _ _ _ w.written in omega arith
-
   pub symbols-more : (out'' : List ℕ) (r : ℕ) → k < length a
       → WordsWritten symbol_words_most next (transitions_words (every_symbol x k (get_or a k 0 ∷ []))) out' out'' r
       → SymbolsPushed a x at out out'' r (k + 1)
@@ -91,10 +78,6 @@ module _ {a : List ℕ} (x : ℕ) {at : ℕ} {out out' : List ℕ} {next k : ℕ
       each-written-more w out'' r _ h
       (rw (add-one k, take-suc a k 0 h, every_symbol-append x 0 (take k a) (get_or a k 0 ∷ []), n, zero-add k)
       (transitions_words-append (every_symbol x 0 (take k a)) (every_symbol x k (get_or a k 0 ∷ [])))) q
-
-  pub symbols-end : length a ≤ k → length a ≤ alphabet_most
-      → WordsWritten every_symbol_most at (transitions_words (every_symbol x 0 a)) out out' next
-  symbols-end h few = let i = w.within in each-written-end w every_symbol_most h (omega arith)
 
 -- ---- and the entries
 

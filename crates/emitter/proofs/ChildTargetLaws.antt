@@ -12,8 +12,7 @@ use Rattle.automaton.specs.Numbering.{Port as States, entry_for, symbol_targets,
 use Rattle.ports.specs.declared.states.Port.{Port}
 use Rattle.ports.specs.Ports.{port_in, ports_in, child_in}
 use Rattle.emitter.specs.Writing.{WordsWritten}
-use Rattle.emitter.specs.declared.entries.Targets.{Targets}
-use Rattle.emitter.specs.Emission.{entry_words_most, targets_in, Targetable}
+use Rattle.emitter.specs.Emission.{entry_words_most}
 use Rattle.emitter.proofs.WritingLaws.{words-written-more, words-written-same}
 use Rattle.emitter.proofs.EntryLaws.{epsilon_words, epsilon_words-append}
 
@@ -98,13 +97,3 @@ module _ (cs : List ℕ) (ps : List Port) (from b c at : ℕ) (out out' : List �
   closure-other one x n w =
       words-written-same rank_most entry_words_most at r _ _ out out' w (omega arith)
       (rw (ne_eqb b c n, targets-single cs ps b one) (ap (epsilon_words from) (sym (append-nil (entry_for F b)))))
-
--- ---- any of the three
-
-pub targetable-said : (ps : List Port) (targets t : Targets) → targets ≡ t → Targetable targets ps → Targetable t ps
-targetable-said ps targets t e h = rw e at h
-
-pub targets-said : (cs : List ℕ) (ps : List Port) (x from b at : ℕ) (out out' : List ℕ) (r : ℕ) (targets t : Targets) (m : ℕ) → m ≤ entry_words_most
-    → targets ≡ t → WordsWritten m at (epsilon_words from (targets_in cs ps x t b)) out out' r
-    → WordsWritten entry_words_most at (epsilon_words from (targets_in cs ps x targets b)) out out' r
-targets-said cs ps x from b at out out' r targets t m le e w = rw e (words-written-same m entry_words_most at r _ _ out out' w le refl)

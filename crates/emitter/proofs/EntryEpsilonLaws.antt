@@ -1,18 +1,16 @@
 -- Laws of the loop over the constants that writes the epsilon transitions from a word's entries.
 use mathlib.Core.Path.{◌≡◌, ap, ◌∙◌}
 use mathlib.Core.List.{List, [], ◌∷◌, ◌++◌, append-nil}
-use Prim.Native.Nat.{ℕ, ◌+◌, ◌<◌, ◌≤◌}
-use native.Mathlib.Omega.{arith}
+use Prim.Native.Nat.{ℕ, ◌+◌, ◌<◌}
 use lib.ListN.{length, get_or, take}
-use Rattle.words.specs.Limits.{constants_most}
 use Rattle.automaton.specs.Transition.{Transition, transitions_words}
 use Rattle.automaton.specs.Numbering.{full_entries, epsilons, entry_epsilons}
 use Rattle.automaton.proofs.TransitionLaws.{transitions_words-append, entry_epsilons-append}
 use Rattle.ports.specs.Ports.{entry_state}
 use Rattle.ports.proofs.PortLaws.{entries-more}
-use Rattle.emitter.specs.Writing.{WordsWritten, last_index}
-use Rattle.emitter.specs.Emission.{entry_words_most, entries_words_most}
-use Rattle.emitter.proofs.WritingLaws.{words-written-next, EachWritten, each-written-more}
+use Rattle.emitter.specs.Writing.{WordsWritten}
+use Rattle.emitter.specs.Emission.{entry_words_most}
+use Rattle.emitter.proofs.WritingLaws.{EachWritten, each-written-more}
 
 -- the words of the transitions from the entries for the constants, where x is the word's exit
 abbrev pub entry_epsilon_words : ℕ → List ℕ → (ℕ → List ℕ) → List ℕ
@@ -38,11 +36,6 @@ EntriesWritten cs targets x = EachWritten (λ l. entry_epsilon_words x l targets
 
 module _ {cs : List ℕ} {targets : ℕ → List ℕ} {x at : ℕ} {out out' : List ℕ} {next k : ℕ}
     (w : EntriesWritten cs targets x at out out' next k) where
-  -- there is room for the next constant's transitions
-  pub entries_written-fits : k < length cs → length cs ≤ constants_most → at + entries_words_most ≤ last_index
-      → next + entry_words_most ≤ last_index
-  entries_written-fits h few fits = let n = words-written-next _ _ _ _ _ _ w.written in omega arith
-
   pub entries_written-more : (out'' : List ℕ) (r : ℕ) → k < length cs
       → WordsWritten entry_words_most next (transitions_words (epsilons (entry_state x k) (targets (get_or cs k 0)))) out' out'' r
       → EntriesWritten cs targets x at out out'' r (k + 1)

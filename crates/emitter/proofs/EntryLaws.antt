@@ -1,21 +1,18 @@
 -- Laws of epsilon transitions to the entries of a word's children: one entry more, and the loop over the children.
 use mathlib.Core.Path.{◌≡◌, refl, ap, ◌∙◌, sym}
 use mathlib.Core.List.{List, [], ◌∷◌, ◌++◌, map, flat_map, append_assoc, append-nil}
-use Rattle.std.specs.Prelude.{Option, Some, None}
+use Rattle.std.specs.Prelude.{Option}
 use Prim.Native.Nat.{ℕ, suc, ◌+◌, ◌<◌}
-use native.Mathlib.Omega.{arith}
 use native.Mathlib.Numerals.{add-one}
 use lib.ListN.{length, get_or, take}
 use lib.Seq.{take-suc}
 use Rattle.words.proofs.ListLaws.{map-append}
-use Rattle.automaton.specs.Transition.{epsilon, transition_words, transitions_words}
-use Rattle.automaton.specs.Numbering.{Port as States, entry_for, epsilons, symbol_targets}
+use Rattle.automaton.specs.Transition.{epsilon, transitions_words}
+use Rattle.automaton.specs.Numbering.{entry_for, epsilons, symbol_targets}
 use Rattle.automaton.proofs.TransitionLaws.{transitions_words-append}
 use Rattle.ports.specs.declared.states.Port.{Port}
-use Rattle.ports.proofs.PortLaws.{child-at}
-use Rattle.ports.specs.Ports.{port_in, ports_in, child_in, states_of_entry, entry_range, Low, EntryRead}
+use Rattle.ports.specs.Ports.{port_in, ports_in, states_of_entry, EntryRead}
 use Rattle.emitter.specs.Writing.{WordsWritten}
-use Rattle.emitter.proofs.WritingLaws.{words-written-none, words-written-same}
 use Rattle.emitter.proofs.WritingLaws.{EachWritten, each-written-none, each-written-more}
 
 -- the words of the epsilon transitions from a state to states
@@ -25,29 +22,6 @@ epsilon_words from qs = transitions_words (epsilons from qs)
 pub epsilon_words-append : (from : ℕ) (qs rs : List ℕ) → epsilon_words from (qs ++ rs) ≡ epsilon_words from qs ++ epsilon_words from rs
 epsilon_words-append from qs rs =
     ap transitions_words (map-append (λ q. epsilon from q) qs rs) ∙ transitions_words-append (epsilons from qs) (epsilons from rs)
-
--- ---- to one entry
-
-module _ (to : Option ℕ) (from at : ℕ) (out : List ℕ) where
-  pub to-missing : to ≡ None → WordsWritten 1 at (epsilon_words from (states_of_entry to)) out out at
-  to-missing e = rw e (words-written-same 0 1 at at [] [] out out (words-written-none at out) (omega arith) refl)
-
-  pub to-state : (s : ℕ) → to ≡ Some s → (out' : List ℕ) (r : ℕ) → WordsWritten 1 at (transition_words (epsilon from s)) out out' r
-      → WordsWritten 1 at (epsilon_words from (states_of_entry to)) out out' r
-  to-state s e out' r w = rw e w
-
-pub low-state : (to : Option ℕ) (s : ℕ) → to ≡ Some s → Low to → s < entry_range
-low-state to s e h = rw e at h
-
--- the entry of the child with index i for the constant c
-pub to-entry : (cs : List ℕ) (ps : List Port) (i : ℕ) (p : Port) (b c from at : ℕ) (to : Option ℕ) (out out' : List ℕ) (r : ℕ)
-    → i < length ps → EntryRead cs (get_or ps i p) b to → b ≡ c
-    → WordsWritten 1 at (epsilon_words from (states_of_entry to)) out out' r
-    → WordsWritten 1 at (epsilon_words from (entry_for (child_in cs ps i) c)) out out' r
-to-entry cs ps i p b c from at to out out' r l h e w =
-    words-written-same 1 1 at r _ _ out out' w (omega arith)
-    (ap (epsilon_words from)
-    (h.states ∙ ap (entry_for (port_in cs (get_or ps i p))) e ∙ ap (λ (P : States). entry_for P c) (sym (child-at cs ps i p l))))
 
 -- ---- to the children's entries
 

@@ -22,11 +22,6 @@ use Rattle.emitter.specs.Writing.{WordsWritten}
 use Rattle.emitter.proofs.WritingLaws.{words-written-none, words-written-same}
 use Rattle.emitter.proofs.ChildTargetLaws.{both, single}
 
--- a symbol over no children has none
-pub symbol-none : (f : ℕ) (E : States) (cs : List ℕ) (ps : List Port) → length ps ≡ 0 → symbol_transitions f E (ports_in cs ps) ≡ []
-symbol-none f E cs [] h = refl
-symbol-none f E cs (p ∷ ps) h = absurd (omega arith)
-
 module _ (a : List ℕ) (w : ℕ) (E : States) (cs : List ℕ) where
   abbrev own : List Port → List Transition
   own ps = own_transitions a w E (ports_in cs ps)

@@ -6,16 +6,15 @@ use native.Mathlib.Omega.{arith}
 use lib.ListN.{length, get_or}
 use Rattle.words.specs.Limits.{rank_most}
 use Rattle.automaton.specs.Transition.{Transition, on_symbol, epsilon, source_words, transition_words, transitions_words}
-use Rattle.automaton.specs.Numbering.{Port as States, full_entries, entry_for, epsilons, symbol_targets, union_targets, product_targets, closure_targets}
-use Rattle.automaton.specs.Numbering.{symbol_transitions, union_transitions, product_transitions, closure_transitions, full_port}
-use Rattle.automaton.proofs.TransitionLaws.{transitions_words-append, entry_epsilons-same}
+use Rattle.automaton.specs.Numbering.{Port as States, full_entries, symbol_targets, union_targets}
+use Rattle.automaton.specs.Numbering.{symbol_transitions, union_transitions, full_port}
+use Rattle.automaton.proofs.TransitionLaws.{entry_epsilons-same}
 use Rattle.ports.specs.declared.states.Port.{Port}
 use Rattle.ports.specs.Ports.{exit_in, exits_in, ports_in, child_in}
 use Rattle.ports.proofs.PortLaws.{child-at}
 use Rattle.emitter.specs.Writing.{WordsWritten}
 use Rattle.emitter.specs.Emission.{entries_words_most, own_words_most}
 use Rattle.emitter.proofs.WritingLaws.{words-written-more, words-written-same}
-use Rattle.emitter.proofs.EntryLaws.{epsilon_words, epsilon_words-append}
 use Rattle.emitter.proofs.ChildTargetLaws.{targets-both}
 use Rattle.emitter.proofs.EntryEpsilonLaws.{entry_epsilon_words}
 use Rattle.emitter.proofs.SourceLaws.{sources-exits}
@@ -74,26 +73,3 @@ module _ (cs : List ℕ) (ps : List Port) (x at : ℕ) where
             ≡ transitions_words (symbol_transitions f E (ports_in cs ps))
         some [] h = absurd (h refl)
         some (p ∷ ps) h = refl
-
-    pub product-own : (y z c : ℕ) → y ≡ F.exit → z ≡ G.exit
-        → WordsWritten 1 at (transition_words (epsilon y x)) out o₁ n₁ → WordsWritten 1 n₁ (epsilon_words z (entry_for F c)) o₁ o₂ n₂
-        → WordsWritten entries_words_most n₂ (entry_epsilon_words x cs (product_targets c F G)) o₂ o₃ r
-        → WordsWritten own_words_most at (transitions_words (product_transitions c E F G)) out o₃ r
-    product-own y z c e d p q s =
-        three 1 1 entries_words_most _ _ _ _ p q s (omega arith)
-        (rw (e, d)
-        (ap (λ (l : List ℕ). transition_words (epsilon F.exit x) ++ l)
-        (sym (transitions_words-append (epsilons G.exit (entry_for F c)) _))))
-
-    pub closure-own : (y c : ℕ) → y ≡ F.exit
-        → WordsWritten 1 at (epsilon_words y (entry_for F c)) out o₁ n₁ → WordsWritten 1 n₁ (transition_words (epsilon y x)) o₁ o₂ n₂
-        → WordsWritten entries_words_most n₂ (entry_epsilon_words x cs (closure_targets c x F)) o₂ o₃ r
-        → WordsWritten own_words_most at (transitions_words (closure_transitions c E F)) out o₃ r
-    closure-own y c e p q s =
-        let y' = F.exit in
-        let qs = entry_for F c in
-        three 1 1 entries_words_most _ _ _ _ p q s (omega arith)
-        (rw e
-        (sym (append_assoc (epsilon_words y' qs) (epsilon_words y' (x ∷ [])) (entry_epsilon_words x cs (closure_targets c x F)))
-        ∙ ap (λ (l : List ℕ). l ++ entry_epsilon_words x cs (closure_targets c x F)) (sym (epsilon_words-append y' qs (x ∷ [])))
-        ∙ sym (transitions_words-append (epsilons y' (qs ++ (x ∷ []))) _)))

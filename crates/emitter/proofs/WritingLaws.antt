@@ -52,10 +52,6 @@ words-written-around m r h l n₁ n₃ ws out out' out'' out''' first rest secon
       short = let s = rest.short in omega arith;
     }
 
--- one word
-pub words-written-one : (at w : ℕ) (out out' : List ℕ) → out' ≡ set out at w → WordsWritten 1 at (w ∷ []) out out' (at + 1)
-words-written-one at w out out' e = record { words = e; next = refl; short = omega arith }
-
 -- ---- the loop over members, each of at most `most` words, after k of them
 
 pub record EachWritten {A : Type 0} (words_of : List A → List ℕ) (most : ℕ) (members : List A) (at : ℕ) (out out' : List ℕ) (next k : ℕ) : Type 0 where

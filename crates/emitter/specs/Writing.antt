@@ -3,8 +3,8 @@ use Rattle.std.specs.Prelude.{ℕ, ◌+◌, ◌≤◌, ◌≡◌, List, length}
 use Rattle.std.proofs.lemmas.List.Edits.{sets}
 use Rattle.emitter.specs.declared.writer.Writer.{Writer}
 
--- What a writer leaves and answers: the words ws stand from index `at` on, those past the end of the slice are left out,
--- and the answer is the next index in both cases. So a slice of no words serves to count. There are at most `most` words.
+-- What a writer leaves: the words ws stand from index `at` on, those past the end of the slice are left out, and r is the next
+-- index in both cases. So a slice of no words serves to count. There are at most `most` words.
 pub record WordsWritten (most at : ℕ) (ws out out' : List ℕ) (r : ℕ) : Type 0 where
   pub words : out' ≡ sets out at ws
   pub next : r ≡ at + length ws

@@ -1,6 +1,6 @@
 -- `compiler::compile` meets its contract: where no refusal applies the table fits the slice, and the words behind it stay.
 use Rattle.std.proofs.lemmas.Result.{err_from_is_err_and}
-use Rattle.compiler.proofs.FaultLaws.{compile-refused, rule-passes, compile-accepts}
+use Rattle.compiler.proofs.FaultLaws.{compile-refused, compile-accepts}
 use Rattle.compiler.proofs.compile.Goals as goal
 
 pub returns-in_err-compile_fault : goal.returns-in_err-compile_fault
@@ -8,9 +8,6 @@ returns-in_err-compile_fault c =
     let both = compile-refused _ _ _ _ c.in_err-compile_fault.ensures in
     let p = err_from_is_err_and c.from_residual.result c.from_residual.ensures.1 in
     record { answer = rw (p.1, p.2) both.0; table = both.1 }
-
-pub write_table-requires : goal.write_table-requires
-write_table-requires c = rule-passes _ _ c.args.table.now c.in_ok-compile_fault.ensures
 
 pub returns : goal.returns
 returns c =

@@ -1,12 +1,6 @@
 -- `compiler::states::states_after` meets its contract: before each turn the words from i on bring the states to the same number.
-use Rattle.compiler.proofs.StateLaws.{counting-none, counting_more, counting-end}
+use Rattle.compiler.proofs.StateLaws.{counting_more, counting-end}
 use Rattle.compiler.proofs.states.states_after.Goals as goal
-
-pub loop-w-init : goal.loop-w-init
-loop-w-init c = counting-none _ _
-
-pub states_of-state-requires : goal.states_of-state-requires
-states_of-state-requires c = c.requires.states_countable
 
 pub loop-w-preserved : goal.loop-w-preserved
 loop-w-preserved c =

@@ -1,13 +1,11 @@
 -- `compiler::table::write_parts` meets its contract: its four writers leave the four parts of the table.
 use native.Mathlib.Omega.{arith}
-use mathlib.Core.Path.{ap, sym}
+use mathlib.Core.Path.{ap}
 use Prim.Native.Nat.{◌-◌}
 use lib.ListN.{length}
-use lib.Seq.{length-take-le}
 use Rattle.words.proofs.ListLaws.{length-take-most}
-use Rattle.emitter.proofs.WritingLaws.{words-written-next}
 use Rattle.compiler.proofs.KnownConstants.{constants-symbols}
-use Rattle.compiler.proofs.AcceptedRuleLaws.{rule-alphabet, rule-expression, states-countable, states-few}
+use Rattle.compiler.proofs.AcceptedRuleLaws.{rule-alphabet, rule-expression, states-countable}
 use Rattle.compiler.proofs.TablePartLaws.{table-written}
 use Rattle.compiler.proofs.table.write_parts.Goals as goal
 
@@ -20,11 +18,6 @@ pub bounds-expression-last : goal.bounds-expression-last
 bounds-expression-last c =
     let some = (rule-expression _ _ c.requires.compilable.accepted).counted.some in
     omega arith
-
-pub slice_bounds-states_after-end : goal.slice_bounds-states_after-end
-slice_bounds-states_after-end c =
-    let l = c.args.expression.now in
-    sym (length-take-le (length l - 1) l (omega arith))
 
 pub states_after-exit-requires : goal.states_after-exit-requires
 states_after-exit-requires c =
@@ -42,13 +35,6 @@ states_of-requires c =
     let p = c.requires.compilable in
     states-countable _ _ (rule-alphabet _ _ p.accepted) (ap length p.constants)
 
-pub word_port-port-requires : goal.word_port-port-requires
-word_port-port-requires c =
-    let x =
-    states-few c.args.expression.now (length c.args.expression.now - 1) _ (rule-expression _ _ c.requires.compilable.accepted).counted.few
-    c.states_after-exit.ensures.1 in
-    omega arith
-
 pub push_constants-requires : goal.push_constants-requires
 push_constants-requires c =
     let p = c.requires.compilable in
@@ -58,12 +44,6 @@ push_constants-requires c =
       symbols = constants-symbols _ _ p.constants h.counted.few;
       fits = omega arith;
     }
-
-pub write_words-requires : goal.write_words-requires
-write_words-requires c =
-    let p = c.requires.compilable in
-    let n = words-written-next _ _ _ _ _ _ c.push_constants.ensures.written in
-    record { accepted = p.accepted; constants = p.constants; fits = omega arith }
 
 pub returns-clause-written : goal.returns-clause-written
 returns-clause-written c =

@@ -1,9 +1,8 @@
 -- `compiler::table::write_words` meets its contract: before each turn the transitions of the first i words are written, and those of
 -- the words from i on follow from the next state and the stack.
-use mathlib.Core.Path.{refl, ap, ◌∙◌}
+use mathlib.Core.Path.{refl, ◌∙◌}
 use native.Mathlib.Omega.{arith}
-use lib.ListN.{length}
-use Rattle.compiler.proofs.AcceptedRuleLaws.{rule-alphabet, rule-expression, states-countable, symbols-emittable}
+use Rattle.compiler.proofs.AcceptedRuleLaws.{rule-alphabet, rule-expression, symbols-emittable}
 use Rattle.compiler.proofs.KnownConstants.{constants-once}
 use Rattle.compiler.proofs.EmittedLaws.{emitted-none, emitted-children, emitted-height}
 use Rattle.compiler.proofs.EmittedLaws.{emitted-room, emitted-few, emitted-own-emittable, emitted-more, emitted-end}
@@ -52,33 +51,10 @@ push_own-requires c =
       );
     }
 
-pub word_port-requires : goal.word_port-requires
-word_port-requires c =
-    let few = (rule-expression _ _ c.requires.accepted).counted.few in
-    let low = c.loop-w.invariant.written.low in
-    let h = c.loop-w-test.true in
-    omega arith
-
 pub replace-requires : goal.replace-requires
 replace-requires c =
     let few = (rule-expression _ _ c.requires.accepted).counted.few in
     (emitted-children c.loop-w.invariant.written _ c.loop-w-test.true c.arity-children.ensures, emitted-height c.loop-w.invariant.written c.loop-w-test.true few)
-
-pub states_of-state-requires : goal.states_of-state-requires
-states_of-state-requires c =
-    let p =
-    c.requires in
-    states-countable _ _ (rule-alphabet _ _ p.accepted) (ap length p.constants)
-
-pub overflow_add-state : goal.overflow_add-state
-overflow_add-state c =
-    let p =
-    c.requires in
-    let low = c.loop-w.invariant.written.low in
-    let h = c.loop-w-test.true in
-    let few = (rule-expression _ _ p.accepted).counted.few in
-    let s = c.states_of-state.ensures.1 in
-    omega arith
 
 pub loop-w-preserved : goal.loop-w-preserved
 loop-w-preserved c =

@@ -1,23 +1,12 @@
 -- `emitter::anything::push_on_symbol` meets its contract: a constant has no move, and any other symbol one from the exit in every part.
 use mathlib.Core.Path.{sym, ◌∙◌}
-use native.Mathlib.Omega.{arith}
 use Rattle.words.specs.Alphabet.{rank_of}
-use Rattle.emitter.proofs.WritingLaws.{words-written-next}
 use Rattle.emitter.proofs.AnythingLaws.{on-constant, on-symbol}
 use Rattle.emitter.proofs.anything.push_on_symbol.Goals as goal
 
 pub returns-then-children-eq0-clause-written : goal.returns-then-children-eq0-clause-written
 unfolding rank_of
 returns-then-children-eq0-clause-written c = on-constant _ _ _ _ _ (sym c.rank-children.ensures ∙ c.if-children-eq0.true)
-
-pub push_exits-requires : goal.push_exits-requires
-push_exits-requires c =
-    let p = c.requires in
-    let most = p.symbols_emittable.0.ranks c.args.symbol in
-    let e = c.rank-children.ensures in
-    let n = words-written-next _ _ _ _ _ _ c.push_transition.ensures.written in
-    let fits = p.symbol_words_most_bound.0 in
-    (omega arith, (omega arith, p.symbol_words_most_bound.1))
 
 pub returns-clause-written : goal.returns-clause-written
 unfolding rank_of

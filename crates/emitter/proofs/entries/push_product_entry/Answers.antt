@@ -1,20 +1,7 @@
 -- `emitter::entries::push_product_entry` meets its contract: the children from the second on stand behind the first port.
-use native.Mathlib.Omega.{arith}
 use Rattle.ports.specs.Ports.{entry_state}
-use Rattle.emitter.proofs.ChildTargetLaws.{length-behind, product-here, product-other}
+use Rattle.emitter.proofs.ChildTargetLaws.{product-here, product-other}
 use Rattle.emitter.proofs.entries.push_product_entry.Goals as goal
-
-pub invariant_of-behind_first : goal.invariant_of-behind_first
-invariant_of-behind_first c =
-    let w = c.args.word.now in
-    let n = length-behind w.ports.now in
-    let most = w.children in
-    record { once = w.once; few = w.few; children = omega arith; low = w.low }
-
-pub push_to_children-requires : goal.push_to_children-requires
-push_to_children-requires c =
-    let p = c.requires in
-    record { fits = p.fits; k_in_bounds = p.k_in_bounds.0 }
 
 pub returns-then-word-k-clause-written : goal.returns-then-word-k-clause-written
 returns-then-word-k-clause-written c =

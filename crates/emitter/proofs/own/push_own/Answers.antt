@@ -1,34 +1,10 @@
 -- `emitter::own::push_own` meets its contract: the kind says which transitions the word has.
-use borrow.Author.Rules.{rules}
 use Rattle.words.specs.declared.word.Kind.TheVariants.{Symbol, Union, Product, Closure, Anything}
 use Rattle.words.proofs.DecodedLaws.{told-kind}
 use Rattle.automaton.specs.Numbering.{full_port}
 use Rattle.emitter.proofs.OwnKindLaws.{own-symbol, own-union, own-product, own-closure, own-anything}
 use Rattle.emitter.proofs.OwnKindLaws.{own-other, transitions-written, no-transitions-written}
 use Rattle.emitter.proofs.own.push_own.Goals as goal
-
-pub push_symbol-requires : goal.push_symbol-requires
-push_symbol-requires c = record { fits = c.requires.fits; symbol_lt_symbol_range = search rules }
-
-pub push_union-requires : goal.push_union-requires
-push_union-requires c =
-    let p = c.requires in
-    record { fits = p.fits; ports_len = p.symbols_emittable.1.union (told-kind _ _ c.kind_of-kind.ensures Union c.in-Union.is) }
-
-pub push_product-requires : goal.push_product-requires
-push_product-requires c =
-    let p = c.requires in
-    record { fits = p.fits; ports_len = p.symbols_emittable.1.product (told-kind _ _ c.kind_of-kind.ensures Product c.in-Product.is) }
-
-pub push_closure-requires : goal.push_closure-requires
-push_closure-requires c =
-    let p = c.requires in
-    record { fits = p.fits; ports_len = p.symbols_emittable.1.closure (told-kind _ _ c.kind_of-kind.ensures Closure c.in-Closure.is) }
-
-pub push_anything-requires : goal.push_anything-requires
-push_anything-requires c =
-    let p = c.requires in
-    record { symbols_emittable = p.symbols_emittable.0; fits = p.fits }
 
 pub returns-in-Symbol-clause-written : goal.returns-in-Symbol-clause-written
 returns-in-Symbol-clause-written c =

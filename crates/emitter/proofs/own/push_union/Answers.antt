@@ -1,14 +1,7 @@
 -- `emitter::own::push_union` meets its contract: its two writers leave the transitions of a union.
 use native.Mathlib.Omega.{arith}
-use Rattle.emitter.proofs.WritingLaws.{words-written-next}
 use Rattle.emitter.proofs.OwnLaws.{child-exit, union-own}
 use Rattle.emitter.proofs.own.push_union.Goals as goal
-
-pub push_entries-requires : goal.push_entries-requires
-push_entries-requires c =
-    let fits = c.requires.fits in
-    let n = words-written-next _ _ _ _ _ _ c.push_both.ensures.written in
-    record { fits = omega arith; targetable = tt }
 
 pub returns-clause-written : goal.returns-clause-written
 returns-clause-written c =
