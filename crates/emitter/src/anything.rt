@@ -57,7 +57,7 @@ fn push_every_symbol(alphabet: &[u32], writer: &mut Writer, exit: u32)
     }
 }
 
-// Anything with this exit, which has no children.
+// Anything, which has no children.
 pub(crate) fn push_anything(alphabet: &[u32], word: &RuleWord, writer: &mut Writer)
     requires symbols_emittable { SymbolsEmittable alphabet.now }
     requires fits { writer.old.at + own_words_most ≤ last_index }

@@ -12,8 +12,8 @@ use super::writer::Writer;
 use ports::port::{entry_at, entry_state};
 
 // Where a word's entry for a constant leads: to the children's entries for it, in a product over c at c not to the first
-// child's, in a closure over c at c also to the word's own exit; for anything to its own exit. With a
-// function for a parameter in place of this enum, the two loops below would stand in the code once for each of the four.
+// child's, in a closure over c at c also to the word's own exit; for anything to its own exit. With a function for a parameter
+// in place of this enum, the two loops below would stand in the code once for each of the four.
 #[derive(Clone, Copy)]
 pub(crate) enum Targets {
     Children,
@@ -108,7 +108,7 @@ fn push_entry(word: &RuleWord, writer: &mut Writer, targets: Targets, k: usize)
     }
 }
 
-// From each entry of a word with this exit.
+// From each entry of the word.
 pub(crate) fn push_entries(word: &RuleWord, writer: &mut Writer, targets: Targets)
     requires fits { writer.old.at + entries_words_most ≤ last_index }
     requires targetable { Targetable targets word.now.ports.now }
