@@ -5,7 +5,7 @@ use Prim.Native.Nat.{ℕ, ◌+◌, ◌<◌, ◌≤◌}
 use native.Mathlib.Omega.{arith}
 use native.Mathlib.Nat.{add-zero, add_assoc}
 use native.Mathlib.Numerals.{add-one}
-use lib.ListN.{length, get_or, take, set, length-append}
+use lib.ListN.{length, get_or, take, length-append}
 use lib.Seq.{sets, length-sets, take-suc, take_all}
 use Rattle.words.specs.Lists.{written_over}
 use Rattle.words.proofs.ListLaws.{sets-append, sets-whole}
@@ -13,14 +13,6 @@ use Rattle.encoding.specs.ByteWriting.{BytesWritten}
 
 pub bytes-written-none : (at : ℕ) (out : List ℕ) → BytesWritten at [] out out at
 bytes-written-none at out = record { bytes = λ fits. refl; next = λ fits. sym (add-zero at) }
-
--- one byte, where it was stored if there was room
-pub bytes-written-one : (at b : ℕ) (out : List ℕ) → BytesWritten at (b ∷ []) out (set out at b) (at + 1)
-bytes-written-one at b out = record { bytes = λ fits. refl; next = λ fits. refl }
-
--- no room: nothing is said
-pub bytes-written-full : (at b : ℕ) (out out' : List ℕ) (r : ℕ) → length out ≤ at → BytesWritten at (b ∷ []) out out' r
-bytes-written-full at b out out' r h = record { bytes = λ fits. absurd (omega arith); next = λ fits. absurd (omega arith) }
 
 -- bytes after bytes
 pub bytes-written-more : {at next r : ℕ} {bs cs out out' out'' : List ℕ}
@@ -48,6 +40,11 @@ bytes-written-more {at} {next} {r} {bs} {cs} {out} {out'} {out''} p q =
 -- the same bytes, said otherwise
 pub bytes-written-same : {at r : ℕ} {bs cs out out' : List ℕ} → BytesWritten at bs out out' r → bs ≡ cs → BytesWritten at cs out out' r
 bytes-written-same p e = rw (← e) p
+
+-- a writer that begins at a place of a slice, and what it leaves there
+pub bytes-written-left : {at at' r : ℕ} {bs out out₀ out' left : List ℕ} → BytesWritten at bs out out' r → at ≡ at' → out ≡ out₀
+    → left ≡ out' → BytesWritten at' bs out₀ left r
+bytes-written-left p e f g = rw (g, ← e, ← f) p
 
 -- all bytes from the first place on
 pub bytes-written-whole : (bs out out' : List ℕ) (r : ℕ) → BytesWritten 0 bs out out' r → length bs ≤ length out

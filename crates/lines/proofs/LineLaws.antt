@@ -12,16 +12,16 @@ use Rattle.lines.specs.Line.{space, newline, refused_text, nodes_text, states_te
 
 -- ---- lines
 
-module _ {out o₁ o₂ : List ℕ} {n₁ r : ℕ} (number : ℕ) where
-  pub refused-written : BytesWritten 0 refused_text out o₁ n₁ → BytesWritten n₁ (field number newline) o₁ o₂ r
-      → BytesWritten 0 (refused_line number) out o₂ r
+module _ {out o₁ o₂ : List ℕ} {at n₁ r : ℕ} (number : ℕ) where
+  pub refused-written : BytesWritten at refused_text out o₁ n₁ → BytesWritten n₁ (field number newline) o₁ o₂ r
+      → BytesWritten at (refused_line number) out o₂ r
   unfolding refused_line
   refused-written p q = bytes-written-more p q
 
-module _ {out o₁ o₂ o₃ o₄ o₅ o₆ : List ℕ} {n₁ n₂ n₃ n₄ n₅ r : ℕ} (nodes states hits : ℕ) where
-  pub head-written : BytesWritten 0 nodes_text out o₁ n₁ → BytesWritten n₁ (field nodes space) o₁ o₂ n₂ → BytesWritten n₂ states_text o₂ o₃ n₃
+module _ {out o₁ o₂ o₃ o₄ o₅ o₆ : List ℕ} {at n₁ n₂ n₃ n₄ n₅ r : ℕ} (nodes states hits : ℕ) where
+  pub head-written : BytesWritten at nodes_text out o₁ n₁ → BytesWritten n₁ (field nodes space) o₁ o₂ n₂ → BytesWritten n₂ states_text o₂ o₃ n₃
       → BytesWritten n₃ (field states space) o₃ o₄ n₄ → BytesWritten n₄ hits_text o₄ o₅ n₅ → BytesWritten n₅ (field hits newline) o₅ o₆ r
-      → BytesWritten 0 (head_line nodes states hits) out o₆ r
+      → BytesWritten at (head_line nodes states hits) out o₆ r
   unfolding head_line
   head-written p q s t u v =
       bytes-written-more (bytes-written-more (bytes-written-more (bytes-written-more (bytes-written-more p q) s) t) u) v

@@ -7,7 +7,7 @@ ghost use Rattle.words.specs.Chapter.{symbol_of};
 ghost use Rattle.encoding.specs.ByteWriting.{BytesWritten};
 ghost use Rattle.lines.specs.Line.{refused_line, head_line, hit_line, hit_lines};
 
-use encoding::byte_writer::{write_field, write_text};
+use encoding::byte_writer::ByteWriter;
 use syntax::postfix::subtree_span;
 use words::word::SYMBOL_RANGE;
 
@@ -15,20 +15,24 @@ use words::word::SYMBOL_RANGE;
 pub fn write_refused(out: &mut [u8], number: u32) -> usize
     ensures { BytesWritten 0 (refused_line number) out.old out.new result }
 {
-    let next = write_text(out, 0, b"refused ");
-    write_field(out, next, number as usize, b'\n')
+    let mut line = ByteWriter::new(out);
+    line.write_text(b"refused ");
+    line.write_field(number as usize, b'\n');
+    line.next
 }
 
 // The head line: element, state and hit counts.
-fn write_head(out: &mut [u8], nodes: usize, states: usize, hits: usize) -> usize
-    ensures { BytesWritten 0 (head_line nodes states hits) out.old out.new result }
+fn write_head(line: &mut ByteWriter, nodes: usize, states: usize, hits: usize)
+    ensures same_reference { line.new.out.ghost_name ≡ line.old.out.ghost_name }
+    ensures long { length line.new.out.now ≡ length line.old.out.now }
+    ensures written { BytesWritten line.old.next (head_line nodes states hits) line.old.out.now line.new.out.now line.new.next }
 {
-    let mut next = write_text(out, 0, b"nodes ");
-    next = write_field(out, next, nodes, b' ');
-    next = write_text(out, next, b"states ");
-    next = write_field(out, next, states, b' ');
-    next = write_text(out, next, b"hits ");
-    write_field(out, next, hits, b'\n')
+    line.write_text(b"nodes ");
+    line.write_field(nodes, b' ');
+    line.write_text(b"states ");
+    line.write_field(states, b' ');
+    line.write_text(b"hits ");
+    line.write_field(hits, b'\n');
 }
 
 // The symbol of a node; 0 where there is no such node.
@@ -41,16 +45,18 @@ fn symbol_of(chapter: &[u32], node: usize) -> usize
 }
 
 // The line of one hit: the element, its symbol and its subtree's element count.
-fn write_hit(out: &mut [u8], at: usize, alphabet: &[u32], chapter: &[u32], hit: u32) -> usize
+fn write_hit(line: &mut ByteWriter, alphabet: &[u32], chapter: &[u32], hit: u32)
     requires { length chapter.now ≤ nodes_most }
-    ensures { BytesWritten at (hit_line alphabet.now chapter.now hit) out.old out.new result }
+    ensures same_reference { line.new.out.ghost_name ≡ line.old.out.ghost_name }
+    ensures long { length line.new.out.now ≡ length line.old.out.now }
+    ensures written { BytesWritten line.old.next (hit_line alphabet.now chapter.now hit) line.old.out.now line.new.out.now line.new.next }
 {
     let node = hit as usize;
     let span = subtree_span(alphabet, chapter, node);
     let size = node + 1 - span.start;
-    let mut next = write_field(out, at, node, b' ');
-    next = write_field(out, next, symbol_of(chapter, node), b' ');
-    write_field(out, next, size, b'\n')
+    line.write_field(node, b' ');
+    line.write_field(symbol_of(chapter, node), b' ');
+    line.write_field(size, b'\n');
 }
 
 // The head line and the lines of all hits.
@@ -67,9 +73,10 @@ pub fn write_lines(
         ++ hit_lines alphabet.now chapter.now hits.now)
         out.old out.new result }
 {
-    let mut next = write_head(out, chapter.len(), states, hits.len());
+    let mut lines = ByteWriter::new(out);
+    write_head(&mut lines, chapter.len(), states, hits.len());
     for hit in hits {
-        next = write_hit(out, next, alphabet, chapter, *hit);
+        write_hit(&mut lines, alphabet, chapter, *hit);
     }
-    next
+    lines.next
 }

@@ -25,6 +25,7 @@ fn read_words(input: &mut Stdin, count: u32, words: &mut [u32]) -> io::Result<()
 {
     let all = count as usize;
     let mut seen: usize = 0;
+    // No `for`: how far a turn goes is as long as the part that it read.
     while seen < all {
         let bytes = part_bytes(all - seen);
         let mut buffer = buffer();

@@ -78,7 +78,8 @@ pub fn move_numbers(list: &mut [u32], from: usize, to: usize)
     }
 }
 
-// The totals of the nodes with these numbers, where a set has `size` words and `last` is the table's final state.
+// The totals of the nodes with these numbers, where a set has `size` words and `last` is the table's final state. Their sets stand
+// apart, so cells are counted set by set; `nodes_totals` counts those of sets that stand together in one pass, which is faster.
 fn numbers_totals(marks: &[u32], size: usize, last: usize, list: &[u32]) -> Totals
     requires { NumbersCountable (length marks.now) size list.now }
     ensures { (table : List ℕ) → last ≡ final_of table

@@ -2,8 +2,7 @@
 use Rattle.lines.proofs.LineLaws.{head-written}
 use Rattle.lines.proofs.write_head.Goals as goal
 
-pub returns : goal.returns
-returns c =
-    head-written _ _ _ c.write_text-next.ensures c.write_field-next.ensures c.write_text-next-2.ensures
-    c.write_field-next-2.ensures
-    c.write_text-next-3.ensures c.write_field.ensures
+pub returns-clause-written : goal.returns-clause-written
+returns-clause-written c =
+    head-written _ _ _ c.write_text.ensures.written c.write_field.ensures.written c.write_text-2.ensures.written
+    c.write_field-2.ensures.written c.write_text-3.ensures.written c.write_field-3.ensures.written

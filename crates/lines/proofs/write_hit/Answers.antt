@@ -17,9 +17,7 @@ overflow_sub-size c =
       start-le (arity q.alphabet.now) q.chapter.now q.hit,
     )
 
-pub returns : goal.returns
-returns c =
+pub returns-clause-written : goal.returns-clause-written
+returns-clause-written c =
     hit-written _ _ _ _ _ c.symbol_of.ensures (ap (λ (p : Span). p.start) c.subtree_span-span.ensures)
-    c.write_field-next.ensures
-    c.write_field-next-2.ensures
-    c.write_field.ensures
+    c.write_field.ensures.written c.write_field-2.ensures.written c.write_field-3.ensures.written
