@@ -1,2 +1,3 @@
 pub mod Tail
 pub mod ExchangeAnswer
+pub mod ChangeIn

@@ -8,12 +8,14 @@ ghost use Rattle.operations.specs.Exchange.{exchange_answer, exchange_chapter, e
 ghost use Rattle.totals.specs.TotalsIn.{totals_in};
 ghost use Rattle.exchanger.specs.ExchangeAnswer.{answer_in_counted, totals_behind, answer_in_exchanged};
 
+use change::Change;
 use counted::replace_counted;
 use refusals::exchange::exchange_fault;
 use tables::length::table_word_count;
 use totals::Totals;
 use words::refusal::Refusal;
 
+mod change;
 mod counted;
 mod subtree;
 mod tail;
@@ -70,17 +72,15 @@ pub fn exchange_counted(
     let room = marks.len();
     let judged = exchange_fault(alphabet, table, chapter, count, room, element, replacement);
     let start = judged?;
-    replace_counted(
+    let change = Change {
         alphabet,
         table,
-        chapter,
         count,
-        marks,
         element,
         start,
         replacement,
-        before,
-    )
+    };
+    replace_counted(change, chapter, marks, before)
 }
 
 // Document 01's Exchange, which also changes the record of totals by the difference that it makes (document 02, U10). All
