@@ -18,10 +18,7 @@ use words::refusal::Refusal;
 fn wrong_used_count(count: usize, chapter_length: usize) -> bool
     ensures { result ≡ wrong_used_count count chapter_length }
 {
-    if wrong_count(count) {
-        return true;
-    }
-    chapter_length < count
+    wrong_count(count) || chapter_length < count
 }
 
 // Whether the words are no replacement: none, too many, or no tree over the alphabet.
@@ -29,10 +26,7 @@ fn wrong_used_count(count: usize, chapter_length: usize) -> bool
 fn no_replacement(alphabet: &[u32], replacement: &[u32]) -> bool
     ensures { result ≡ no_replacement alphabet.now replacement.now }
 {
-    if wrong_count(replacement.len()) {
-        return true;
-    }
-    tree_fault(alphabet, replacement).is_err()
+    wrong_count(replacement.len()) || tree_fault(alphabet, replacement).is_err()
 }
 
 // Whether a result of `count` elements is too long for chapter and marks slices of these lengths.
@@ -40,13 +34,7 @@ fn no_replacement(alphabet: &[u32], replacement: &[u32]) -> bool
 fn result_too_long(table: &[u32], count: usize, chapter_length: usize, marks_length: usize) -> bool
     ensures { result ≡ result_too_long table.now count chapter_length marks_length }
 {
-    if count > NODES_MOST {
-        return true;
-    }
-    if count > chapter_length {
-        return true;
-    }
-    marks_too_short(table, count, marks_length)
+    count > NODES_MOST || count > chapter_length || marks_too_short(table, count, marks_length)
 }
 
 // Whether the chapter is too high once the replacement stands in the place of the element's subtree, which begins at `start` and is
