@@ -24,7 +24,7 @@ use sets::whole::count_cells;
 use tables::head::{final_state, set_size};
 
 // How far the loop is: how many roots behind node i, counted from the last, reach back to the one whose tree holds it, and how many
-// ancestors are listed.
+// ancestors are listed. The list is lent beside it: a struct that held the caller's slice would be no plainer for one loop.
 #[derive(Drop)]
 struct Listed {
     pub reach: usize,
