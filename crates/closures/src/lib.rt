@@ -21,6 +21,7 @@ pub const ROWS_LENGTH: usize = ROWS_MOST * SET_MOST;
 #[derive(Drop)]
 pub struct KeptClosures {
     pub owners: [u32; ROWS_MOST],
+    // One flat array, since a row is read and written as any stored state set is, in the words from row * SET_MOST on.
     pub rows: [u32; ROWS_LENGTH],
 }
 

@@ -18,20 +18,32 @@ use sets::state::{SET_MOST, contains};
 use tables::head::set_size;
 use words::word::STATE_RANGE;
 
-// Whether the part states from word `at` on are all in the children's sets.
-fn sources_contained(table: &[u32], at: usize, size: usize, marks: &[u32], children: &[u32]) -> bool
-    requires { SourcesReadable table.now at size marks.now children.now }
-    ensures { result
-        ≡ all_contained (sources_at (drop at table.now)) (child_sets size marks.now children.now) }
-{
-    for (k, child) in children.iter().enumerate() {
-        let first = *child as usize * size;
-        let state = (table[at + k] % STATE_RANGE) as usize;
-        if !contains(&marks[first..first + size], state) {
-            return false;
+// The children of a node: their numbers, and the marks with their state sets of `size` words.
+#[derive(Clone, Copy)]
+struct Children<'a> {
+    marks: &'a [u32],
+    nodes: &'a [u32],
+    size: usize,
+}
+
+impl Children<'_> {
+    // Whether the part states from word `at` on are all in the children's sets.
+    fn sources_contained(self, table: &[u32], at: usize) -> bool
+        requires { SourcesReadable table.now at self.size self.marks.now self.nodes.now }
+        ensures { result
+            ≡ all_contained (sources_at (drop at table.now))
+            (child_sets self.entry.size self.entry.marks.now self.entry.nodes.now) }
+    {
+        let size = self.size;
+        for (k, child) in self.nodes.iter().enumerate() {
+            let first = *child as usize * size;
+            let state = (table[at + k] % STATE_RANGE) as usize;
+            if !contains(&self.marks[first..first + size], state) {
+                return false;
+            }
         }
+        true
     }
-    true
 }
 
 // Follows the symbol transition at word i: if its part states are in the children's sets, the closure of its target joins the
@@ -39,23 +51,23 @@ fn sources_contained(table: &[u32], at: usize, size: usize, marks: &[u32], child
 fn follow_transition(
     indexed: Indexed,
     i: usize,
-    size: usize,
-    marks: &[u32],
-    children: &[u32],
+    children: Children,
     closures: &mut KeptClosures,
     pending: &mut [u32],
     set: &mut [u32],
 )
-    requires { TransitionFollowable indexed.table.now indexed.index.now size marks.now children.now closures.old pending.old set.old i }
+    requires { TransitionFollowable indexed.table.now indexed.index.now
+        children.size children.marks.now children.nodes.now
+        closures.old pending.old set.old i }
     ensures { TransitionFollowed indexed.entry.table.now (key_of (get_or indexed.entry.table.now i 0))
-        (child_sets size marks.now children.now) i set.old set.new
+        (child_sets children.entry.size children.entry.marks.now children.entry.nodes.now) i set.old set.new
         closures.new }
 {
     let target = indexed.target(i);
     if contains(set, target) {
         return;
     }
-    if !sources_contained(indexed.table, i + 1, size, marks, children) {
+    if !children.sources_contained(indexed.table, i + 1) {
         return;
     }
     join_closure(indexed, target, closures, pending, set);
@@ -65,20 +77,21 @@ fn follow_transition(
 fn follow_symbol(
     indexed: Indexed,
     symbol: u32,
-    size: usize,
-    marks: &[u32],
-    children: &[u32],
+    children: Children,
     closures: &mut KeptClosures,
     pending: &mut [u32],
     set: &mut [u32],
 )
-    requires { SymbolFollowable indexed.table.now indexed.index.now symbol size marks.now children.now closures.old pending.old set.old }
-    ensures { SymbolFollowed indexed.entry.table.now symbol (child_sets size marks.now children.now) set.new
+    requires { SymbolFollowable indexed.table.now indexed.index.now symbol
+        children.size children.marks.now children.nodes.now
+        closures.old pending.old set.old }
+    ensures { SymbolFollowed indexed.entry.table.now symbol
+        (child_sets children.entry.size children.entry.marks.now children.entry.nodes.now) set.new
         closures.new }
 {
     let mut word = indexed.first(symbol as usize);
     while let Some(i) = word {
-        follow_transition(indexed, i, size, marks, children, closures, pending, set);
+        follow_transition(indexed, i, children, closures, pending, set);
         word = indexed.next(i);
     }
 }
@@ -101,9 +114,12 @@ pub fn node_set(
     ensures closures { Closures indexed.entry.table.now closures.new }
 {
     let size = set_size(indexed.table);
+    let children = Children {
+        marks,
+        nodes: children,
+        size,
+    };
     let mut set = [0u32; SET_MOST];
-    follow_symbol(
-        indexed, symbol, size, marks, children, closures, pending, &mut set,
-    );
+    follow_symbol(indexed, symbol, children, closures, pending, &mut set);
     set
 }

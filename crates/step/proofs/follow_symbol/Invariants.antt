@@ -6,8 +6,9 @@ use Rattle.step.proofs.follow_symbol.Given as goal
 
 abbrev pub invariant-loop-word : goal.invariant-loop-word
 invariant-loop-word l =
-    SymbolAt l.indexed.table.now l.indexed.index.now l.symbol l.size l.marks l.children l.closures l.pending l.set
-    (length l.initial.pending) l.word
+    SymbolAt l.indexed.table.now l.indexed.index.now l.symbol
+    l.children.size l.children.marks.now l.children.nodes.now
+    l.closures l.pending l.set (length l.initial.pending) l.word
 
 abbrev pub decreases-loop-word : goal.decreases-loop-word
 decreases-loop-word l = left l.indexed.table.now l.word

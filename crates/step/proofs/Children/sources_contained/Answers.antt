@@ -1,7 +1,7 @@
--- `step::sources_contained` meets its contract: before each child, what is left is judged as the whole was.
+-- `step::Children::sources_contained` meets its contract: before each child, what is left is judged as the whole was.
 use Rattle.step.proofs.SourceSetLaws.{sources-held-none}
 use Rattle.step.proofs.SourceSetLaws.{sources-held-more, sources-held-fails, sources-held-end, row-contains}
-use Rattle.step.proofs.sources_contained.Goals as goal
+use Rattle.step.proofs.Children.sources_contained.Goals as goal
 
 pub loop-k-init : goal.loop-k-init
 loop-k-init c = sources-held-none c.requires
