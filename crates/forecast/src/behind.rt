@@ -15,7 +15,7 @@ use tables::head::set_size;
 use totals::Totals;
 
 // How far the nodes are passed: how many sets, counted from the top, reach down to the one of the tree that holds the place, whether
-// work continues, and the totals.
+// work continues, and the totals. The reach and the totals go on when work has ended, so that a flag tells it.
 #[derive(Drop)]
 pub struct Passing {
     pub reach: usize,

@@ -13,7 +13,8 @@ pub(crate) const STACK_BASE: usize = RANK_MOST;
 // The words of the array.
 pub const STACK_LENGTH: usize = STACK_BASE + NODES_MOST;
 
-// Puts a node on the stack in the place of its children, whose number is given, and answers the stack's height.
+// Puts a node on the stack in the place of its children, whose number is given, and answers the stack's height. The array may be
+// shorter than STACK_LENGTH, which that of `Roots` may not.
 pub fn push_node(stack: &mut [u32], height: usize, children: usize, node: usize) -> usize
     requires { Pushable stack.old height children node }
     ensures answer { result ≡ height - children + 1 }
