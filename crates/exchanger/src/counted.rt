@@ -84,7 +84,7 @@ fn wrong_totals(
 }
 
 // A call that is not refused but perhaps by 27; the element's subtree begins at `start`. Its ancestors, fewer than the chapter is high, are
-// found once, and keep their order behind the exchange.
+// found once, and keep their order behind the exchange. `list_ancestors` writes them into an array that is lent, and answers how many.
 pub(crate) fn replace_counted(
     change: Change,
     chapter: &mut [u32],

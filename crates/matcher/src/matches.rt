@@ -9,7 +9,7 @@ use sets::state::contains;
 use tables::head::{final_state, set_size};
 
 // Writes the number of a node behind the matches found so far if its state set holds the final state; answers how many
-// matches there are then.
+// matches there are then. The list is a caller's slice, lent through the C interface: its matches are counted beside it.
 fn list_node(set: &[u32], last: usize, node: usize, list: &mut [u32], found: usize) -> usize
     requires { (found < length list.old) × (node < nodes_most) }
     ensures answer { result ≡ found + length (matches_in last node (set.now ∷ [])) }

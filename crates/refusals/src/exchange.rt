@@ -66,7 +66,7 @@ fn result_too_high(
 
 // Of the element and the replacement, for a chapter that is at most `bound` high: where the element's subtree begins, or 14, 15, 26, 16
 // or 24, the first that applies. For 16 the result's length is known: what stands before the element's subtree, the replacement, and
-// what stands behind.
+// what stands behind. One caller says all of these, once: a struct of them would be no shorter.
 #[tactic(auto, using(crate::proofs::CountRefusalLaws::change_parts), unfolding(operations::specs::Exchange::no_element))]
 fn change_fault(
     alphabet: &[u32],
