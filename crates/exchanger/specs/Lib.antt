@@ -1,3 +1,2 @@
 pub mod Tail
 pub mod ExchangeAnswer
-pub mod ChangeIn

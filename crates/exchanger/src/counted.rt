@@ -6,13 +6,12 @@ ghost use Rattle.operations.specs.Exchange.{old_totals, new_totals, exchange_ans
 ghost use Rattle.totals.specs.TotalsIn.{totals_in};
 ghost use Rattle.totals.specs.Place.{fallen_totals, added_totals};
 ghost use Rattle.totals.specs.Replaceable.{Replaceable};
-ghost use Rattle.exchanger.specs.ChangeIn.{call_in};
+ghost use Rattle.forecast.specs.ChangeIn.{call_in};
 ghost use Rattle.exchanger.specs.ExchangeAnswer.{answer_in_counted, totals_behind};
 
 use super::ExchangeCounted;
-use super::change::Change;
 use super::subtree::replace_subtree;
-use forecast::forecast_totals;
+use forecast::{Change, forecast_totals};
 use tables::head::set_size;
 use totals::Totals;
 use totals::listed::{list_ancestors, listed_totals, move_numbers};
@@ -37,16 +36,7 @@ fn wrong_figures(
         || out_of_range (totals_in before).cells (totals_in fallen).cells
         (added_totals (call_in change.entry chapter.now marks.now)).cells) }
 {
-    let added = forecast_totals(
-        change.alphabet,
-        change.table,
-        chapter,
-        change.count,
-        marks,
-        change.element,
-        change.start,
-        change.replacement,
-    );
+    let added = forecast_totals(change, chapter, marks);
     is_out_of_range(before.hits, fallen.hits, added.hits)
         || is_out_of_range(before.cells, fallen.cells, added.cells)
 }

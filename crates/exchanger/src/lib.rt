@@ -8,14 +8,13 @@ ghost use Rattle.operations.specs.Exchange.{exchange_answer, exchange_chapter, e
 ghost use Rattle.totals.specs.TotalsIn.{totals_in};
 ghost use Rattle.exchanger.specs.ExchangeAnswer.{answer_in_counted, totals_behind, answer_in_exchanged};
 
-use change::Change;
 use counted::replace_counted;
+use forecast::Change;
 use refusals::exchange::exchange_fault;
 use tables::length::table_word_count;
 use totals::Totals;
 use words::refusal::Refusal;
 
-mod change;
 mod counted;
 mod subtree;
 mod tail;

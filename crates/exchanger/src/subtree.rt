@@ -3,11 +3,11 @@
 ghost use Rattle.std.specs.Prelude.{◌≡◌, [], ◌∷◌};
 ghost use Rattle.operations.specs.Exchange.{exchange_values, new_chapter, new_marks};
 ghost use Rattle.totals.specs.Replaceable.{Replaceable};
-ghost use Rattle.exchanger.specs.ChangeIn.{call_in};
+ghost use Rattle.forecast.specs.ChangeIn.{call_in};
 
 use super::Replaced;
-use super::change::Change;
 use super::tail::move_tail;
+use forecast::Change;
 use slices::moves::copy_words;
 use tables::head::set_size;
 use updates::update_marks;

@@ -5,7 +5,7 @@ use mathlib.Core.List.{List, [], ◌∷◌}
 use Prim.Native.Nat.{ℕ, ◌+◌, ◌-◌}
 use native.Mathlib.Omega.{arith}
 use lib.ListN.{length, take, drop, length-map}
-use Rattle.words.specs.Postfix.{arity, roots_of, stack_given}
+use Rattle.words.specs.Postfix.{arity, roots_of}
 use Rattle.words.proofs.AcceptedTree.{tree-accepted}
 use Rattle.words.proofs.ChildLaws.{stack-numbers}
 use Rattle.words.proofs.PendingRoots.{pending-subtree}
@@ -15,25 +15,40 @@ use Rattle.operations.specs.Marks.{size_of, stored_set, same_words}
 use Rattle.operations.specs.Totals.{Totals}
 use Rattle.totals.specs.declared.Totals.{Totals as Record}
 use Rattle.totals.specs.TotalsIn.{totals_in}
+use Rattle.forecast.specs.declared.behind.Place.{Place}
 use Rattle.forecast.specs.declared.pile.Pile.{Pile}
 use Rattle.forecast.specs.declared.pile.Work.{Work}
 use Rattle.forecast.specs.Pile.{stack_of, Puttable}
-use Rattle.forecast.specs.Behind.{with_ancestors, Stackable, NodesPassable, BehindCountable}
+use Rattle.forecast.specs.Behind.{place_totals, stored_before, Stackable, NodesPassable, BehindCountable}
 use Rattle.forecast.proofs.StackInLaws.{length-stack_in}
 use Rattle.forecast.proofs.RunFacts.{run-tree, run_room, run-size}
 
-module _ {a table index ch : List ℕ} {i start : ℕ} {marks root : List ℕ} {t : Record} {pile : Pile} {work : Work}
-    (pre : BehindCountable a table index ch i start marks root t pile work) where
-  abbrev front : List StateSet
-  front = stack_given a (stored_set (size_of table) marks) 0 (take start ch) []
+module _ {place : Place} {start : ℕ} {root : List ℕ} {t : Record} {pile : Pile} {work : Work}
+    (pre : BehindCountable place start root t pile work) where
+  abbrev a : List ℕ
+  a = place.alphabet.now
 
-  pub behind-stackable : Stackable a table ch start marks
+  abbrev table : List ℕ
+  table = place.indexed.table.now
+
+  abbrev ch : List ℕ
+  ch = place.nodes.now
+
+  abbrev i : ℕ
+  i = place.element
+
+  abbrev marks : List ℕ
+  marks = place.marks.now
+
+  abbrev front : List StateSet
+  front = stored_before place start
+
+  pub behind-stackable : Stackable place start
   behind-stackable =
       let inside = pre.inside in
       record { marked = pre.marked; within = omega (arith, pre.begins, start-le (arity a) ch i) }
 
-  module _ (pile₁ : Pile)
-      (e₁ : stack_of (size_of table) pile₁ ≡ stack_given a (stored_set (size_of table) marks) 0 (take start ch) []) where
+  module _ (pile₁ : Pile) (e₁ : stack_of (size_of table) pile₁ ≡ front) where
     base-is : pile₁.height ≡ length (roots_of a ch start)
     base-is =
         sym (length-stack_in (size_of table) pile₁.sets pile₁.height) ∙ ap length e₁
@@ -55,7 +70,7 @@ module _ {a table index ch : List ℕ} {i start : ℕ} {marks root : List ℕ} {
     module _ (pile₂ : Pile) (q : pile₂.height ≡ pile₁.height - 0 + 1)
         (e₂ : stack_of (length root) pile₂ ≡ root ∷ drop 0 (stack_of (length root) pile₁)) where
       pub behind-passable : (active : Bool)
-          → NodesPassable a table index ch i marks pile₂ (record { reach = 1; active = active; totals = t }) work
+          → NodesPassable place pile₂ (record { reach = 1; active = active; totals = t }) work
       behind-passable active = record {
         marked = pre.marked;
         kept = pre.kept;
@@ -67,12 +82,11 @@ module _ {a table index ch : List ℕ} {i start : ℕ} {marks root : List ℕ} {
       }
 
       pub behind-is : (same : Bool) (part : StateSet) → part ≡ stored_set (size_of table) marks i → same ≡ same_words root part → (r : Totals)
-          → r ≡ with_ancestors a table ch i marks (i + 1) (stack_of (size_of table) pile₂) (not same) (totals_in t)
-          → r ≡ with_ancestors a table ch i marks (i + 1) (root ∷ stack_given a (stored_set (size_of table) marks) 0 (take start ch) [])
-          (not (same_words root (stored_set (size_of table) marks i))) (totals_in t)
+          → r ≡ place_totals place (stack_of (size_of table) pile₂) (not same) (totals_in t)
+          → r ≡ place_totals place (root ∷ front) (not (same_words root (stored_set (size_of table) marks i))) (totals_in t)
       behind-is same part p s r e =
           let stack : stack_of (size_of table) pile₂ ≡ root ∷ front =
           ap (λ (n : ℕ). stack_of n pile₂) (sym pre.size) ∙ e₂
           ∙ ap (λ (n : ℕ). root ∷ stack_of n pile₁) pre.size ∙ ap (λ (l : List StateSet). root ∷ l) e₁ in
-          e ∙ ap₂ (λ (l : List StateSet) (b : Bool). with_ancestors a table ch i marks (i + 1) l (not b) (totals_in t)) stack
+          e ∙ ap₂ (λ (l : List StateSet) (b : Bool). place_totals place l (not b) (totals_in t)) stack
           (s ∙ ap (same_words root) p)

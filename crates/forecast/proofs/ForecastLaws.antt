@@ -1,11 +1,12 @@
 -- The steps of the forecast: what each asks, shown of what the first one asks.
 use mathlib.Core.Path.{◌≡◌, refl, ap, ◌∙◌, sym, subst}
 use mathlib.Core.List.{List}
-use Prim.Native.Nat.{ℕ, ◌+◌, ◌*◌, ◌≤◌}
+use Prim.Native.Nat.{ℕ, ◌+◌, ◌*◌, ◌<◌, ◌≤◌}
 use native.Mathlib.Omega.{arith}
 use native.Mathlib.Nat.{zero-mul}
 use lib.ListN.{length, take, drop, replicate, length-replicate, get_or-replicate}
 use lib.Seq.{length-take-le}
+use Rattle.words.specs.Limits.{nodes_most}
 use Rattle.words.specs.Lists.{written_over}
 use Rattle.words.specs.Shape.{splice_by}
 use Rattle.words.specs.Postfix.{arity, height_of, roots_of, splice}
@@ -34,10 +35,8 @@ use Rattle.totals.specs.Replaceable.{Replaceable}
 use Rattle.forecast.specs.declared.pile.Pile.{Pile}
 use Rattle.forecast.specs.declared.pile.Work.{Work}
 use Rattle.forecast.specs.Room.{sets_most}
-use Rattle.forecast.specs.Pile.{Kept}
-use Rattle.forecast.specs.Sum.{Plausible}
 use Rattle.forecast.specs.Tree.{TreeCountable}
-use Rattle.forecast.specs.Behind.{Marked, BehindCountable}
+use Rattle.forecast.specs.Behind.{Marked}
 use Rattle.forecast.proofs.RunFacts.{low-height}
 
 module _ {c : ExchangeCall} {start : ℕ} (pre : Replaceable c start) where
@@ -112,6 +111,13 @@ module _ {c : ExchangeCall} {start : ℕ} (pre : Replaceable c start) where
     room = room;
   }
 
+  pub forecast-inside : c.element < length (used c)
+  forecast-inside = there c pre.passes
+
+  pub forecast-few : {t : Record} → totals_in t ≡ totals_of c.table (node_sets c.alphabet c.table c.replacement) → t.elements ≤ nodes_most
+  unfolding totals_of
+  forecast-few e = omega (arith, ap (λ (x : Totals). x.elements) e, length-node_sets a table xs, call.change.replacement.counted.few)
+
   -- ---- the root's set
 
   module _ (pile : Pile) (size : ℕ) (s : size ≡ size_of c.table) where
@@ -145,17 +151,5 @@ module _ {c : ExchangeCall} {start : ℕ} (pre : Replaceable c start) where
           root-part ∙ ap (λ (n : ℕ). take n array) s
           ∙ ap (λ (n : ℕ). take (size_of table) (drop n array)) (sym (zero-mul (size_of table))) ∙ h
 
-      pub forecast-behind : {index : List ℕ} {t : Record} {work : Work} → Kept c.alphabet c.table index work
-          → totals_in t ≡ totals_of c.table (node_sets c.alphabet c.table c.replacement) → Plausible t
-          → BehindCountable c.alphabet c.table index (used c) c.element start c.marks (take size root) t pile work
-      unfolding totals_of
-      forecast-behind kept e plausible = record {
-        marked = forecast-marked;
-        kept = kept;
-        inside = there c pre.passes;
-        begins = pre.begins;
-        size = sym part_length ∙ s;
-        plausible = plausible;
-        counted =
-            omega (arith, ap (λ (x : Totals). x.elements) e, length-node_sets a table xs, call.change.replacement.counted.few);
-      }
+      pub root-size : length (take size root) ≡ size_of c.table
+      root-size = sym part_length ∙ s

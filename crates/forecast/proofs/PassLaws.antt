@@ -14,6 +14,7 @@ use Rattle.sets.specs.Size.{set_most}
 use Rattle.sets.proofs.SizeLaws.{set-small}
 use Rattle.totals.specs.declared.Totals.{Totals as Record}
 use Rattle.totals.specs.TotalsIn.{totals_in}
+use Rattle.forecast.specs.declared.behind.Place.{Place}
 use Rattle.forecast.specs.declared.behind.Passing.{Passing}
 use Rattle.forecast.specs.declared.pile.Pile.{Pile}
 use Rattle.forecast.specs.declared.pile.Work.{Work}
@@ -22,8 +23,14 @@ use Rattle.forecast.specs.Sum.{with_set, Plausible, Addable}
 use Rattle.forecast.specs.Behind.{passed_set, Passable, Passed}
 use Rattle.forecast.proofs.StepSetLaws.{step-puttable}
 
-module _ {a table index : List ℕ} {w : ℕ} {stored : List ℕ} {pile : Pile} {t : Passing} {work : Work}
-    (g : Passable a table index w stored pile t work) where
+module _ {place : Place} {w : ℕ} {stored : List ℕ} {pile : Pile} {t : Passing} {work : Work}
+    (g : Passable place w stored pile t work) where
+  abbrev a : List ℕ
+  a = place.alphabet.now
+
+  abbrev table : List ℕ
+  table = place.indexed.table.now
+
   pub pass-small : size_of table ≤ set_most
   pass-small = set-small a table g.step.kept.checked
 

@@ -19,12 +19,13 @@ use Rattle.operations.specs.Totals.{Totals}
 use Rattle.operations.specs.Exchange.{Outcome, kept, recomputed, propagate}
 use Rattle.operations.proofs.PropagateLaws.{propagate-beside, propagate-last, propagate-onward}
 use Rattle.totals.specs.TotalsIn.{totals_in}
+use Rattle.forecast.specs.declared.behind.Place.{Place}
 use Rattle.forecast.specs.declared.behind.Passing.{Passing}
 use Rattle.forecast.specs.declared.pile.Pile.{Pile}
 use Rattle.forecast.specs.declared.pile.Work.{Work}
-use Rattle.forecast.specs.Pile.{stack_of, Kept}
+use Rattle.forecast.specs.Pile.{stack_of}
 use Rattle.forecast.specs.Sum.{with_set, with_sets, Plausible}
-use Rattle.forecast.specs.Behind.{sets_where, outcomes_from, with_ancestors, Passable, passed_set, Passed, NodesPassable}
+use Rattle.forecast.specs.Behind.{sets_where, outcomes_from, with_ancestors, place_totals, KeptAt, Passable, passed_set, Passed, NodesPassable}
 use Rattle.forecast.proofs.RunFacts.{run-tree, run-few, run_room}
 use Rattle.forecast.proofs.TreeLaws.{tree-node, tree-fits, tree-roots}
 
@@ -94,24 +95,39 @@ module _ (a table : List ℕ) (stored : ℕ → StateSet) (above : ℕ → Bool)
 
 -- ---- all nodes
 
-pub record PassingNodes (a table index ch : List ℕ) (i : ℕ) (marks : List ℕ) (whole : Totals) (pile : Pile) (t : Passing)
-    (work : Work) (j : ℕ) : Type 0 where
-  pub high : j ≤ length ch
-  pub kept : Kept a table index work
-  pub height-is : pile.height ≡ length (roots_of a ch j)
-  pub holding : HoldingTree (arity a) ch i j (t.reach - 1)
+pub record PassingNodes (p : Place) (whole : Totals) (pile : Pile) (t : Passing) (work : Work) (j : ℕ) : Type 0 where
+  pub high : j ≤ length p.nodes.now
+  pub kept : KeptAt p work
+  pub height-is : pile.height ≡ length (roots_of p.alphabet.now p.nodes.now j)
+  pub holding : HoldingTree (arity p.alphabet.now) p.nodes.now p.element j (t.reach - 1)
   pub some : 0 < t.reach
   pub reached : t.reach ≤ j
   pub plausible : Plausible t.totals
   pub counted : t.totals.elements ≤ nodes_most + j
-  pub same : with_ancestors a table ch i marks j (stack_of (size_of table) pile) t.active (totals_in t.totals) ≡ whole
+  pub same : with_ancestors p.alphabet.now p.indexed.table.now p.nodes.now p.element p.marks.now j
+      (stack_of (size_of p.indexed.table.now) pile) t.active (totals_in t.totals)
+      ≡ whole
 
-module _ {a table index ch : List ℕ} {i : ℕ} {marks : List ℕ} {pile₀ : Pile} {t₀ : Passing} {work₀ : Work}
-    (pre : NodesPassable a table index ch i marks pile₀ t₀ work₀) where
+module _ {place : Place} {pile₀ : Pile} {t₀ : Passing} {work₀ : Work} (pre : NodesPassable place pile₀ t₀ work₀) where
+  abbrev a : List ℕ
+  a = place.alphabet.now
+
+  abbrev table : List ℕ
+  table = place.indexed.table.now
+
+  abbrev ch : List ℕ
+  ch = place.nodes.now
+
+  abbrev i : ℕ
+  i = place.element
+
+  abbrev marks : List ℕ
+  marks = place.marks.now
+
   abbrev whole₀ : Totals
-  whole₀ = with_ancestors a table ch i marks (i + 1) (stack_of (size_of table) pile₀) t₀.active (totals_in t₀.totals)
+  whole₀ = place_totals place (stack_of (size_of table) pile₀) t₀.active (totals_in t₀.totals)
 
-  pub passing-none : PassingNodes a table index ch i marks whole₀ pile₀ t₀ work₀ (i + 1)
+  pub passing-none : PassingNodes place whole₀ pile₀ t₀ work₀ (i + 1)
   passing-none =
       let z : t₀.reach - 1 ≡ 0 = omega (arith, pre.reach-is) in
       let inside = pre.inside in
@@ -128,7 +144,7 @@ module _ {a table index ch : List ℕ} {i : ℕ} {marks : List ℕ} {pile₀ : P
       }
 
   module _ {whole : Totals} {pile : Pile} {t : Passing} {work : Work} {j : ℕ}
-      (g : PassingNodes a table index ch i marks whole pile t work j) where
+      (g : PassingNodes place whole pile t work j) where
     module _ (l : j < length ch) where
       abbrev w : ℕ
       w = get_or ch j 0
@@ -138,7 +154,7 @@ module _ {a table index ch : List ℕ} {i : ℕ} {marks : List ℕ} {pile₀ : P
           ap (λ (h : ℕ). h - arity a w + 1) g.height-is ∙ sym (tree-roots a ch (run-tree pre.marked) j l)
 
       pub passing-at : (part : StateSet) → length part ≡ size_of table
-          → Passable a table index (get_or ch j 0) part pile t work
+          → Passable place (get_or ch j 0) part pile t work
       passing-at part s =
           let few = run-few pre.marked in
           let r = g.reached in
@@ -189,8 +205,8 @@ module _ {a table index ch : List ℕ} {i : ℕ} {marks : List ℕ} {pile₀ : P
 
       pub passing-more : {pile' : Pile} {r : Passing} {work' : Work} (part : StateSet)
           → part ≡ stored_set (size_of table) marks j → Passed a table (get_or ch j 0) part pile t (leb t.reach (arity a (get_or ch j 0))) pile' r
-          → Kept a table index work'
-          → PassingNodes a table index ch i marks whole pile' r work' (j + 1)
+          → KeptAt place work'
+          → PassingNodes place whole pile' r work' (j + 1)
       unfolding with_ancestors
       passing-more {pile'} {r} part p d later-kept =
           let b = leb t.reach (arity a w) in

@@ -1,6 +1,6 @@
 -- The stored sets of the pending roots are put on the array one after the other.
 use mathlib.Core.Path.{◌≡◌, ap, ap₂, ◌∙◌, sym}
-use mathlib.Core.List.{List, [], ◌∷◌}
+use mathlib.Core.List.{List, ◌∷◌}
 use Prim.Native.Nat.{ℕ, suc, ◌+◌, ◌-◌, ◌<◌, ◌≤◌}
 use native.Mathlib.Omega.{arith}
 use native.Mathlib.Numerals.{add-one}
@@ -10,20 +10,34 @@ use Rattle.words.specs.Shape.{stack_given_by}
 use Rattle.words.specs.Postfix.{arity, roots_of, stack_given}
 use Rattle.automaton.specs.StateSet.{StateSet}
 use Rattle.operations.specs.Marks.{size_of, stored_set}
+use Rattle.forecast.specs.declared.behind.Place.{Place}
 use Rattle.forecast.specs.declared.pile.Pile.{Pile}
 use Rattle.forecast.specs.Pile.{stack_in, stack_of, Puttable}
-use Rattle.forecast.specs.Behind.{Stackable}
+use Rattle.forecast.specs.Behind.{stored_before, Stackable}
 use Rattle.forecast.proofs.RunFacts.{run-tree, run_room, run-size}
 use Rattle.forecast.proofs.TreeLaws.{tree-fits, tree-roots}
 
-pub record StackingSets (a table ch : List ℕ) (count : ℕ) (marks : List ℕ) (pile : Pile) (i : ℕ) : Type 0 where
+pub record StackingSets (p : Place) (count : ℕ) (pile : Pile) (i : ℕ) : Type 0 where
   pub high : i ≤ count
-  pub height-is : pile.height ≡ length (roots_of a ch i)
-  pub stack : stack_given a (stored_set (size_of table) marks) i (drop i (take count ch)) (stack_of (size_of table) pile)
-      ≡ stack_given a (stored_set (size_of table) marks) 0 (take count ch) []
+  pub height-is : pile.height ≡ length (roots_of p.alphabet.now p.nodes.now i)
+  pub stack : stack_given p.alphabet.now (stored_set (size_of p.indexed.table.now) p.marks.now) i (drop i (take count p.nodes.now))
+      (stack_of (size_of p.indexed.table.now) pile)
+      ≡ stored_before p count
 
-module _ {a table ch : List ℕ} {count : ℕ} {marks : List ℕ} (pre : Stackable a table ch count marks) where
-  pub stacking-none : {pile : Pile} → pile.height ≡ 0 → StackingSets a table ch count marks pile 0
+module _ {place : Place} {count : ℕ} (pre : Stackable place count) where
+  abbrev a : List ℕ
+  a = place.alphabet.now
+
+  abbrev table : List ℕ
+  table = place.indexed.table.now
+
+  abbrev ch : List ℕ
+  ch = place.nodes.now
+
+  abbrev marks : List ℕ
+  marks = place.marks.now
+
+  pub stacking-none : {pile : Pile} → pile.height ≡ 0 → StackingSets place count pile 0
   unfolding stack_in stack_given_by
   stacking-none {pile} e = record {
     high = omega arith;
@@ -35,7 +49,7 @@ module _ {a table ch : List ℕ} {count : ℕ} {marks : List ℕ} (pre : Stackab
   pub stacking-inside : {i : ℕ} → i < count → i < length ch
   stacking-inside l = omega (arith, pre.within)
 
-  module _ {pile : Pile} {i : ℕ} (g : StackingSets a table ch count marks pile i) where
+  module _ {pile : Pile} {i : ℕ} (g : StackingSets place count pile i) where
     module _ (l : i < count) (children : ℕ) (r : children ≡ arity a (get_or ch i 0)) where
       roots-next : pile.height - children + 1 ≡ length (roots_of a ch (i + 1))
       roots-next =
@@ -52,7 +66,7 @@ module _ {a table ch : List ℕ} {count : ℕ} {marks : List ℕ} (pre : Stackab
       pub stacking-more : (part : StateSet) → part ≡ stored_set (size_of table) marks i → length part ≡ size_of table
           → {pile' : Pile} → pile'.height ≡ pile.height - children + 1
           → stack_of (length part) pile' ≡ part ∷ drop children (stack_of (length part) pile)
-          → StackingSets a table ch count marks pile' (i + 1)
+          → StackingSets place count pile' (i + 1)
       unfolding stack_given_by
       stacking-more part p s {pile'} q e =
           let stored = stored_set (size_of table) marks in
@@ -75,7 +89,7 @@ module _ {a table ch : List ℕ} {count : ℕ} {marks : List ℕ} (pre : Stackab
           }
 
     pub stacking-end : count ≤ i
-        → stack_of (size_of table) pile ≡ stack_given a (stored_set (size_of table) marks) 0 (take count ch) []
+        → stack_of (size_of table) pile ≡ stored_before place count
     unfolding stack_given_by
     stacking-end l =
         let high = g.high in

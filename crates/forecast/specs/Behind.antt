@@ -1,7 +1,7 @@
 -- The nodes behind the place of an exchange: what passing them does and asks. These definitions serve inner functions.
-use Rattle.std.specs.Prelude.{ℕ, suc, ◌+◌, ◌-◌, ◌*◌, ◌<◌, ◌≤◌, ◌≡◌, Bool, not, cond, ◌&&◌, List, [], ◌∷◌, length, drop}
+use Rattle.std.specs.Prelude.{ℕ, suc, ◌+◌, ◌-◌, ◌*◌, ◌<◌, ◌≤◌, ◌≡◌, Bool, not, cond, ◌&&◌, List, [], ◌∷◌, length, take, drop}
 use Rattle.words.specs.Limits.{nodes_most}
-use Rattle.words.specs.Postfix.{arity, is_ancestor, span_of, roots_of, value_on}
+use Rattle.words.specs.Postfix.{arity, is_ancestor, span_of, roots_of, stack_given, value_on}
 use Rattle.automaton.specs.StateSet.{StateSet}
 use Rattle.operations.specs.Marks.{size_of, node_set, stored_set, same_words}
 use Rattle.operations.specs.Run.{run_fault}
@@ -9,6 +9,7 @@ use Rattle.operations.specs.Totals.{Totals}
 use Rattle.operations.specs.Exchange.{Outcome, set_in, kept_from, propagate}
 use Rattle.totals.specs.declared.Totals.{Totals as Record}
 use Rattle.totals.specs.TotalsIn.{totals_in}
+use Rattle.forecast.specs.declared.behind.Place.{Place}
 use Rattle.forecast.specs.declared.behind.Passing.{Passing}
 use Rattle.forecast.specs.declared.pile.Pile.{Pile}
 use Rattle.forecast.specs.declared.pile.Work.{Work}
@@ -32,21 +33,38 @@ with_ancestors a table ch i marks j stack active t =
     (sets_where (is_ancestor a ch i) j
     (outcomes_from a table (stored_set (size_of table) marks) (is_ancestor a ch i) active j (drop j ch) stack))
 
+-- those of a place, where this stack stands behind it
+abbrev pub place_totals : Place → List StateSet → Bool → Totals → Totals
+place_totals p = with_ancestors p.alphabet.now p.indexed.table.now p.nodes.now p.element p.marks.now (p.element + 1)
+
+-- the stored sets of the roots of the trees that the first `count` nodes make
+abbrev pub stored_before : Place → ℕ → List StateSet
+stored_before p count =
+    stack_given p.alphabet.now (stored_set (size_of p.indexed.table.now) p.marks.now) 0 (take count p.nodes.now) []
+
 -- a tree with marks that Run accepts
 pub record Marked (a table ch marks : List ℕ) : Type 0 where
   pub accepted : run_fault a table ch (length marks) ≡ 0
 
+-- such a tree's place
+abbrev pub MarkedPlace : Place → Type 0
+MarkedPlace p = Marked p.alphabet.now p.indexed.table.now p.nodes.now p.marks.now
+
+-- what is kept from node to node
+abbrev pub KeptAt : Place → Work → Type 0
+KeptAt p = Kept p.alphabet.now p.indexed.table.now p.indexed.index.now
+
 -- ---- the sets before the place
 
-pub record Stackable (a table ch : List ℕ) (count : ℕ) (marks : List ℕ) : Type 0 where
-  pub marked : Marked a table ch marks
-  pub within : count ≤ length ch
+pub record Stackable (p : Place) (count : ℕ) : Type 0 where
+  pub marked : MarkedPlace p
+  pub within : count ≤ length p.nodes.now
 
 -- ---- one node
 
-pub record Passable (a table index : List ℕ) (w : ℕ) (stored : List ℕ) (pile : Pile) (t : Passing) (work : Work) : Type 0 where
-  pub step : Steppable a table index w pile work
-  pub size : length stored ≡ size_of table
+pub record Passable (p : Place) (w : ℕ) (stored : List ℕ) (pile : Pile) (t : Passing) (work : Work) : Type 0 where
+  pub step : Steppable p.alphabet.now p.indexed.table.now p.indexed.index.now w pile work
+  pub size : length stored ≡ size_of p.indexed.table.now
   pub reached : t.reach ≤ nodes_most
   pub plausible : Plausible t.totals
   pub counted : t.totals.elements < 2 * nodes_most
@@ -70,24 +88,22 @@ pub record Passed (a table : List ℕ) (w : ℕ) (stored : StateSet) (pile : Pil
 
 -- ---- all nodes behind
 
--- behind node i, over the sets of the roots so far
-pub record NodesPassable (a table index ch : List ℕ) (i : ℕ) (marks : List ℕ) (pile : Pile) (t : Passing)
-    (work : Work) : Type 0 where
-  pub marked : Marked a table ch marks
-  pub kept : Kept a table index work
-  pub inside : i < length ch
-  pub height-is : pile.height ≡ length (roots_of a ch (i + 1))
+-- over the sets of the roots so far
+pub record NodesPassable (p : Place) (pile : Pile) (t : Passing) (work : Work) : Type 0 where
+  pub marked : MarkedPlace p
+  pub kept : KeptAt p work
+  pub inside : p.element < length p.nodes.now
+  pub height-is : pile.height ≡ length (roots_of p.alphabet.now p.nodes.now (p.element + 1))
   pub reach-is : t.reach ≡ 1
   pub plausible : Plausible t.totals
   pub counted : t.totals.elements ≤ nodes_most
 
--- in the place of node i's subtree stands a tree whose root has this set
-pub record BehindCountable (a table index ch : List ℕ) (i start : ℕ) (marks root : List ℕ) (t : Record)
-    (pile : Pile) (work : Work) : Type 0 where
-  pub marked : Marked a table ch marks
-  pub kept : Kept a table index work
-  pub inside : i < length ch
-  pub begins : start ≡ (span_of a ch i).start
-  pub size : length root ≡ size_of table
+-- instead of the place's subtree stands a tree whose root has this set
+pub record BehindCountable (p : Place) (start : ℕ) (root : List ℕ) (t : Record) (pile : Pile) (work : Work) : Type 0 where
+  pub marked : MarkedPlace p
+  pub kept : KeptAt p work
+  pub inside : p.element < length p.nodes.now
+  pub begins : start ≡ (span_of p.alphabet.now p.nodes.now p.element).start
+  pub size : length root ≡ size_of p.indexed.table.now
   pub plausible : Plausible t
   pub counted : t.elements ≤ nodes_most

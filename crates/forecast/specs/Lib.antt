@@ -1,3 +1,4 @@
+pub mod ChangeIn
 pub mod Room
 pub mod Pile
 pub mod Sum

@@ -1,10 +1,10 @@
 // The nodes behind the place of an exchange: its ancestors are worked out until one keeps its words, and their totals are added.
-ghost use Rattle.std.specs.Prelude.{◌≡◌, not, [], ◌∷◌, ◌+◌, leb, take};
-ghost use Rattle.words.specs.Postfix.{arity, stack_given};
+ghost use Rattle.std.specs.Prelude.{◌≡◌, not, ◌∷◌, leb};
+ghost use Rattle.words.specs.Postfix.{arity};
 ghost use Rattle.operations.specs.Marks.{size_of, stored_set, same_words};
 ghost use Rattle.totals.specs.TotalsIn.{totals_in};
-ghost use Rattle.forecast.specs.Pile.{stack_of, Kept};
-ghost use Rattle.forecast.specs.Behind.{with_ancestors, Stackable, Passable, Passed, NodesPassable, BehindCountable};
+ghost use Rattle.forecast.specs.Pile.{stack_of};
+ghost use Rattle.forecast.specs.Behind.{place_totals, stored_before, KeptAt, Stackable, Passable, Passed, NodesPassable, BehindCountable};
 
 use super::pile::{Pile, Work};
 use super::sum::add_set;
@@ -13,6 +13,16 @@ use index::Indexed;
 use sets::whole::same_words;
 use tables::head::set_size;
 use totals::Totals;
+
+// A node of a chapter with these marks, and what its ancestors are worked out by.
+#[derive(Clone, Copy)]
+pub(crate) struct Place<'a> {
+    pub alphabet: &'a [u32],
+    pub indexed: Indexed<'a>,
+    pub nodes: &'a [u32],
+    pub marks: &'a [u32],
+    pub element: usize,
+}
 
 // How far the nodes are passed: how many sets, counted from the top, reach down to the one of the tree that holds the place, whether
 // work continues, and the totals. The reach and the totals go on when work has ended, so that a flag tells it.
@@ -24,25 +34,16 @@ pub struct Passing {
 }
 
 // Makes the pile that of the stored sets of the roots of the trees that the first `count` nodes make.
-fn stack_sets(
-    alphabet: &[u32],
-    table: &[u32],
-    nodes: &[u32],
-    count: usize,
-    marks: &[u32],
-    pile: &mut Pile,
-)
-    requires { Stackable alphabet.now table.now nodes.now count marks.now }
-    ensures { stack_of (size_of table.now) pile.new
-        ≡ stack_given alphabet.now (stored_set (size_of table.now) marks.now) 0
-        (take count nodes.now) [] }
+fn stack_sets(place: Place, count: usize, pile: &mut Pile)
+    requires { Stackable place count }
+    ensures { stack_of (size_of place.entry.indexed.table.now) pile.new ≡ stored_before place.entry count }
 {
-    let size = set_size(table);
+    let size = set_size(place.indexed.table);
     pile.height = 0;
     for i in 0..count {
-        let children = node_arity(alphabet, nodes[i]);
+        let children = node_arity(place.alphabet, place.nodes[i]);
         let at = i * size;
-        pile.put(children, &marks[at..at + size]);
+        pile.put(children, &place.marks[at..at + size]);
     }
 }
 
@@ -50,21 +51,21 @@ fn stack_sets(
 // ancestor: it keeps its set. An ancestor is worked out if work continues, which then ends if its words are the stored ones; it is
 // counted.
 fn pass_node(
-    alphabet: &[u32],
-    indexed: Indexed,
+    place: Place,
     w: u32,
     stored: &[u32],
     pile: &mut Pile,
     passing: Passing,
     work: &mut Work,
 ) -> Passing
-    requires { Passable alphabet.now indexed.table.now indexed.index.now w stored.now pile.old passing work.old }
-    ensures passed { Passed alphabet.now indexed.entry.table.now w stored.now pile.old passing
-        (leb passing.reach (arity alphabet.now w)) pile.new result }
-    ensures kept { Kept alphabet.now indexed.entry.table.now indexed.entry.index.now work.new }
+    requires { Passable place w stored.now pile.old passing work.old }
+    ensures passed { Passed place.entry.alphabet.now place.entry.indexed.table.now w stored.now pile.old passing
+        (leb passing.reach (arity place.entry.alphabet.now w)) pile.new result }
+    ensures kept { KeptAt place.entry work.new }
 {
-    let size = set_size(indexed.table);
-    let children = node_arity(alphabet, w);
+    let table = place.indexed.table;
+    let size = set_size(table);
+    let children = node_arity(place.alphabet, w);
     let reach = passing.reach;
     let totals = passing.totals;
     if children < reach {
@@ -80,78 +81,60 @@ fn pass_node(
         return Passing {
             reach: 1,
             active: false,
-            totals: add_set(indexed.table, totals, stored),
+            totals: add_set(table, totals, stored),
         };
     }
-    let set = pile.step(alphabet, indexed, w, work);
+    let set = pile.step(place.alphabet, place.indexed, w, work);
     let same = same_words(&set[..size], stored);
     Passing {
         reach: 1,
         active: !same,
-        totals: add_set(indexed.table, totals, &set[..size]),
+        totals: add_set(table, totals, &set[..size]),
     }
 }
 
-// Passes the nodes behind node `element`, and answers the totals with those of its ancestors.
-fn pass_nodes(
-    alphabet: &[u32],
-    indexed: Indexed,
-    nodes: &[u32],
-    element: usize,
-    marks: &[u32],
-    pile: &mut Pile,
-    passing: Passing,
-    work: &mut Work,
-) -> Totals
-    requires { NodesPassable alphabet.now indexed.table.now indexed.index.now nodes.now element marks.now pile.old passing work.old }
+// Passes the nodes behind the place, and answers the totals with those of its ancestors.
+fn pass_nodes(place: Place, pile: &mut Pile, passing: Passing, work: &mut Work) -> Totals
+    requires { NodesPassable place pile.old passing work.old }
     ensures { totals_in result
-        ≡ with_ancestors alphabet.now indexed.entry.table.now nodes.now element marks.now (element + 1)
-        (stack_of (size_of indexed.entry.table.now) pile.old) passing.active (totals_in passing.totals) }
+        ≡ place_totals place.entry (stack_of (size_of place.entry.indexed.table.now) pile.old) passing.active
+        (totals_in passing.totals) }
 {
-    let size = set_size(indexed.table);
+    let size = set_size(place.indexed.table);
     let mut state = passing;
-    for i in element + 1..nodes.len() {
+    for i in place.element + 1..place.nodes.len() {
         let at = i * size;
-        let stored = &marks[at..at + size];
-        state = pass_node(alphabet, indexed, nodes[i], stored, pile, state, work);
+        let stored = &place.marks[at..at + size];
+        state = pass_node(place, place.nodes[i], stored, pile, state, work);
     }
     state.totals
 }
 
-// The totals with those of the ancestors of node `element`, in whose place a tree whose root has the set `root` is put.
+// The totals with those of the ancestors of the place, where instead of its subtree, which begins at `start`, a tree is put whose root has
+// the set `root`.
 pub(crate) fn behind_totals(
-    alphabet: &[u32],
-    indexed: Indexed,
-    nodes: &[u32],
-    element: usize,
+    place: Place,
     start: usize,
-    marks: &[u32],
     root: &[u32],
     totals: Totals,
     pile: &mut Pile,
     work: &mut Work,
 ) -> Totals
-    requires { BehindCountable alphabet.now indexed.table.now indexed.index.now nodes.now element start marks.now root.now totals
-        pile.old work.old }
+    requires { BehindCountable place start root.now totals pile.old work.old }
     ensures { totals_in result
-        ≡ with_ancestors alphabet.now indexed.entry.table.now nodes.now element marks.now (element + 1)
-        (root.now
-        ∷ stack_given alphabet.now (stored_set (size_of indexed.entry.table.now) marks.now) 0
-        (take start nodes.now) [])
-        (not (same_words root.now (stored_set (size_of indexed.entry.table.now) marks.now element)))
+        ≡ place_totals place.entry (root.now ∷ stored_before place.entry start)
+        (not (same_words root.now (stored_set (size_of place.entry.indexed.table.now) place.entry.marks.now place.entry.element)))
         (totals_in totals) }
 {
-    let size = set_size(indexed.table);
-    stack_sets(alphabet, indexed.table, nodes, start, marks, pile);
+    let size = set_size(place.indexed.table);
+    stack_sets(place, start, pile);
     pile.put(0, root);
-    let at = element * size;
-    let same = same_words(root, &marks[at..at + size]);
+    let at = place.element * size;
+    let same = same_words(root, &place.marks[at..at + size]);
     let passing = Passing {
         reach: 1,
         active: !same,
         totals,
     };
-    pass_nodes(
-        alphabet, indexed, nodes, element, marks, pile, passing, work,
-    )
+    pass_nodes(place, pile, passing, work)
 }

@@ -3,12 +3,12 @@
 #![tactic(auto)]
 
 ghost use Rattle.std.specs.Prelude.{◌≡◌};
-ghost use Rattle.operations.specs.ExchangeCall.{exchange_call};
 ghost use Rattle.totals.specs.TotalsIn.{totals_in};
 ghost use Rattle.totals.specs.Place.{added_totals};
 ghost use Rattle.totals.specs.Replaceable.{Replaceable};
+ghost use Rattle.forecast.specs.ChangeIn.{call_in};
 
-use behind::behind_totals;
+use behind::{Place, behind_totals};
 use closures::{KeptClosures, ROWS_LENGTH, ROWS_MOST};
 use index::{INDEX_LENGTH, Indexed, write_index};
 use pile::{PILE_LENGTH, Pile, Work};
@@ -24,25 +24,26 @@ mod pile;
 mod sum;
 mod tree;
 
+// What an exchange is lent besides the chapter and its marks, and where the element's subtree begins.
+#[derive(Clone, Copy)]
+pub struct Change<'a> {
+    pub alphabet: &'a [u32],
+    pub table: &'a [u32],
+    pub count: usize,
+    pub element: usize,
+    pub start: usize,
+    pub replacement: &'a [u32],
+}
+
 // The totals of the replacement's nodes and of the ancestors of the place, as they are behind the exchange. First the replacement is
 // worked out alone; its root's set is kept. Then the sets before the place are put on the array, the root's set above them, and
 // the nodes behind the place are passed.
-pub fn forecast_totals(
-    alphabet: &[u32],
-    table: &[u32],
-    chapter: &[u32],
-    count: usize,
-    marks: &[u32],
-    element: usize,
-    start: usize,
-    replacement: &[u32],
-) -> Totals
-    requires { Replaceable (exchange_call alphabet.now table.now chapter.now marks.now count element replacement.now) start }
-    ensures { totals_in result
-        ≡ added_totals
-        (exchange_call alphabet.now table.now chapter.now marks.now count element
-        replacement.now) }
+pub fn forecast_totals<'a>(change: Change<'a>, chapter: &'a [u32], marks: &'a [u32]) -> Totals
+    requires { Replaceable (call_in change chapter.now marks.now) change.start }
+    ensures { totals_in result ≡ added_totals (call_in change.entry chapter.now marks.now) }
 {
+    let alphabet = change.alphabet;
+    let table = change.table;
     let mut index = [0u32; INDEX_LENGTH];
     write_index(table, &mut index);
     let indexed = Indexed {
@@ -60,17 +61,20 @@ pub fn forecast_totals(
         },
         pending: [0u32; STATES_MOST],
     };
-    let counted = tree_totals(alphabet, indexed, replacement, &mut pile, &mut work);
+    let counted = tree_totals(alphabet, indexed, change.replacement, &mut pile, &mut work);
     let size = set_size(table);
     let mut root = [0u32; SET_MOST];
     write_set(&mut root, &pile.sets[..size]);
-    behind_totals(
+    let place = Place {
         alphabet,
         indexed,
-        &chapter[..count],
-        element,
-        start,
+        nodes: &chapter[..change.count],
         marks,
+        element: change.element,
+    };
+    behind_totals(
+        place,
+        change.start,
         &root[..size],
         counted,
         &mut pile,

@@ -2,7 +2,7 @@
 use mathlib.Core.Path.{refl}
 use native.Mathlib.Omega.{arith}
 use Rattle.forecast.proofs.ForecastLaws.{forecast-index, forecast-tree, used-part, root-inside, root-length, root-small}
-use Rattle.forecast.proofs.ForecastLaws.{part-inside, part_length, root_is, forecast-behind}
+use Rattle.forecast.proofs.ForecastLaws.{part-inside, part_length, root_is, root-size, forecast-marked, forecast-inside, forecast-few}
 use Rattle.forecast.proofs.AddedLaws.{forecast-is}
 use Rattle.forecast.proofs.forecast_totals.Goals as goal
 
@@ -24,21 +24,29 @@ slice_bounds-write_set-end-2 c = root-length c.requires c.tree_totals-counted.ne
 pub write_set-requires : goal.write_set-requires
 write_set-requires c = root-small c.requires c.tree_totals-counted.new.pile _ c.set_size-size.ensures
 
-pub slice_bounds-behind_totals-end : goal.slice_bounds-behind_totals-end
-slice_bounds-behind_totals-end c = used-part c.requires
+pub slice_bounds-place-end : goal.slice_bounds-place-end
+slice_bounds-place-end c = used-part c.requires
 
 pub slice_bounds-root-end : goal.slice_bounds-root-end
 slice_bounds-root-end c =
     part-inside c.requires c.tree_totals-counted.new.pile _ c.set_size-size.ensures _ c.write_set.ensures
 
-pub slice_bounds-behind_totals-end-2 : goal.slice_bounds-behind_totals-end-2
-slice_bounds-behind_totals-end-2 c =
+pub slice_bounds-behind_totals-end : goal.slice_bounds-behind_totals-end
+slice_bounds-behind_totals-end c =
     part_length c.requires c.tree_totals-counted.new.pile _ c.set_size-size.ensures _ c.write_set.ensures
 
 pub behind_totals-requires : goal.behind_totals-requires
 behind_totals-requires c =
-    forecast-behind c.requires c.tree_totals-counted.new.pile _ c.set_size-size.ensures _ c.write_set.ensures
-    c.tree_totals-counted.ensures.kept c.tree_totals-counted.ensures.answer c.tree_totals-counted.ensures.plausible
+    let counted = c.tree_totals-counted.ensures in
+    record {
+      marked = forecast-marked c.requires;
+      kept = counted.kept;
+      inside = forecast-inside c.requires;
+      begins = c.requires.begins;
+      size = root-size c.requires c.tree_totals-counted.new.pile _ c.set_size-size.ensures _ c.write_set.ensures;
+      plausible = counted.plausible;
+      counted = forecast-few c.requires counted.answer;
+    }
 
 pub returns : goal.returns
 returns c =

@@ -6,7 +6,7 @@ use native.Mathlib.Omega.{arith}
 use lib.ListN.{length}
 use lib.Seq.{length-take-le, take_at}
 use Rattle.words.specs.Answer.{accepted}
-use Rattle.exchanger.specs.ChangeIn.{call_in}
+use Rattle.forecast.specs.ChangeIn.{call_in}
 use Rattle.operations.specs.Totals.{moved_totals}
 use Rattle.totals.specs.TotalsIn.{totals_in}
 use Rattle.totals.specs.Place.{fallen_totals, added_totals}

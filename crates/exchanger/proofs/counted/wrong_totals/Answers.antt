@@ -1,7 +1,7 @@
 -- `exchanger::counted::wrong_totals` meets its contract: the totals at the place decide, elements, hits and cells in their order.
 use mathlib.Core.Path.{◌≡◌, ap, ◌∙◌, sym}
 use native.Mathlib.Omega.{arith}
-use Rattle.exchanger.specs.ChangeIn.{call_in}
+use Rattle.forecast.specs.ChangeIn.{call_in}
 use Rattle.operations.specs.Totals.{out_of_range}
 use Rattle.totals.specs.TotalsIn.{totals_in}
 use Rattle.totals.specs.Place.{added_totals}

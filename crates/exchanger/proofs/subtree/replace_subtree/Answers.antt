@@ -4,7 +4,7 @@ use mathlib.Core.Path.{ap₂}
 use mathlib.Core.List.{[], ◌∷◌}
 use Prim.Native.Nat.{ℕ}
 use native.Mathlib.Omega.{arith}
-use Rattle.exchanger.specs.ChangeIn.{call_in}
+use Rattle.forecast.specs.ChangeIn.{call_in}
 use Rattle.exchanger.proofs.CallNumberLaws.{call-numbers, chapter-movable, marks-movable}
 use Rattle.exchanger.proofs.ReplaceLaws.{chapter-exit, chapter-count, call-updatable, marks-exit}
 use Rattle.exchanger.proofs.subtree.replace_subtree.Goals as goal

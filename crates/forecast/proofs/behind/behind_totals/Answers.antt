@@ -23,8 +23,8 @@ overflow_add-at c =
     let l = row_small c.requires.marked _ c.requires.inside _ c.set_size-size.ensures in
     omega arith
 
-pub offset_bounds-marks-at : goal.offset_bounds-marks-at
-offset_bounds-marks-at c =
+pub offset_bounds-place-at : goal.offset_bounds-place-at
+offset_bounds-place-at c =
     let l = row_small c.requires.marked _ c.requires.inside _ c.set_size-size.ensures in
     omega arith
 

@@ -3,4 +3,4 @@ use Rattle.forecast.proofs.StackSetsLaws.{StackingSets}
 use Rattle.forecast.proofs.behind.stack_sets.Given as goal
 
 abbrev pub invariant-loop-i : goal.invariant-loop-i
-invariant-loop-i l = StackingSets l.alphabet l.table l.nodes l.count l.marks l.pile l.i
+invariant-loop-i l = StackingSets l.place l.count l.pile l.i
