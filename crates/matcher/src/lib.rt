@@ -27,8 +27,8 @@ pub struct Marked {
     pub cells: usize,
 }
 
-// Document 01's Run with the record by value: marks the chapter by the table in its slice and answers its totals, or refuses. What
-// follows the table is not read.
+// Document 01's Run without the record: marks the chapter by the table in its slice and answers its totals, or refuses. What follows
+// the table is not read.
 pub fn run_counted(
     alphabet: &[u32],
     table_slice: &[u32],
@@ -50,7 +50,7 @@ pub fn run_counted(
 }
 
 // Document 01's Run: marks the chapter and sets the record of totals (document 02, U10), or refuses. All work is in
-// `run_counted`, which has the record by value.
+// `run_counted`, which answers the totals.
 pub fn run(
     alphabet: &[u32],
     table_slice: &[u32],

@@ -1,4 +1,4 @@
--- What the functions between Compile and the lines are given. It serves the inner functions.
+-- What the functions between Compile and the lines are given, and what they leave. It serves the inner functions.
 use Rattle.std.specs.Prelude.{ℕ, ◌+◌, ◌*◌, ◌/◌, ◌≤◌, ◌≡◌, List, [], ◌∷◌, length, Result, Ok, Err}
 use Rattle.words.specs.Limits.{alphabet_most, expression_most, table_most}
 use Rattle.words.specs.Answer.{accepted}

@@ -2,7 +2,8 @@
 ghost use Rattle.std.specs.Prelude.{◌≡◌};
 ghost use Rattle.words.specs.Decoded.{number_in};
 
-// Why a call is refused. Each case's number is the documents'; the definitions of `specs/` have its condition under this name.
+// Why a call is refused. Each case's number is the documents'; the definitions of `specs/` have its condition under this name, but
+// for a rule and a chapter that are not one tree, which share `not_one_tree`, and for holes, `holes_in`.
 #[derive(Clone, Copy, PartialEq, Eq)]
 pub enum Refusal {
     NoAlphabet = 1,
