@@ -176,7 +176,8 @@ pub fn count_constants(alphabet: &[u32]) -> usize
 }
 
 // Writes the constants in symbol order into the first words of the list, as far as it reaches, and answers how many there are.
-// Only the symbols that an alphabet can have are looked at.
+// Only the symbols that an alphabet can have are looked at. The list is the caller's memory, and those that it has no room for are
+// counted too, so that the count stands beside it.
 pub fn write_constants(alphabet: &[u32], list: &mut [u32]) -> usize
     ensures answer { result ≡ length (constants_of (take alphabet_most alphabet.now)) }
     ensures list { list.new ≡ sets list.old 0 (constants_of (take alphabet_most alphabet.now)) }

@@ -137,7 +137,8 @@ impl KeptClosures {
     }
 }
 
-// Puts the closure of a state into a closed set: from its row, or by a search in the set itself.
+// Puts the closure of a state into a closed set: from its row, or by a search in the set itself. The stack of states stays beside the
+// closures: any slice with room for every state is taken, and an array of a struct would ask for one length.
 pub fn join_closure(
     indexed: Indexed,
     state: usize,

@@ -11,7 +11,8 @@ const NO_PORT: Port = Port {
     entries: Entries::Missing,
 };
 
-// The first `height` ports are those of the words that wait.
+// The first `height` ports are those of the words that wait. It is a type of its own beside the other stacks: they hold numbers, over
+// zeros (nodes' `Roots`), by a `Model` (syntax's `Heights`) or many words each (forecast's `Pile`), and share no clause.
 #[derive(Drop)]
 pub(crate) struct Stack {
     ports: [Port; EXPRESSION_MOST],

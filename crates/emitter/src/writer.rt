@@ -7,7 +7,7 @@ ghost use Rattle.emitter.specs.Writing.{Written, last_index};
 
 use words::word::{EPSILON, KIND_UNIT, STATE_RANGE, TRANSITION};
 
-// A slice, and the index of the next word.
+// A slice, and the index of the next word. It counts on past the end of the slice, where a writer of bytes (encoding) stays.
 #[derive(Drop)]
 pub struct Writer<'a> {
     pub out: &'a mut [u32],

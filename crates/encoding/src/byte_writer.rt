@@ -5,7 +5,8 @@ ghost use Rattle.encoding.specs.ByteWriting.{BytesWritten};
 
 use itoa::Buffer;
 
-// Writes one thing after the other into a slice, as far as it reaches; `next` is the index of the next byte.
+// Writes one thing after the other into a slice, as far as it reaches; `next` is the index of the next byte. It stays at the end of the
+// slice, where a writer of table words (emitter) counts on.
 #[derive(Drop)]
 pub struct ByteWriter<'a> {
     pub out: &'a mut [u8],

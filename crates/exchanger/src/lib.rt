@@ -34,7 +34,7 @@ pub struct ExchangeCounted {
 }
 
 // Document 01's Exchange with the record by value, by the table in its slice: the new element count and the number worked out, or a
-// refusal. What follows the table is not read.
+// refusal. What follows the table is not read. The call's parts are taken as the C interface lends them.
 pub fn exchange_counted(
     alphabet: &[u32],
     table_slice: &[u32],

@@ -25,7 +25,7 @@ pub(crate) struct Place<'a> {
 }
 
 // How far the nodes are passed: how many sets, counted from the top, reach down to the one of the tree that holds the place, whether
-// work continues, and the totals. The reach and the totals go on when work has ended, so that a flag tells it.
+// work continues, and the totals. Reach and totals are used whether work continues or not, so that this is a flag.
 #[derive(Drop)]
 pub struct Passing {
     pub reach: usize,

@@ -36,7 +36,7 @@ pub struct Change<'a> {
 }
 
 // The totals of the replacement's nodes and of the ancestors of the place, as they are behind the exchange. First the replacement is
-// worked out alone; its root's set is kept. Then the sets before the place are put on the array, the root's set above them, and
+// worked out alone; its root's set is kept. Then the sets before the place are put on the pile, the root's set above them, and
 // the nodes behind the place are passed.
 pub fn forecast_totals<'a>(change: Change<'a>, chapter: &'a [u32], marks: &'a [u32]) -> Totals
     requires { Replaceable (call_in change chapter.now marks.now) change.start }

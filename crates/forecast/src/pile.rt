@@ -19,7 +19,7 @@ const SETS_MOST: usize = (RANK_MOST - 1) * (HEIGHT_MOST - 1) + 1;
 // The words of the array.
 pub(crate) const PILE_LENGTH: usize = SETS_MOST * SET_MOST;
 
-// The sets: the first `height` of the array.
+// The sets: the first `height` of the array. How many words a set has is known at the call alone, so that no stack of values serves.
 #[derive(Drop)]
 pub(crate) struct Pile {
     pub sets: [u32; PILE_LENGTH],

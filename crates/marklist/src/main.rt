@@ -25,7 +25,7 @@ fn read_words(input: &mut Stdin, count: u32, words: &mut [u32]) -> io::Result<()
 {
     let all = count as usize;
     let mut seen: usize = 0;
-    // No `for`: how far a turn goes is as long as the part that it read.
+    // No `for`: a turn goes on by as many words as the part has that it reads.
     while seen < all {
         let bytes = part_bytes(all - seen);
         let mut buffer = buffer();
@@ -36,7 +36,8 @@ fn read_words(input: &mut Stdin, count: u32, words: &mut [u32]) -> io::Result<()
     Ok(())
 }
 
-// Reads the three counts, and then as many words of the alphabet, the rule and the chapter as they say.
+// Reads the three counts, and then as many words of the alphabet, the rule and the chapter as they say. The counts stay beside the
+// arrays, since no more words are kept than an array holds and a count may be any number.
 fn read_parts(
     input: &mut Stdin,
     counts: &mut [u32; 3],

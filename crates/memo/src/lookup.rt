@@ -61,7 +61,7 @@ fn copy_node(marks: &mut [u32], node: usize, i: usize, size: usize)
 }
 
 // Writes the state set of node i, which has this symbol and children that the last `rank` of the four nodes represent; answers
-// its representative.
+// its representative. The four are the topmost words of the caller's stack as they stand, since a key is packed of all four.
 pub fn mark_next(
     indexed: Indexed,
     symbol: u32,

@@ -115,7 +115,8 @@ fn change_fault(
     Ok(start)
 }
 
-// Where the element's subtree begins, or the first of the documents' refusals that applies.
+// Where the element's subtree begins, or the first of the documents' refusals that applies. The call's parts are taken as the C
+// interface lends them.
 #[tactic(auto, using(crate::proofs::CountRefusalLaws::used_length, crate::proofs::CountRefusalLaws::used_few))]
 pub fn exchange_fault(
     alphabet: &[u32],

@@ -37,8 +37,8 @@ pub fn contains(set: &[u32], s: usize) -> bool
         .is_some_and(|&word| (word >> (s % WORD_BITS) as u32) % 2 == 1)
 }
 
-// Puts state s into the set; a state beyond the set's words changes nothing. The word is stored by its index: the proof of a write
-// through `get_mut` would have to name what Rattle numbers itself.
+// Puts state s into the set; a state beyond the set's words changes nothing. The word is stored by its index: the proof of a store
+// through `get_mut` was tried and did not close.
 #[tactic(auto, unfolding(automaton::specs::StateSet::insert))]
 pub fn insert(set: &mut [u32], s: usize)
     ensures { set.new ≡ StateSet·insert set.old s }

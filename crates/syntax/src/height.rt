@@ -24,7 +24,8 @@ pub fn highest_of(heights: &[u32]) -> u32
     heights.iter().copied().max().unwrap_or(0)
 }
 
-// A stack of at most N heights: those before `top`, the last one on top.
+// A stack of at most N heights: those before `top`, the last one on top. Words that lack children take what there is, so that it takes
+// from the top otherwise than the stacks of trees do.
 #[derive(Drop)]
 struct Heights<const N: usize> {
     array: [u32; N],
