@@ -83,7 +83,7 @@ pub fn exchange_counted(
 }
 
 // Document 01's Exchange, which also changes the record of totals by the difference that it makes (document 02, U10). All
-// work is in `exchange_counted`, which has the record by value.
+// work is in `exchange_counted`, which has the record by value: document 01 asks for a thin function, by which the record is changed.
 pub fn exchange(
     alphabet: &[u32],
     table_slice: &[u32],

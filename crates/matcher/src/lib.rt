@@ -50,7 +50,7 @@ pub fn run_counted(
 }
 
 // Document 01's Run: marks the chapter and sets the record of totals (document 02, U10), or refuses. All work is in
-// `run_counted`, which answers the totals.
+// `run_counted`, which answers the totals: document 01 asks for a thin function, by which the record is changed.
 pub fn run(
     alphabet: &[u32],
     table_slice: &[u32],
