@@ -26,13 +26,14 @@ use Rattle.memo.specs.Memo.{set_over, NextMarkable, MarkedNext}
 use Rattle.memo.proofs.NodeWritingLaws.{length-set_over}
 use Rattle.memo.proofs.MemoLaws.{stored-kept}
 use Rattle.nodes.specs.declared.stack.Roots.{Roots}
+use Rattle.nodes.specs.declared.marking.Marking.{Marking}
 use Rattle.nodes.specs.Nodes.{Pushable, Readable, set_from, marked_at, BoundedTree, stack_base}
 use Rattle.nodes.specs.Marking.{NodeMarkable, Maintained}
 use Rattle.nodes.proofs.WorkableLaws.{node-rank, bounded-tree, ranks-most, alphabet-few, table-checked, workable-marks}
 use Rattle.nodes.proofs.RootStackLaws.{nodes-fit, stack-height, stack-pushable, represented-more}
 
-module _ {a table index ch : List ℕ} {i : ℕ} {marks : List ℕ} {roots : Roots} {memo : Memo}
-    (g : NodeMarkable a table index ch i marks roots memo) (r : ℕ)
+module _ {a table index ch : List ℕ} {i : ℕ} {marks : List ℕ} {marking : Marking}
+    (g : NodeMarkable a table index ch i marks marking) (r : ℕ)
     (e : r ≡ arity a (get_or ch i 0)) where
   abbrev w : ℕ
   w = get_or ch i 0
@@ -41,10 +42,10 @@ module _ {a table index ch : List ℕ} {i : ℕ} {marks : List ℕ} {roots : Roo
   size = size_of table
 
   abbrev array : List ℕ
-  array = roots.nodes
+  array = marking.roots.nodes
 
   abbrev height : ℕ
-  height = roots.height
+  height = marking.roots.height
 
   tree : BoundedTree a ch
   tree = bounded-tree g.workable
@@ -61,23 +62,23 @@ module _ {a table index ch : List ℕ} {i : ℕ} {marks : List ℕ} {roots : Roo
   rank_is : r ≡ rank_of a (symbol_of (get_or ch i 0))
   rank_is = e ∙ node-rank (bounded-tree g.workable) i g.inside
 
-  node-low : stack_base ≤ roots.height
+  node-low : stack_base ≤ marking.roots.height
   node-low = omega (arith, g.maintained.represented.held.height-is)
 
-  node-height : roots.height < length roots.nodes
+  node-height : marking.roots.height < length marking.roots.nodes
   node-height = stack-height g.maintained.represented (bounded-tree g.workable) g.inside r e
 
-  pub node-readable : Readable roots.height
+  pub node-readable : Readable marking.roots.height
   node-readable =
       let m = node-height in
-      record { based = node-low; inside = omega (arith, roots.long) }
+      record { based = node-low; inside = omega (arith, marking.roots.long) }
 
-  pub node-pushable : (node : ℕ) → node < i + 1 → Pushable roots.nodes roots.height r node
+  pub node-pushable : (node : ℕ) → node < i + 1 → Pushable marking.roots.nodes marking.roots.height r node
   node-pushable = stack-pushable g.maintained.represented (bounded-tree g.workable) g.inside r e
 
   -- the four words on top of the stack
-  module _ {four : List ℕ} (top : four ≡ take stack_base (drop (roots.height - stack_base) roots.nodes)) where
-    four_is : four ≡ drop (roots.height - stack_base) (take roots.height roots.nodes)
+  module _ {four : List ℕ} (top : four ≡ take stack_base (drop (marking.roots.height - stack_base) marking.roots.nodes)) where
+    four_is : four ≡ drop (marking.roots.height - stack_base) (take marking.roots.height marking.roots.nodes)
     four_is =
         let l = node-low in
         let n : stack_base ≡ height - (height - stack_base) = omega arith in
@@ -103,7 +104,7 @@ module _ {a table index ch : List ℕ} {i : ℕ} {marks : List ℕ} {roots : Roo
     fits = nodes-fit g.maintained.represented (bounded-tree g.workable) g.inside r e
 
     -- the last r of them represent the node's children
-    part-place : roots.height - stack_base + (rank_most - r) ≡ stack_base + (length g.maintained.represented.nodes - r)
+    part-place : marking.roots.height - stack_base + (rank_most - r) ≡ stack_base + (length g.maintained.represented.nodes - r)
     part-place =
         let f = fits in
         let most = ranks-most g.workable (symbol_of w) in
@@ -150,7 +151,7 @@ module _ {a table index ch : List ℕ} {i : ℕ} {marks : List ℕ} {roots : Roo
           rows = rows_inside;
         }
 
-    pub node-next : NextMarkable table index (symbol_of (get_or ch i 0)) marks four r i memo
+    pub node-next : NextMarkable table index (symbol_of (get_or ch i 0)) marks four r i marking.memo
     node-next =
         let k = g.maintained.remembered in
         record {
@@ -191,9 +192,9 @@ module _ {a table index ch : List ℕ} {i : ℕ} {marks : List ℕ} {roots : Roo
       unfolding marked_at
       node-words = n.new.words ∙ ap (λ (l : List ℕ). paste marks (i * size) l size) set_is
 
-      pub node_kept : {roots' : Roots} → roots'.height ≡ roots.height - r + 1
-          → roots'.nodes ≡ set roots.nodes (roots.height - r) node
-          → Maintained a table ch (i + 1) marks' roots' memo'
+      pub node_kept : {roots' : Roots} → roots'.height ≡ marking.roots.height - r + 1
+          → roots'.nodes ≡ set marking.roots.nodes (marking.roots.height - r) node
+          → Maintained a table ch (i + 1) marks' (record { roots = roots'; memo = memo' })
       node_kept p q =
           let long = length-set_over table (symbol_of w) marks (drop (rank_most - r) four) in
           record {

@@ -11,45 +11,54 @@ use memo::Memo;
 use memo::lookup::mark_next;
 use words::word::SYMBOL_RANGE;
 
+// A tree over an alphabet, with the table by which it is marked and its index.
+#[derive(Clone, Copy)]
+pub struct Tree<'a> {
+    pub alphabet: &'a [u32],
+    pub indexed: Indexed<'a>,
+    pub nodes: &'a [u32],
+}
+
+// What is kept from node to node: the stack of representatives, and the memo of node steps.
+#[derive(Drop)]
+pub struct Marking {
+    pub roots: Roots,
+    pub memo: Memo,
+}
+
 // Marks node i, and puts its representative on the stack in the place of its children's.
-pub fn mark_node(
-    alphabet: &[u32],
-    indexed: Indexed,
-    nodes: &[u32],
-    i: usize,
-    marks: &mut [u32],
-    roots: &mut Roots,
-    memo: &mut Memo,
-)
-    requires { NodeMarkable alphabet.now indexed.table.now indexed.index.now nodes.now i marks.old roots.old memo.old }
+pub fn mark_node(tree: Tree, i: usize, marks: &mut [u32], marking: &mut Marking)
+    requires { NodeMarkable tree.alphabet.now tree.indexed.table.now tree.indexed.index.now tree.nodes.now i marks.old marking.old }
     ensures marks { marks.new
-        ≡ marked_at alphabet.now indexed.entry.table.now nodes.now i marks.old }
-    ensures maintained { Maintained alphabet.now indexed.entry.table.now nodes.now (i + 1) marks.new roots.new memo.new }
+        ≡ marked_at tree.entry.alphabet.now tree.entry.indexed.table.now tree.entry.nodes.now i marks.old }
+    ensures maintained { Maintained tree.entry.alphabet.now tree.entry.indexed.table.now tree.entry.nodes.now (i + 1)
+        marks.new marking.new }
 {
-    let w = nodes[i];
+    let w = tree.nodes[i];
     let symbol = w % SYMBOL_RANGE;
-    let children = node_arity(alphabet, w);
-    let node = mark_next(indexed, symbol, marks, roots.top(), children, i, memo);
-    roots.push(children, node);
+    let children = node_arity(tree.alphabet, w);
+    let node = mark_next(
+        tree.indexed,
+        symbol,
+        marks,
+        marking.roots.top(),
+        children,
+        i,
+        &mut marking.memo,
+    );
+    marking.roots.push(children, node);
 }
 
 // Marks the nodes from `from` up to `to`, one after the other.
-pub fn mark_nodes(
-    alphabet: &[u32],
-    indexed: Indexed,
-    nodes: &[u32],
-    from: usize,
-    to: usize,
-    marks: &mut [u32],
-    roots: &mut Roots,
-    memo: &mut Memo,
-)
-    requires { NodesMarkable alphabet.now indexed.table.now indexed.index.now nodes.now from to marks.old roots.old memo.old }
+pub fn mark_nodes(tree: Tree, from: usize, to: usize, marks: &mut [u32], marking: &mut Marking)
+    requires { NodesMarkable tree.alphabet.now tree.indexed.table.now tree.indexed.index.now tree.nodes.now from to
+        marks.old marking.old }
     ensures marks { marks.new
-        ≡ marked_from alphabet.now indexed.entry.table.now nodes.now from (to - from) marks.old }
-    ensures maintained { Maintained alphabet.now indexed.entry.table.now nodes.now to marks.new roots.new memo.new }
+        ≡ marked_from tree.entry.alphabet.now tree.entry.indexed.table.now tree.entry.nodes.now from (to - from) marks.old }
+    ensures maintained { Maintained tree.entry.alphabet.now tree.entry.indexed.table.now tree.entry.nodes.now to
+        marks.new marking.new }
 {
     for i in from..to {
-        mark_node(alphabet, indexed, nodes, i, marks, roots, memo);
+        mark_node(tree, i, marks, marking);
     }
 }

@@ -6,8 +6,7 @@ use Prim.Native.Nat.{ℕ, suc, ◌+◌, ◌-◌, ◌<◌, ◌≤◌}
 use native.Mathlib.Omega.{arith}
 use native.Mathlib.Numerals.{add-one}
 use lib.ListN.{length}
-use Rattle.memo.specs.declared.Memo.{Memo}
-use Rattle.nodes.specs.declared.stack.Roots.{Roots}
+use Rattle.nodes.specs.declared.marking.Marking.{Marking}
 use Rattle.std.specs.declared.ops.ControlFlow.TheVariants.{Continue, Break}
 use Rattle.nodes.specs.Marking.{Maintained}
 use Rattle.nodes.proofs.WorkableLaws.{workable-long, bounded-tree}
@@ -15,18 +14,18 @@ use Rattle.propagation.specs.declared.Progress.{Progress}
 use Rattle.propagation.specs.Propagation.{propagate_step, propagate_from, initial, Propagable, PropagationStartable}
 use Rattle.propagation.proofs.PropagateNodeLaws.{step_small, propagate-continues, propagate-stops}
 
-pub record Propagating (a table ch : List ℕ) (root count : ℕ) (marks₀ marks : List ℕ) (roots : Roots) (t : Progress) (memo : Memo) (i : ℕ) : Type 0 where
+pub record Propagating (a table ch : List ℕ) (root count : ℕ) (marks₀ marks : List ℕ) (marking : Marking) (t : Progress) (i : ℕ) : Type 0 where
   pub low : root ≤ i
   pub high : i ≤ length ch
   pub marks-long : length marks ≡ length marks₀
-  pub maintained : Maintained a table ch i marks roots memo
+  pub maintained : Maintained a table ch i marks marking
   pub few-reached : t.reach ≤ i
   pub few-recomputed : t.recomputed ≤ count + i
   pub same : propagate_from a table ch root (length ch - root) marks₀ (initial count) ≡ propagate_from a table ch i (length ch - i) marks t
 
-module _ {a table index ch : List ℕ} {root count : ℕ} {marks₀ : List ℕ} {roots₀ : Roots} {memo₀ : Memo}
-    (pre : PropagationStartable a table index ch root marks₀ roots₀ count memo₀) where
-  pub propagating-none : Propagating a table ch root count marks₀ marks₀ roots₀ (initial count) memo₀ root
+module _ {a table index ch : List ℕ} {root count : ℕ} {marks₀ : List ℕ} {marking₀ : Marking}
+    (pre : PropagationStartable a table index ch root marks₀ marking₀ count) where
+  pub propagating-none : Propagating a table ch root count marks₀ marks₀ marking₀ (initial count) root
   propagating-none = record {
     low = omega arith;
     high = pre.nodes.order;
@@ -37,10 +36,10 @@ module _ {a table index ch : List ℕ} {root count : ℕ} {marks₀ : List ℕ} 
     same = refl;
   }
 
-  module _ {marks : List ℕ} {roots : Roots} {t : Progress} {memo : Memo} {i : ℕ}
-      (g : Propagating a table ch root count marks₀ marks roots t memo i) where
+  module _ {marks : List ℕ} {marking : Marking} {t : Progress} {i : ℕ}
+      (g : Propagating a table ch root count marks₀ marks marking t i) where
     module _ (l : i < length ch) where
-      pub propagating-at : Propagable a table index ch i marks roots t memo
+      pub propagating-at : Propagable a table index ch i marks marking t
       propagating-at =
           let few = (bounded-tree pre.nodes.workable).few in
           let o = g.few-reached in
@@ -69,9 +68,9 @@ module _ {a table index ch : List ℕ} {root count : ℕ} {marks₀ : List ℕ} 
             ∙ propagate-stops a table ch i marks t (length ch - suc i) m last e)
 
         pub propagating-more : {next : Progress} → (m, Continue next) ≡ propagate_step a table ch i marks t → length m ≡ length marks
-            → {roots' : Roots} {memo' : Memo}
-            → Maintained a table ch (i + 1) m roots' memo'
-            → Propagating a table ch root count marks₀ m roots' next memo' (i + 1)
+            → {marking' : Marking}
+            → Maintained a table ch (i + 1) m marking'
+            → Propagating a table ch root count marks₀ m marking' next (i + 1)
         propagating-more {next} e p d =
             let low = g.low in
             let o = g.few-reached in

@@ -18,9 +18,9 @@ use Rattle.slices.proofs.CopyLaws.{paste-same}
 use Rattle.sets.specs.Size.{marks_most, set_most}
 use Rattle.sets.proofs.StoredLaws.{row_inside, stored-part, stored-written}
 use Rattle.sets.proofs.SizeLaws.{words-few}
-use Rattle.memo.specs.declared.Memo.{Memo}
 use Rattle.memo.proofs.MemoLaws.{remembered-later}
 use Rattle.nodes.specs.declared.stack.Roots.{Roots}
+use Rattle.nodes.specs.declared.marking.Marking.{Marking}
 use Rattle.nodes.specs.Nodes.{set_from, marked_at}
 use Rattle.nodes.specs.Marking.{NodeMarkable, Maintained}
 use Rattle.nodes.proofs.WorkableLaws.{workable-size, bounded-tree, workable-marks}
@@ -51,8 +51,8 @@ module _ (a table ch : List ℕ) (i : ℕ) (marks : List ℕ) where
   recomputed-same h = ap (λ (m : List ℕ). (m, false)) (sym (marked-same h)) ∙ recomputed-is true h
 
 -- the node's words lie inside the marks, and their places are small numbers
-module _ {a table index ch : List ℕ} {i : ℕ} {marks : List ℕ} {roots : Roots} {memo : Memo}
-    (g : NodeMarkable a table index ch i marks roots memo) (size : ℕ)
+module _ {a table index ch : List ℕ} {i : ℕ} {marks : List ℕ} {marking : Marking}
+    (g : NodeMarkable a table index ch i marks marking) (size : ℕ)
     (s : size ≡ size_of table) where
   pub row_fits : i * size + size ≤ length marks
   row_fits = rw s (row_inside i (length ch) (size_of table) (length marks) g.inside (workable-marks g.workable))
@@ -104,12 +104,13 @@ module _ {a table index ch : List ℕ} {i : ℕ} {marks : List ℕ} {roots : Roo
 
 -- ---- one node is passed
 
-module _ {a table index ch : List ℕ} {i : ℕ} {marks : List ℕ} {roots : Roots} {memo : Memo}
-    (g : NodeMarkable a table index ch i marks roots memo) (k : ℕ)
+module _ {a table index ch : List ℕ} {i : ℕ} {marks : List ℕ} {marking : Marking}
+    (g : NodeMarkable a table index ch i marks marking) (k : ℕ)
     (e : k ≡ arity a (get_or ch i 0)) where
   -- the node is put on the stack, and its words stay
-  pub node-passed : {roots' : Roots} → roots'.height ≡ roots.height - k + 1 → roots'.nodes ≡ set roots.nodes (roots.height - k) i
-      → Maintained a table ch (i + 1) marks roots' memo
+  pub node-passed : {roots' : Roots} → roots'.height ≡ marking.roots.height - k + 1
+      → roots'.nodes ≡ set marking.roots.nodes (marking.roots.height - k) i
+      → Maintained a table ch (i + 1) marks (record { roots = roots'; memo = marking.memo })
   node-passed p q =
       record {
         represented =

@@ -6,8 +6,7 @@ use Rattle.std.specs.declared.ops.ControlFlow.TheVariants.{Continue, Break}
 use Rattle.words.specs.Limits.{nodes_most}
 use Rattle.words.specs.Postfix.{arity}
 use Rattle.operations.specs.Marks.{size_of, stored_set, same_words}
-use Rattle.memo.specs.declared.Memo.{Memo}
-use Rattle.nodes.specs.declared.stack.Roots.{Roots}
+use Rattle.nodes.specs.declared.marking.Marking.{Marking}
 use Rattle.nodes.specs.Nodes.{set_from, marked_at}
 use Rattle.nodes.specs.Marking.{NodeMarkable, NodesMarkable}
 use Rattle.propagation.specs.declared.Progress.{Progress}
@@ -46,12 +45,12 @@ abbrev pub initial : ℕ → Progress
 initial count = record { reach = 0; recomputed = count }
 
 -- what passing node i asks: the counts stay small
-pub record Propagable (a table index ch : List ℕ) (i : ℕ) (marks : List ℕ) (roots : Roots) (t : Progress) (memo : Memo) : Type 0 where
-  pub at : NodeMarkable a table index ch i marks roots memo
+pub record Propagable (a table index ch : List ℕ) (i : ℕ) (marks : List ℕ) (marking : Marking) (t : Progress) : Type 0 where
+  pub at : NodeMarkable a table index ch i marks marking
   pub few-reached : t.reach ≤ nodes_most
   pub few-recomputed : t.recomputed ≤ 2 * nodes_most
 
 -- what the whole loop asks, with `count` nodes recomputed before
-pub record PropagationStartable (a table index ch : List ℕ) (root : ℕ) (marks : List ℕ) (roots : Roots) (count : ℕ) (memo : Memo) : Type 0 where
-  pub nodes : NodesMarkable a table index ch root (length ch) marks roots memo
+pub record PropagationStartable (a table index ch : List ℕ) (root : ℕ) (marks : List ℕ) (marking : Marking) (count : ℕ) : Type 0 where
+  pub nodes : NodesMarkable a table index ch root (length ch) marks marking
   pub few : count ≤ nodes_most

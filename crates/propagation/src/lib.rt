@@ -6,10 +6,7 @@ ghost use Rattle.nodes.specs.Marking.{Maintained, NodeMarkable};
 ghost use Rattle.propagation.specs.Propagation.{recompute_at, propagate_step, propagate_from, initial, Propagable, PropagationStartable};
 
 use alphabet::node_arity;
-use index::Indexed;
-use memo::Memo;
-use nodes::marking::mark_node;
-use nodes::stack::Roots;
+use nodes::marking::{Marking, Tree, mark_node};
 use sets::state::SET_MOST;
 use sets::whole::{same_words, write_set};
 use std::ops::ControlFlow;
@@ -25,25 +22,18 @@ pub struct Progress {
 
 // Recomputes node i from the marks as they stand. The node's own words there are still those stored before the call: they are
 // kept beside until the new ones are compared with them. Answers whether they differ.
-fn recompute(
-    alphabet: &[u32],
-    indexed: Indexed,
-    nodes: &[u32],
-    i: usize,
-    marks: &mut [u32],
-    roots: &mut Roots,
-    memo: &mut Memo,
-) -> bool
-    requires { NodeMarkable alphabet.now indexed.table.now indexed.index.now nodes.now i marks.old roots.old memo.old }
+fn recompute(tree: Tree, i: usize, marks: &mut [u32], marking: &mut Marking) -> bool
+    requires { NodeMarkable tree.alphabet.now tree.indexed.table.now tree.indexed.index.now tree.nodes.now i marks.old marking.old }
     ensures marks { (marks.new, result)
-        ≡ recompute_at alphabet.now indexed.entry.table.now nodes.now i marks.old }
-    ensures maintained { Maintained alphabet.now indexed.entry.table.now nodes.now (i + 1) marks.new roots.new memo.new }
+        ≡ recompute_at tree.entry.alphabet.now tree.entry.indexed.table.now tree.entry.nodes.now i marks.old }
+    ensures maintained { Maintained tree.entry.alphabet.now tree.entry.indexed.table.now tree.entry.nodes.now (i + 1)
+        marks.new marking.new }
 {
-    let size = set_size(indexed.table);
+    let size = set_size(tree.indexed.table);
     let at = i * size;
     let mut before = [0u32; SET_MOST];
     write_set(&mut before, &marks[at..at + size]);
-    mark_node(alphabet, indexed, nodes, i, marks, roots, memo);
+    mark_node(tree, i, marks, marking);
     !same_words(&marks[at..at + size], &before[..size])
 }
 
@@ -51,29 +41,28 @@ fn recompute(
 // words stay. The replacement's root and its ancestors are recomputed; one that keeps its words ends the loop, with how many nodes
 // were recomputed.
 fn propagate_node(
-    alphabet: &[u32],
-    indexed: Indexed,
-    nodes: &[u32],
+    tree: Tree,
     i: usize,
     marks: &mut [u32],
-    roots: &mut Roots,
+    marking: &mut Marking,
     progress: Progress,
-    memo: &mut Memo,
 ) -> ControlFlow<usize, Progress>
-    requires { Propagable alphabet.now indexed.table.now indexed.index.now nodes.now i marks.old roots.old progress memo.old }
+    requires { Propagable tree.alphabet.now tree.indexed.table.now tree.indexed.index.now tree.nodes.now i marks.old
+        marking.old progress }
     ensures marks { (marks.new, result)
-        ≡ propagate_step alphabet.now indexed.entry.table.now nodes.now i marks.old progress }
-    ensures maintained { Maintained alphabet.now indexed.entry.table.now nodes.now (i + 1) marks.new roots.new memo.new }
+        ≡ propagate_step tree.entry.alphabet.now tree.entry.indexed.table.now tree.entry.nodes.now i marks.old progress }
+    ensures maintained { Maintained tree.entry.alphabet.now tree.entry.indexed.table.now tree.entry.nodes.now (i + 1)
+        marks.new marking.new }
 {
-    let children = node_arity(alphabet, nodes[i]);
+    let children = node_arity(tree.alphabet, tree.nodes[i]);
     if children < progress.reach {
-        roots.push(children, i);
+        marking.roots.push(children, i);
         return ControlFlow::Continue(Progress {
             reach: progress.reach - children + 1,
             recomputed: progress.recomputed,
         });
     }
-    let changed = recompute(alphabet, indexed, nodes, i, marks, roots, memo);
+    let changed = recompute(tree, i, marks, marking);
     let recomputed = progress.recomputed + 1;
     if !changed {
         return ControlFlow::Break(recomputed);
@@ -87,27 +76,24 @@ fn propagate_node(
 // Passes the nodes from `root` on, the replacement's root, until one that is recomputed keeps its words or the nodes end.
 // Answers how many nodes were recomputed; `count` of them before.
 pub fn propagate(
-    alphabet: &[u32],
-    indexed: Indexed,
-    nodes: &[u32],
+    tree: Tree,
     root: usize,
     marks: &mut [u32],
-    roots: &mut Roots,
+    marking: &mut Marking,
     count: usize,
-    memo: &mut Memo,
 ) -> usize
-    requires { PropagationStartable alphabet.now indexed.table.now indexed.index.now nodes.now root marks.old
-        roots.old count memo.old }
+    requires { PropagationStartable tree.alphabet.now tree.indexed.table.now tree.indexed.index.now tree.nodes.now root marks.old
+        marking.old count }
     ensures { (marks.new, result)
-        ≡ propagate_from alphabet.now indexed.entry.table.now nodes.now root (length nodes.now - root)
-        marks.old (initial count) }
+        ≡ propagate_from tree.entry.alphabet.now tree.entry.indexed.table.now tree.entry.nodes.now root
+        (length tree.entry.nodes.now - root) marks.old (initial count) }
 {
     let mut progress = Progress {
         reach: 0,
         recomputed: count,
     };
-    for i in root..nodes.len() {
-        match propagate_node(alphabet, indexed, nodes, i, marks, roots, progress, memo) {
+    for i in root..tree.nodes.len() {
+        match propagate_node(tree, i, marks, marking, progress) {
             ControlFlow::Continue(next) => progress = next,
             ControlFlow::Break(recomputed) => return recomputed,
         }

@@ -9,10 +9,11 @@ use Rattle.words.specs.Postfix.{roots_of}
 use Rattle.index.specs.Index.{index_length, index_of, Indexable}
 use Rattle.memo.specs.declared.Memo.{Memo}
 use Rattle.nodes.specs.declared.stack.Roots.{Roots}
+use Rattle.nodes.specs.declared.marking.Marking.{Marking}
 use Rattle.nodes.specs.Nodes.{stack_length, Held, Stackable, marked_from}
-use Rattle.nodes.specs.Marking.{Maintained, NodesMarkable}
+use Rattle.nodes.specs.Marking.{Maintained, NodesMarkable, empty_memo}
 use Rattle.nodes.proofs.WorkableLaws.{table-few, workable-long, bounded-tree}
-use Rattle.nodes.proofs.NodeLoopLaws.{empty_memo, nothing-maintained}
+use Rattle.nodes.proofs.NodeLoopLaws.{nothing-maintained}
 use Rattle.propagation.specs.Propagation.{propagate_from, initial, PropagationStartable}
 use Rattle.updates.specs.Updating.{updated_from, Updatable}
 
@@ -26,10 +27,10 @@ module _ {a table ch : List ℕ} {start root : ℕ} {marks : List ℕ} (g : Upda
       let inside = g.inside in
       record { tree = bounded-tree g.workable; within = omega arith; zeros = refl }
 
-  pub nodes-marks : {index : List ℕ} → index ≡ index_of table → {roots : Roots}
+  pub nodes-marks : {index : List ℕ} → index ≡ index_of table → {roots : Roots} {memo : Memo} → memo ≡ empty_memo
       → Held roots.nodes roots.height (reverse (roots_of a ch start))
-      → NodesMarkable a table index ch start root marks roots empty_memo
-  nodes-marks q s =
+      → NodesMarkable a table index ch start root marks (record { roots = roots; memo = memo })
+  nodes-marks q e s =
       let order = g.order in
       let inside = g.inside in
       record {
@@ -37,13 +38,13 @@ module _ {a table ch : List ℕ} {start root : ℕ} {marks : List ℕ} (g : Upda
         indexed = q;
         order = order;
         inside = omega arith;
-        maintained = nothing-maintained (omega arith) s;
+        maintained = rw e (nothing-maintained (omega arith) s);
       }
 
   pub nodes-propagate : {index : List ℕ} → index ≡ index_of table
-      → {marks' : List ℕ} {roots : Roots} {memo : Memo}
-      → length marks' ≡ length marks → Maintained a table ch root marks' roots memo
-      → PropagationStartable a table index ch root marks' roots (root - start) memo
+      → {marks' : List ℕ} {marking : Marking}
+      → length marks' ≡ length marks → Maintained a table ch root marks' marking
+      → PropagationStartable a table index ch root marks' marking (root - start)
   nodes-propagate q m p =
       let inside = g.inside in
       let few = (bounded-tree g.workable).few in

@@ -4,4 +4,4 @@ use Rattle.propagation.proofs.propagate.Given as goal
 
 abbrev pub invariant-loop-i : goal.invariant-loop-i
 invariant-loop-i l =
-    Propagating l.alphabet l.indexed.table.now l.nodes l.root l.count l.initial.marks l.marks l.roots l.progress l.memo l.i
+    Propagating l.tree.alphabet.now l.tree.indexed.table.now l.tree.nodes.now l.root l.count l.initial.marks l.marks l.marking l.progress l.i

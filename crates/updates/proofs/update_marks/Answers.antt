@@ -14,6 +14,7 @@ mark_nodes-requires c =
     nodes-marks
     c.requires
     c.write_index.ensures
+    c.nothing_remembered.ensures
     c.stack_nodes.ensures
 
 pub overflow_sub-count : goal.overflow_sub-count

@@ -4,4 +4,4 @@ use Rattle.nodes.proofs.marking.mark_nodes.Given as goal
 
 abbrev pub invariant-loop-i : goal.invariant-loop-i
 invariant-loop-i l =
-    NodesMarking l.alphabet l.indexed.table.now l.nodes l.from l.to l.initial.marks l.marks l.roots l.memo l.i
+    NodesMarking l.tree.alphabet.now l.tree.indexed.table.now l.tree.nodes.now l.from l.to l.initial.marks l.marks l.marking l.i
