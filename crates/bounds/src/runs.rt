@@ -23,7 +23,8 @@ pub struct RunFigures {
     pub joined: u32,
 }
 
-// How many of the words are elements. They are counted apart from the trees since the compiler then takes several words at once.
+// How many of the words are elements. They are counted apart from the trees, and in a plain loop, since the compiler
+// then takes several words at once.
 fn count_elements(words: &[u32]) -> u32
     requires { length words.now ≤ nodes_most }
     ensures { result ≡ count (is_of node_kind) words.now }

@@ -27,7 +27,8 @@ pub(crate) struct Pile {
     pub ghost long: { length sets ≡ pile_length },
 }
 
-// What is kept from node to node: closures of states, and a stack of states, which may hold anything.
+// What is kept from node to node: closures of states, and a stack of states, which may hold anything. These are two of the five parts
+// of a `Memo`, whose others a forecast does not need and has no room for.
 #[derive(Drop)]
 pub(crate) struct Work {
     pub closures: KeptClosures,

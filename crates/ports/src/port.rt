@@ -23,7 +23,7 @@ pub fn exit_of(port: Port) -> u32
     u32::from(port.exit)
 }
 
-// Which entries a port has: the code of its entries.
+// Which entries a port has.
 pub fn code_of(port: Port) -> Entries
     ensures { result ≡ code_in port }
 {

@@ -10,7 +10,7 @@ use alphabet::arity;
 use std::marker::Model;
 use words::limits::NODES_MOST;
 
-// The higher of two heights.
+// The higher of two heights. It is the library's `max`, kept under its public name.
 pub fn higher(left: u32, right: u32) -> u32
     ensures { result ≡ max left right }
 {
