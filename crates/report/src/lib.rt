@@ -73,7 +73,7 @@ fn report_rule(
 }
 
 // Writes the output of the words that were read: `complete` says whether the input held all that it announced. That it ended
-// early is told as 0, which is no refusal of the four operations.
+// early is told as 0, which is no refusal of the four operations. The promise is said of the flag.
 pub fn report(
     complete: bool,
     alphabet: &[u32],

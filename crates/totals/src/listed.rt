@@ -100,7 +100,8 @@ fn numbers_totals(marks: &[u32], size: usize, last: usize, list: &[u32]) -> Tota
     }
 }
 
-// The totals of the nodes from `from` to before `to` and of those with the numbers of the list.
+// The totals of the nodes from `from` to before `to` and of those with the numbers of the list. The promise is said of both numbers,
+// so that no range stands for them.
 pub fn listed_totals(table: &[u32], marks: &[u32], from: usize, to: usize, list: &[u32]) -> Totals
     requires { ListedCountable (length marks.now) (size_of table.now) from to list.now }
     ensures { totals_in result

@@ -26,7 +26,7 @@ fn move_total(before: u32, fallen: u32, added: u32) -> u32
     (before as usize + added as usize - fallen as usize) as u32
 }
 
-// The three totals moved by the difference, where none comes out of range.
+// The three totals moved by the difference, where none comes out of range. They are three fields, the form that document 01 asks for.
 pub fn moved_totals(before: Totals, fallen: Totals, added: Totals) -> Totals
     requires { wrong_totals (totals_in before) (totals_in fallen) (totals_in added) ≡ false }
     ensures { totals_in result ≡ moved_totals (totals_in before) (totals_in fallen) (totals_in added) }
