@@ -4,6 +4,7 @@ ghost use Rattle.std.specs.Prelude.{◌≡◌, ◌<◌, ◌≤◌, max, length};
 ghost use Rattle.words.specs.Lists.{highest};
 
 use super::runs::RUN_MOST;
+use syntax::height::higher;
 
 // Room for the pairs: the first, and two for each run of 4,096 words, are 129.
 const PAIRS_ROOM: usize = 130;
@@ -67,7 +68,7 @@ impl Pairs {
         let rest = &self.pairs[first..end];
         let mut high = RUN_MOST as u32;
         for pair in rest {
-            high = high.max(pair.bound);
+            high = higher(high, pair.bound);
         }
         high
     }

@@ -5,10 +5,11 @@ ghost use Rattle.words.specs.Limits.{expression_most};
 use ports::states::{Entries, Port};
 use words::limits::EXPRESSION_MOST;
 
-// What stands where no word waits.
+// What stands where no word waits; nothing reads it. All its bits are 0, so that the array is cleared where it stands, and not made
+// beside it and copied.
 const NO_PORT: Port = Port {
     exit: 0,
-    entries: Entries::Missing,
+    entries: Entries::Every,
 };
 
 // The first `height` ports are those of the words that wait. It is a type of its own beside the other stacks: they hold numbers, over

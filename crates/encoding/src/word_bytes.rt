@@ -1,5 +1,5 @@
 // Words in bytes: four bytes each, low byte first.
-ghost use Rattle.std.specs.Prelude.{◌≡◌, ◌+◌, ◌*◌, ◌≤◌, length, true};
+ghost use Rattle.std.specs.Prelude.{◌≡◌, ◌+◌, ◌*◌, ◌≤◌, min, length, true};
 ghost use Rattle.std.proofs.lemmas.List.Edits.{sets};
 ghost use Rattle.encoding.specs.Words.{word_bytes, are_bytes, word_at, words_in};
 
@@ -21,6 +21,13 @@ fn word_at(bytes: &[u8], i: usize) -> u32
     ])
 }
 
+// The lesser of two numbers. It is the library's `min`, kept under its public name.
+pub fn least(a: usize, b: usize) -> usize
+    ensures { result ≡ min a b }
+{
+    a.min(b)
+}
+
 // Writes the words of the bytes to the places from index `at` on, as far as the slice reaches; the others are left out. That
 // the bytes are below 256 says their type; callers take it from here.
 #[tactic(auto, using(crate::proofs::WordByteLaws::keeping_none))]
@@ -29,7 +36,7 @@ pub fn keep_words(words: &mut [u32], at: usize, bytes: &[u8])
     ensures bytes { are_bytes bytes.now ≡ true }
 {
     let room = words.len().saturating_sub(at);
-    let count = room.min(bytes.len() / WORD_BYTES);
+    let count = least(room, bytes.len() / WORD_BYTES);
     for i in 0..count {
         words[at + i] = word_at(bytes, i);
     }

@@ -7,7 +7,7 @@ ghost use Rattle.totals.specs.TotalsIn.{totals_in};
 ghost use Rattle.totals.specs.Place.{fallen_totals, added_totals};
 ghost use Rattle.totals.specs.Replaceable.{Replaceable};
 ghost use Rattle.forecast.specs.ChangeIn.{call_in};
-ghost use Rattle.exchanger.specs.ExchangeAnswer.{answer_in_counted, totals_behind};
+ghost use Rattle.exchanger.specs.ExchangeAnswer.{answer_in_exchanged};
 
 use super::ExchangeCounted;
 use super::subtree::replace_subtree;
@@ -80,9 +80,9 @@ pub(crate) fn replace_counted(
     chapter: &mut [u32],
     marks: &mut [u32],
     before: Totals,
-) -> Result<ExchangeCounted, Refusal>
+) -> ExchangeCounted
     requires { Replaceable (call_in change chapter.old marks.old) change.start }
-    ensures answer { answer_in_counted result
+    ensures answer { answer_in_exchanged result.exchanged
         ≡ exchange_answer
         (call_in change.entry chapter.old marks.old)
         (totals_in before) }
@@ -94,7 +94,7 @@ pub(crate) fn replace_counted(
         ≡ exchange_marks
         (call_in change.entry chapter.old marks.old)
         (totals_in before) }
-    ensures totals { totals_behind result (totals_in before)
+    ensures totals { totals_in result.totals
         ≡ exchange_totals
         (call_in change.entry chapter.old marks.old)
         (totals_in before) }
@@ -109,14 +109,17 @@ pub(crate) fn replace_counted(
     let end = change.element + 1;
     let fallen = listed_totals(change.table, marks, change.start, end, &above[..many]);
     if wrong_totals(change, chapter, marks, before, fallen) {
-        return Err(Refusal::WrongTotals);
+        return ExchangeCounted {
+            exchanged: Err(Refusal::WrongTotals),
+            totals: before,
+        };
     }
     let replaced = replace_subtree(change, chapter, marks);
     let behind = change.start + change.replacement.len();
     move_numbers(&mut above[..many], end, behind);
     let added = listed_totals(change.table, marks, change.start, behind, &above[..many]);
-    Ok(ExchangeCounted {
-        replaced,
+    ExchangeCounted {
+        exchanged: Ok(replaced),
         totals: moved_totals(before, fallen, added),
-    })
+    }
 }

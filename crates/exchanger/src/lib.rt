@@ -6,7 +6,7 @@ ghost use Rattle.automaton.specs.Table.{table_in};
 ghost use Rattle.operations.specs.ExchangeCall.{exchange_call};
 ghost use Rattle.operations.specs.Exchange.{exchange_answer, exchange_chapter, exchange_marks, exchange_totals};
 ghost use Rattle.totals.specs.TotalsIn.{totals_in};
-ghost use Rattle.exchanger.specs.ExchangeAnswer.{answer_in_counted, totals_behind, answer_in_exchanged};
+ghost use Rattle.exchanger.specs.ExchangeAnswer.{answer_in_exchanged};
 
 use counted::replace_counted;
 use forecast::Change;
@@ -26,10 +26,10 @@ pub struct Replaced {
     pub worked_out: usize,
 }
 
-// The same, and the chapter's record of totals as Exchange leaves it.
+// The same or a refusal, and the chapter's record of totals as Exchange leaves it, also where it refuses.
 #[derive(Clone, Copy)]
 pub struct ExchangeCounted {
-    pub replaced: Replaced,
+    pub exchanged: Result<Replaced, Refusal>,
     pub totals: Totals,
 }
 
@@ -44,8 +44,8 @@ pub fn exchange_counted(
     element: usize,
     replacement: &[u32],
     before: Totals,
-) -> Result<ExchangeCounted, Refusal>
-    ensures answer { answer_in_counted result
+) -> ExchangeCounted
+    ensures answer { answer_in_exchanged result.exchanged
         ≡ exchange_answer
         (exchange_call alphabet.now (table_in table_slice.now) chapter.old marks.old
         count element replacement.now)
@@ -60,7 +60,7 @@ pub fn exchange_counted(
         (exchange_call alphabet.now (table_in table_slice.now) chapter.old marks.old
         count element replacement.now)
         (totals_in before) }
-    ensures totals { totals_behind result (totals_in before)
+    ensures totals { totals_in result.totals
         ≡ exchange_totals
         (exchange_call alphabet.now (table_in table_slice.now) chapter.old marks.old
         count element replacement.now)
@@ -70,7 +70,15 @@ pub fn exchange_counted(
     let table = &table_slice[..words];
     let room = marks.len();
     let judged = exchange_fault(alphabet, table, chapter, count, room, element, replacement);
-    let start = judged?;
+    let start = match judged {
+        Ok(start) => start,
+        Err(refusal) => {
+            return ExchangeCounted {
+                exchanged: Err(refusal),
+                totals: before,
+            };
+        }
+    };
     let change = Change {
         alphabet,
         table,
@@ -124,7 +132,7 @@ pub fn exchange(
         element,
         replacement,
         *totals,
-    )?;
+    );
     *totals = counted.totals;
-    Ok(counted.replaced)
+    counted.exchanged
 }

@@ -30,6 +30,6 @@ pub list-small : (a table : List ℕ) (n : ℕ) (marks list : List ℕ) {k : ℕ
     → answer_in_listed r ≡ list_answer a table n marks list → k < word_range
 list-small a table n marks list r told answer = list-value a table n marks list (rw told at answer)
 
-pub exchange-small : (c : ExchangeCall) (t : Totals) {m : Replaced} (r : Result Replaced Refusal) → r ≡ Ok m
+pub exchange_small : (c : ExchangeCall) (t : Totals) {m : Replaced} (r : Result Replaced Refusal) → r ≡ Ok m
     → answer_in_exchanged r ≡ exchange_answer c t → (m.elements < word_range) × (m.worked_out < word_range)
-exchange-small c t r told answer = exchange-values c t (rw told at answer)
+exchange_small c t r told answer = exchange-values c t (rw told at answer)

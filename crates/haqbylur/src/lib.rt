@@ -53,6 +53,7 @@ pub extern "C" fn haqbylur_compile(
 }
 
 // Run: `elements` is the element count, `cells` the number of ones in all marks of the chapter; `totals` is the chapter's record.
+#[tactic(auto, using(crate::proofs::AnswerValueLaws::run_small))]
 #[unsafe(no_mangle)]
 pub extern "C" fn haqbylur_run(
     alphabet: &[u32],
@@ -108,6 +109,7 @@ pub extern "C" fn haqbylur_list(
 }
 
 // Exchange: `elements` is the new element count, `worked_out` the number of elements worked out; `totals` is the chapter's record.
+#[tactic(auto, using(crate::proofs::AnswerValueLaws::exchange_small))]
 #[unsafe(no_mangle)]
 pub extern "C" fn haqbylur_exchange(
     alphabet: &[u32],

@@ -4,7 +4,7 @@ use mathlib.Core.Path.{sym}
 use native.Mathlib.Omega.{arith}
 use lib.ListN.{take}
 use lib.Seq.{length-take-le}
-use Rattle.std.proofs.lemmas.Result.{IfOk-at_ok, err_from_is_err_and}
+use Rattle.std.proofs.lemmas.Result.{IfOk-at_ok}
 use Rattle.automaton.proofs.LengthWordLaws.{table_word_count-inside, cut_in}
 use Rattle.operations.specs.ExchangeCall.{exchange_call}
 use Rattle.totals.specs.TotalsIn.{totals_in}
@@ -16,18 +16,17 @@ slice_bounds-table-end c =
     let inside = table_word_count-inside c.args.table_slice.now in
     sym (length-take-le _ _ (omega (arith, c.table_word_count-words.ensures)))
 
-pub returns-in_err-start : goal.returns-in_err-start
-returns-in_err-start c =
+pub returns-in-Err : goal.returns-in-Err
+returns-in-Err c =
     let all =
     refused-cut c.args.alphabet.now c.args.table_slice.now c.args.chapter.now c.args.marks.now c.args.count c.args.element
     c.args.replacement.now (totals_in c.args.before) c.table_word_count-words.ensures c.exchange_fault-judged.ensures.fault
-    c.in_err-start.was in
-    let p = err_from_is_err_and c.from_residual.result c.from_residual.ensures.1 in
+    c.in-Err.is in
     record {
-      answer = rw (p.1, p.2) all.0;
+      answer = all.0;
       chapter = all.1.0;
       marks = all.1.1.0;
-      totals = rw p.1 all.1.1.1;
+      totals = all.1.1.1;
     }
 
 pub replace_counted-requires : goal.replace_counted-requires
@@ -36,8 +35,8 @@ replace_counted-requires c =
     exchange_call c.args.alphabet.now (take c.table_word_count-words.result c.args.table_slice.now) c.args.chapter.now
     c.args.marks.now c.args.count c.args.element c.args.replacement.now in
     record {
-      passes = call-passes q c.exchange_fault-judged.ensures.fault c.in_ok-start.was;
-      begins = IfOk-at_ok _ c.in_ok-start.was c.exchange_fault-judged.ensures.begins;
+      passes = call-passes q c.exchange_fault-judged.ensures.fault c.in-Ok.is;
+      begins = IfOk-at_ok _ c.in-Ok.is c.exchange_fault-judged.ensures.begins;
     }
 
 pub returns : goal.returns

@@ -9,7 +9,7 @@ pub loop-pair-init : goal.loop-pair-init
 loop-pair-init c = high_none _
 
 pub loop-pair-preserved : goal.loop-pair-preserved
-loop-pair-preserved c = high_more c.loop-pair.invariant _ c.loop-pair-test.true c.max-high.ensures
+loop-pair-preserved c = high_more c.loop-pair.invariant _ c.loop-pair-test.true c.higher-high.ensures
 
 pub returns : goal.returns
 returns c =
